@@ -1,0 +1,3 @@
+-- What every crate above cites: tests that say a fact, and the first refusal that applies.
+pub mod Says
+pub mod Refusals

@@ -1,0 +1,25 @@
+-- The answer of a call: the first refusal that applies, out of a list in the order of document 01; else 0. Assumes nothing.
+use Prim.Native.Nat.{ℕ}
+use mathlib.Core.Bool.{Bool, true, false}
+use mathlib.Core.List.{List, [], _∷_}
+
+-- a test that must pass, and the answer number if it does not
+pub record Refusal : Type 0 where
+  pub passes : Bool
+  pub number : ℕ
+
+abbrev pub unless : Bool → ℕ → Refusal
+unless b n = record { passes = b; number = n }
+
+abbrev pub orElse : Bool → ℕ → ℕ → ℕ
+orElse true n m = m
+orElse false n m = n
+
+abbrev pub firstOf : List Refusal → ℕ
+firstOf [] = 0
+firstOf (r ∷ rs) = orElse (r .passes) (r .number) (firstOf rs)
+
+-- one of two by a test
+abbrev pub pick : {A : Type 0} → Bool → A → A → A
+pick true a b = a
+pick false a b = b
