@@ -12,6 +12,10 @@ abbrev pub Filled : {A : Type 0} → List A → Type 0
 Filled [] = ⊥
 Filled (x ∷ l) = Unit {0}
 
+abbrev pub markOf : Bool → ℕ
+markOf true = 1
+markOf false = 0
+
 module _ (A : Type 0) where
   -- a cell's list and its mark; a cell that is not in use has the empty row
   pub record Row : Type 0 where
@@ -63,10 +67,6 @@ module _ {A : Type 0} where
   unfoldable pub poolOf : List (Listed A) → List A
   poolOf [] = []
   poolOf (r ∷ rs) = r .row .entries ++ poolOf rs
-
-  abbrev pub markOf : Bool → ℕ
-  markOf true = 1
-  markOf false = 0
 
   unfoldable pub tableOf : List (Listed A) → List (List ℕ)
   tableOf [] = []
