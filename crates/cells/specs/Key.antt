@@ -1,6 +1,6 @@
 -- The key of a cell: one number for each cell, in the order of the rows and, in a row, of x. Assumes nothing.
-use Prim.Native.Nat.{ℕ, _+_, _-_, _*_}
-use lib.IntN.{ℤ, pos, negsuc}
+use Prim.Native.Nat.{ℕ, _+_, _-_, _*_, _/_, _%_}
+use lib.IntN.{ℤ, pos, negsuc, _-ℤ_}
 use Rattle.cells.specs.declared.Cell.{Cell}
 
 -- a 32-bit number counted from the least
@@ -10,3 +10,17 @@ upward (negsuc n) = 2147483647 - n
 
 unfoldable pub keyOf : Cell → ℕ
 keyOf c = upward (c .y) * 4294967296 + upward (c .x)
+
+-- ---- back from a key
+abbrev pub downward : ℕ → ℤ
+downward n = pos n -ℤ pos 2147483648
+
+-- the column and the row, both counted from the least
+abbrev pub columnOf : ℕ → ℕ
+columnOf key = key % 4294967296
+
+abbrev pub rowOf : ℕ → ℕ
+rowOf key = key / 4294967296
+
+unfoldable pub cellOfKey : ℕ → Cell
+cellOfKey key = record { x = downward (columnOf key); y = downward (rowOf key) }

@@ -3,3 +3,13 @@ pub mod Domain
 pub mod Circle
 pub mod Rectangle
 pub mod Intersects
+pub mod Value
+pub mod Rounding
+pub mod Sums
+pub mod BitsLaws
+pub mod Back
+pub mod WithinLaws
+pub mod DomainLaws
+pub mod Near
+pub mod Around
+pub mod CircleLaws

@@ -1,3 +1,7 @@
 -- Handles, versions and the slot map: what the Rust's SlotMap becomes.
 pub mod Map
 pub mod Slot
+pub mod BitLaws
+pub mod MapLaws
+pub mod LowestLaws
+pub mod Decide

@@ -5,4 +5,5 @@ pub mod Entries
 pub mod CellTable
 pub mod Store
 pub mod Packed
+pub mod PackedDecide
 pub mod Walk

@@ -1,0 +1,50 @@
+-- `cells::cut` meets its contract. Assumes nothing.
+use Prim.Native.Nat.{ℕ, _+_, _*_, _/_, _%_, _<_, _^_}
+use mathlib.Core.Path.{_≡_, ap, sym, subst, _∙_}
+use native.Mathlib.Nat.{mod-lt}
+use native.Mathlib.Omega.{arith}
+use lib.Pow.{pow-pos}
+use borrow.Author.Needs.{needs}
+use Rattle.cells.specs.Cut.{cutBits}
+use Rattle.cells.proofs.Fields.{cut-low, cut-high, cut-down, cut-up, scaled-fits}
+use Rattle.cells.proofs.cut.Statement.{statement}
+use Rattle.cells.proofs.cut.Tie as tie
+
+returns : tie.Need-returns
+unfolding cutBits
+returns c = cut-low _ _ (search needs)
+
+returns-2 : tie.Need-returns-2
+unfolding cutBits
+returns-2 c = cut-high _ _ (search needs) (search needs)
+
+div-result : tie.Need-div-result
+div-result c = subst (λ (n : ℕ). 0 < n) (sym (c .power .ensures)) (pow-pos _)
+
+mul-result : tie.Need-mul-result
+mul-result c =
+    let b = c .before .before .before .before .args .b in
+    record { fits = scaled-fits (b / 8388608 % 256) _ _ (c .power2 .ensures) (mod-lt b (pow-pos 23)) (search needs) }
+
+returns-3 : tie.Need-returns-3
+unfolding cutBits
+returns-3 c = cut-down _ _ _ (c .power .ensures) (search needs) (search needs) (search needs)
+
+returns-4 : tie.Need-returns-4
+unfolding cutBits
+returns-4 c = cut-up _ _ _ (c .power2 .ensures) (search needs) (search needs) (search needs)
+
+pub cut-spec : {M : Type 1} → statement M
+cut-spec =
+    tie.close
+    (tie.spec
+    (λ c. search needs)
+    returns
+    returns-2
+    (λ c κs. search needs)
+    div-result
+    (λ c. search needs)
+    (λ c κs. search needs)
+    mul-result
+    returns-3
+    returns-4)

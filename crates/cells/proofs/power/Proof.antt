@@ -1,0 +1,51 @@
+-- `cells::power` meets its contract: the table's rule is a test at each of its entries, which antt computes. Assumes nothing.
+use mathlib.Core.Path.{_∙_, ap, sym}
+use mathlib.Core.List.{List, [], _∷_}
+use mathlib.Core.Bool.{Bool}
+use Prim.Native.Nat.{ℕ, _^_}
+use lib.Dec.{eqb, eqb→eq}
+use lib.ListN.{getD}
+use borrow.Author.Needs.{needs}
+use Rattle.cells.proofs.Table.{at}
+use Rattle.cells.proofs.power.Statement.{statement}
+use Rattle.cells.proofs.power.Tie as tie
+
+powers : List ℕ
+powers =
+    1
+    ∷ 2
+    ∷ 4
+    ∷ 8
+    ∷ 16
+    ∷ 32
+    ∷ 64
+    ∷ 128
+    ∷ 256
+    ∷ 512
+    ∷ 1024
+    ∷ 2048
+    ∷ 4096
+    ∷ 8192
+    ∷ 16384
+    ∷ 32768
+    ∷ 65536
+    ∷ 131072
+    ∷ 262144
+    ∷ 524288
+    ∷ 1048576
+    ∷ 2097152
+    ∷ 4194304
+    ∷ 8388608
+    ∷ []
+
+right : ℕ → ℕ → Bool
+right k x = eqb x (2 ^ k)
+
+returns : tie.Need-returns
+unfolding powers right
+returns c =
+    eqb→eq (getD powers (c .wide .result) 0) (2 ^ c .wide .result) (at right powers tt (c .wide .result) (search needs))
+    ∙ ap (λ (k : ℕ). 2 ^ k) (c .wide .ensures)
+
+pub power-spec : {M : Type 1} → statement M
+power-spec = tie.close (tie.spec (λ c κs. search needs) (λ c. search needs) (λ c. search needs) returns)

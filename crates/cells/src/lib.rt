@@ -1,0 +1,182 @@
+// The cell of a coordinate and of a position, ranges of cells and the keys of cells: the arithmetic of src/storage.rs.
+ghost use mathlib.Core.Path.{_≡_};
+ghost use Prim.Native.Nat.{_<_, _≤_, _^_};
+ghost use lib.Dec.{T};
+ghost use lib.IntN.{pos};
+ghost use lib.Signed.{_<ℤ_};
+ghost use Rattle.basics.specs.Says.{Says};
+ghost use Rattle.geometry.specs.Domain.{within};
+ghost use Rattle.cells.specs.Cut.{cutBits};
+ghost use Rattle.cells.specs.Size.{SizeInDomain};
+ghost use Rattle.cells.specs.CellRule.{wholeOf, cellOf, cellAt};
+ghost use Rattle.cells.specs.Key.{upward, downward, keyOf, columnOf, rowOf, cellOfKey};
+use geometry::Position;
+
+pub struct Cell {
+    pub x: i32,
+    pub y: i32,
+}
+
+// POWERS[k] is 2 ^ k.
+const POWERS: [u32; 24] = [
+    1,
+    2,
+    4,
+    8,
+    16,
+    32,
+    64,
+    128,
+    256,
+    512,
+    1024,
+    2048,
+    4096,
+    8192,
+    16384,
+    32768,
+    65536,
+    131072,
+    262144,
+    524288,
+    1048576,
+    2097152,
+    4194304,
+    8388608,
+];
+
+fn power(k: u32) -> u32
+    requires { ⌜ k < 24 ⌝ }
+    ensures { λ r. ⌜ r ≡ 2 ^ k ⌝ }
+{
+    let i = basics::wide(k);
+    POWERS[i]
+}
+
+// The magnitude, without its fraction and at most 2 ^ 31, of the f32 with the pattern b.
+fn cut(b: u32) -> u32
+    ensures { λ r. ⌜ r ≡ cutBits b ⌝ }
+{
+    let e = b / 8388608 % 256;
+    let m = b % 8388608 + 8388608;
+    if e < 127 {
+        return 0;
+    }
+    if e > 157 {
+        return 2147483648;
+    }
+    if e <= 150 {
+        m / power(150 - e)
+    } else {
+        m * power(e - 150)
+    }
+}
+
+// x without its fraction, toward zero: Rust's `x as i32`.
+pub fn whole(x: f32) -> i32
+    ensures { λ r. ⌜ r ≡ wholeOf x ⌝ }
+{
+    if x != x {
+        return 0;
+    }
+    let b: u32 = f32::to_bits(x);
+    let n: u32 = cut(b);
+    if b < 2147483648 {
+        if n < 2147483648 { n as i32 } else { 2147483647 }
+    } else {
+        if n == 0 { 0 } else { -1 - ((n - 1) as i32) }
+    }
+}
+
+pub fn cell_id(size: i32, x: f32) -> i32
+    requires { ⌜ pos 0 <ℤ size ⌝ }
+    requires { ⌜ T (within 21 x) ⌝ }
+    ensures { λ r. ⌜ r ≡ cellOf size x ⌝ }
+{
+    let q = whole(x) / size;
+    if x < 0.0 { q - 1 } else { q }
+}
+
+pub fn size_in_domain(size: u64) -> bool
+    ensures { λ r. ⌜ Says r (SizeInDomain size) ⌝ }
+{
+    if size < 1 {
+        return false;
+    }
+    if size > 1048576 {
+        return false;
+    }
+    true
+}
+
+// The corners of a circle's range may leave the domain, but not by more than a radius.
+pub fn cell_at(size: u64, p: Position) -> Cell
+    requires { ⌜ SizeInDomain size ⌝ }
+    requires { ⌜ T (within 21 (p .x)) × T (within 21 (p .y)) ⌝ }
+    ensures { λ r. ⌜ r ≡ cellAt size p ⌝ }
+{
+    let s = size as i32;
+    let x = cell_id(s, p.x);
+    let y = cell_id(s, p.y);
+    Cell { x, y }
+}
+
+fn same_number(a: i32, b: i32) -> bool
+    ensures { λ r. ⌜ Says r (a ≡ b) ⌝ }
+{
+    if a == b {
+        return true;
+    }
+    false
+}
+
+pub fn same_cell(a: Cell, b: Cell) -> bool
+    ensures { λ r. ⌜ Says r (a ≡ b) ⌝ }
+{
+    if same_number(a.x, b.x) {
+        return same_number(a.y, b.y);
+    }
+    false
+}
+
+// A cell number counted from the least.
+fn up_from_least(x: i32) -> u64
+    ensures { λ r. ⌜ r ≡ upward x ⌝ }
+{
+    ((x as i64) + 2147483648) as u64
+}
+
+pub fn key_of(c: Cell) -> u64
+    ensures { λ r. ⌜ r ≡ keyOf c ⌝ }
+{
+    let y = up_from_least(c.y);
+    let x = up_from_least(c.x);
+    y * 4294967296 + x
+}
+
+pub fn column_of(key: u64) -> u64
+    ensures { λ r. ⌜ r ≡ columnOf key ⌝ }
+{
+    key % 4294967296
+}
+
+pub fn row_of(key: u64) -> u64
+    ensures { λ r. ⌜ r ≡ rowOf key ⌝ }
+{
+    key / 4294967296
+}
+
+fn down_from_least(n: u64) -> i32
+    requires { ⌜ n < 4294967296 ⌝ }
+    ensures { λ r. ⌜ r ≡ downward n ⌝ }
+{
+    ((n as i64) - 2147483648) as i32
+}
+
+pub fn cell_of_key(key: u64) -> Cell
+    ensures { λ r. ⌜ r ≡ cellOfKey key ⌝ }
+{
+    let x = down_from_least(column_of(key));
+    let y = down_from_least(row_of(key));
+    Cell { x, y }
+}

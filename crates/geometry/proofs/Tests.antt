@@ -1,0 +1,25 @@
+-- Tests that code joins, and numbers as code writes them. Assumes nothing.
+use mathlib.Core.Path.{_≡_, refl}
+use mathlib.Core.Bool.{Bool, true, false, _&&_}
+use lib.IntN.{pos}
+use lib.Ieee.{fin, binary32, ofBits, neg}
+use Rattle.geometry.specs.Domain.{reach}
+
+pub both : {a b p q : Bool} → a ≡ p → b ≡ q → (a && b) ≡ (p && q)
+both e g = cc
+
+pub both-true : (a b : Bool) → (a && b) ≡ true → (a ≡ true) × (b ≡ true)
+both-true true b e = (refl, e)
+both-true false b e = (e, cc)
+
+pub least : neg (ofBits binary32 0x49800000) ≡ fin true 1 (pos reach)
+unfolding ofBits neg
+least = refl
+
+pub most : ofBits binary32 0x49800000 ≡ fin false 1 (pos reach)
+unfolding ofBits
+most = refl
+
+pub nought : ofBits binary32 0 ≡ fin false 0 (pos 0)
+unfolding ofBits
+nought = refl

@@ -1,0 +1,12 @@
+-- `geometry::in_circle` meets its contract. Assumes nothing.
+use mathlib.Core.Path.{refl}
+use Rattle.geometry.specs.Circle.{inCircle}
+use Rattle.geometry.proofs.in_circle.Statement.{statement}
+use Rattle.geometry.proofs.in_circle.Tie as tie
+
+returns : tie.Need-returns
+unfolding inCircle
+returns c = refl
+
+pub in-circle-spec : {M : Type 1} → statement M
+in-circle-spec = tie.close (tie.spec returns)

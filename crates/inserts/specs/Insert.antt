@@ -1,0 +1,79 @@
+-- `insert`: the lowest usable slot takes the object, and (handle, position) goes to the end of its cell's list. Assumes nothing.
+use Prim.Native.Nat.{ℕ}
+use mathlib.Core.Bool.{Bool, true, false}
+use mathlib.Core.List.{List, [], _∷_, map}
+use lib.Dec.{eqb}
+use lib.ListN.{length, set}
+use Rattle.basics.specs.Refusals.{unless, firstOf, pick}
+use Rattle.geometry.specs.Domain.{positionInDomain}
+use Rattle.geometry.specs.declared.Position.{Position}
+use Rattle.cells.specs.CellRule.{cellAt}
+use Rattle.cells.specs.Key.{keyOf}
+use Rattle.slots.specs.declared.Handle.{Handle}
+use Rattle.slots.specs.declared.Usable.{Usable}
+use Rattle.slots.specs.declared.Usable.the-variants.{At, Nothing}
+use Rattle.slots.specs.Map.{taken, lowestUsable}
+use Rattle.slots.specs.Slot.{live, versionAt}
+use Rattle.storage.specs.Keyed.{append1, written}
+use Rattle.storage.specs.Entries.{Entry, entry, rowOf, spotOf, entryKey}
+use Rattle.storage.specs.CellTable.{entered}
+use Rattle.objects.specs.declared.State.the-variants.{Unchanged}
+use Rattle.objects.specs.declared.Record.{Record}
+use Rattle.objects.specs.Columns.{numsOf, realsOf, intsOf}
+use Rattle.point_tables.specs.Tables.{Tables, tables, sizeOf, slotsOf, entriesIn, cellRows}
+use Rattle.point_tables.specs.Decide.{holds}
+use Rattle.point_tables.specs.Outcome.{Outcome, outcome}
+use Rattle.inserts.specs.declared.Inserted.{Inserted}
+
+abbrev pub inserted : ℕ → ℕ → ℕ → Inserted
+inserted a s v = record { answer = a; handle = record { slot = s; version = v } }
+
+abbrev pub isSome : Usable → Bool
+isSome (At s) = true
+isSome Nothing = false
+
+-- the slot that there is, else 0
+abbrev pub slotIn : Usable → ℕ
+slotIn (At s) = s
+slotIn Nothing = 0
+
+abbrev pub usableSlot : Tables → Usable
+usableSlot t = lowestUsable (t .map) (slotsOf t)
+
+abbrev pub newRecord : Tables → ℕ → Position → ℕ → Record
+newRecord t s p d =
+    record { version = versionAt (t .nums) s; phase = live; obj = d; position = p; cell = cellAt (sizeOf t) p; state = Unchanged }
+
+abbrev pub newEntry : Tables → ℕ → Position → Entry
+newEntry t s p = entry (keyOf (cellAt (sizeOf t) p) ∷ s ∷ []) (p .x ∷ p .y ∷ [])
+
+-- the entries and the rows of the cells after it
+abbrev pub entriesWith : Tables → ℕ → Position → List Entry
+entriesWith t s p = append1 entryKey (entriesIn t) (newEntry t s p)
+
+abbrev pub rowsWith : Tables → Position → List (List ℕ)
+rowsWith t p = entered (keyOf (cellAt (sizeOf t) p)) (cellRows t)
+
+-- the map's head words: entries and cells in use
+abbrev pub counting : List ℕ → ℕ → ℕ → List ℕ
+counting m used rows = set (set m 1 used) 2 rows
+
+unfoldable pub put : Tables → ℕ → Position → ℕ → Tables
+put t s p d =
+    let r = newRecord t s p d in
+    tables (set (t .nums) s (numsOf r)) (set (t .reals) s (realsOf r)) (set (t .ints) s (intsOf r))
+    (counting (taken (t .map) s) (length (entriesWith t s p)) (length (rowsWith t p)))
+    (written (map rowOf (entriesWith t s p)) (t .pool))
+    (written (map spotOf (entriesWith t s p)) (t .spots))
+    (written (rowsWith t p) (t .cells))
+
+unfoldable pub insertAnswer : Tables → Position → ℕ
+insertAnswer t p = firstOf (unless (holds t) 3 ∷ unless (positionInDomain p) 6 ∷ unless (isSome (usableSlot t)) 4 ∷ [])
+
+unfoldable pub insertOf : Tables → Position → ℕ → Outcome Inserted
+unfolding insertAnswer put
+insertOf t p d =
+    let s = slotIn (usableSlot t) in
+    pick (eqb (insertAnswer t p) 0)
+    (outcome (inserted 0 s (versionAt (t .nums) s)) (put t s p d))
+    (outcome (inserted (insertAnswer t p) 0 0) t)

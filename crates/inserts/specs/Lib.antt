@@ -1,0 +1,3 @@
+-- What building and inserting answer and leave.
+pub mod New
+pub mod Insert

@@ -1,0 +1,3 @@
+-- What the deferred calls answer and leave.
+pub mod Moves
+pub mod Batch

@@ -1,0 +1,116 @@
+// The object records of the point grid, and the columns that they stand in. The Rust's StoreObject and ObjectState.
+ghost use mathlib.Core.Path.{_≡_};
+ghost use Prim.Native.Nat.{ℕ, _+_, _≤_, _<_};
+ghost use lib.ListN.{length, getD, set};
+ghost use Rattle.objects.specs.Columns.{tagOf, pendingOf, targetOf, stateOf, recordAt, numsOf, realsOf, intsOf};
+use cells::Cell;
+use geometry::Position;
+
+// What maintain has still to do to an object.
+pub enum State {
+    Unchanged,
+    NewPos(Position),
+    Relocate(Position, Cell),
+    Removed,
+}
+
+// A slot's record: version and phase (0 free, 1 live, 2 retired), the object's data, where it is recorded, and its state.
+pub struct Record {
+    pub version: u32,
+    pub phase: u32,
+    pub obj: u32,
+    pub position: Position,
+    pub cell: Cell,
+    pub state: State,
+}
+
+fn state_of(tag: u32, p: Position, c: Cell) -> State
+    ensures { λ r. ⌜ r ≡ stateOf tag p c ⌝ }
+{
+    if tag == 0 {
+        return State::Unchanged;
+    }
+    if tag == 1 {
+        return State::NewPos(p);
+    }
+    if tag == 2 {
+        return State::Relocate(p, c);
+    }
+    State::Removed
+}
+
+fn tag_of(s: State) -> u32
+    ensures { λ r. ⌜ r ≡ tagOf s ⌝ }
+{
+    match s {
+        State::Unchanged => 0,
+        State::NewPos(_) => 1,
+        State::Relocate(_, _) => 2,
+        State::Removed => 3,
+    }
+}
+
+fn pending_of(s: State, p: Position) -> Position
+    ensures { λ r. ⌜ r ≡ pendingOf s p ⌝ }
+{
+    match s {
+        State::Unchanged => p,
+        State::NewPos(q) => q,
+        State::Relocate(q, _) => q,
+        State::Removed => p,
+    }
+}
+
+fn target_of(s: State, c: Cell) -> Cell
+    ensures { λ r. ⌜ r ≡ targetOf s c ⌝ }
+{
+    match s {
+        State::Unchanged => c,
+        State::NewPos(_) => c,
+        State::Relocate(_, d) => d,
+        State::Removed => c,
+    }
+}
+
+pub fn load(nums: &[[u32; 4]], reals: &[[f32; 4]], ints: &[[i32; 4]], i: usize) -> Record
+    requires { ⌜ (i < length (now nums)) × (i < length (now reals)) × (i < length (now ints)) ⌝ }
+    ensures { λ r. ⌜ r ≡ recordAt (now (nums .entry)) (now (reals .entry)) (now (ints .entry)) i ⌝ }
+{
+    let n = nums[i];
+    let q = reals[i];
+    let z = ints[i];
+    let state = state_of(
+        n[3],
+        Position { x: q[2], y: q[3] },
+        Cell { x: z[2], y: z[3] },
+    );
+    Record {
+        version: n[0],
+        phase: n[1],
+        obj: n[2],
+        position: Position { x: q[0], y: q[1] },
+        cell: Cell { x: z[0], y: z[1] },
+        state,
+    }
+}
+
+pub fn store(
+    nums: &mut [[u32; 4]],
+    reals: &mut [[f32; 4]],
+    ints: &mut [[i32; 4]],
+    i: usize,
+    r: Record,
+)
+    requires { ⌜ (i < length (now nums)) × (i < length (now reals)) × (i < length (now ints)) ⌝ }
+    ensures { λ _. ⌜ (now (nums .exit) ≡ set (now (nums .entry)) i (numsOf r)) × (now (reals .exit) ≡ set (now (reals .entry)) i (realsOf r)) × (now (ints .exit) ≡ set (now (ints .entry)) i (intsOf r)) ⌝ }
+{
+    let p = r.position;
+    let c = r.cell;
+    let s = r.state;
+    let q = pending_of(s, p);
+    let d = target_of(s, c);
+    let t = tag_of(s);
+    nums[i] = [r.version, r.phase, r.obj, t];
+    reals[i] = [p.x, p.y, q.x, q.y];
+    ints[i] = [c.x, c.y, d.x, d.y];
+}

@@ -1,0 +1,5 @@
+-- The tables of a point grid, what it is for them to hold one, and outcomes of calls.
+pub mod Tables
+pub mod Holds
+pub mod Decide
+pub mod Outcome

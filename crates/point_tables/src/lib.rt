@@ -1,0 +1,1 @@
+// The tables of a point grid, and the check that they hold one.

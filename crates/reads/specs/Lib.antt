@@ -1,0 +1,2 @@
+-- What the reading calls answer.
+pub mod Reads

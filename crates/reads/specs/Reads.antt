@@ -1,0 +1,68 @@
+-- `get`, `len` and `handles`: recorded position and data; removed objects count until maintain. Assumes nothing.
+use Prim.Native.Nat.{ℕ, suc, _+_}
+use mathlib.Core.Bool.{Bool}
+use mathlib.Core.List.{List, [], _∷_}
+use lib.Dec.{eqb, leb}
+use lib.IntN.{pos}
+use lib.Ieee.{Float, fin}
+use mathlib.Core.Bool.{false}
+use lib.ListN.{length, getD}
+use Rattle.basics.specs.Refusals.{unless, firstOf, pick}
+use Rattle.geometry.specs.declared.Position.{Position}
+use Rattle.slots.specs.declared.Handle.{Handle}
+use Rattle.slots.specs.Slot.{live, good}
+use Rattle.storage.specs.Keyed.{written}
+use Rattle.point_tables.specs.Tables.{Tables, recordOn}
+use Rattle.point_tables.specs.Decide.{holds}
+use Rattle.reads.specs.declared.Got.{Got}
+use Rattle.reads.specs.declared.Count.{Count}
+
+abbrev pub zero-position : Position
+zero-position = record { x = fin false 0 (pos 0); y = fin false 0 (pos 0) }
+
+abbrev pub got : ℕ → Position → ℕ → Got
+got a p d = record { answer = a; position = p; obj = d }
+
+abbrev pub count : ℕ → ℕ → Count
+count a n = record { answer = a; count = n }
+
+-- ---- get
+unfoldable pub getAnswer : Tables → Handle → ℕ
+getAnswer t h = firstOf (unless (holds t) 3 ∷ unless (good (t .nums) (h .slot) (h .version)) 5 ∷ [])
+
+unfoldable pub getOf : Tables → Handle → Got
+unfolding getAnswer
+getOf t h =
+    pick (eqb (getAnswer t h) 0) (got 0 (recordOn t (h .slot) .position) (recordOn t (h .slot) .obj)) (got (getAnswer t h) zero-position 0)
+
+-- ---- the handles of the live slots, as rows (slot, version), ascending by slot; the first of the rows is that of slot s
+abbrev pub handlesFrom : ℕ → List (List ℕ) → List (List ℕ)
+handlesFrom s [] = []
+handlesFrom s (row ∷ rows) = pick (eqb (getD row 1 0) live) ((s ∷ getD row 0 0 ∷ []) ∷ handlesFrom (suc s) rows) (handlesFrom (suc s) rows)
+
+unfoldable pub liveHandles : Tables → List (List ℕ)
+liveHandles t = handlesFrom 0 (t .nums)
+
+-- ---- len: the number of objects
+unfoldable pub lenOf : Tables → Count
+unfolding liveHandles
+lenOf t = pick (holds t) (count 0 (length (liveHandles t))) (count 3 0)
+
+-- ---- handles: what it returns and the output after it; 9 returns the number found
+pub record Handles : Type 0 where
+  pub returned : Count
+  pub out : List (List ℕ)
+
+abbrev pub handles : Count → List (List ℕ) → Handles
+handles c o = record { returned = c; out = o }
+
+unfoldable pub handlesAnswer : Tables → List (List ℕ) → ℕ
+unfolding liveHandles
+handlesAnswer t out = firstOf (unless (holds t) 3 ∷ unless (leb (length (liveHandles t)) (length out)) 9 ∷ [])
+
+unfoldable pub handlesOf : Tables → List (List ℕ) → Handles
+unfolding liveHandles handlesAnswer
+handlesOf t out =
+    pick (eqb (handlesAnswer t out) 0)
+    (handles (count 0 (length (liveHandles t))) (written (liveHandles t) out))
+    (handles (count (handlesAnswer t out) (pick (eqb (handlesAnswer t out) 9) (length (liveHandles t)) 0)) out)

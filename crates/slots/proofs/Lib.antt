@@ -1,0 +1,2 @@
+-- What the proofs of slots share.
+pub mod Laws

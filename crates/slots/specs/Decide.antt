@@ -1,0 +1,24 @@
+-- Whether a slot, and the slots, hold can be decided. Assumes nothing.
+use Prim.Native.Nat.{ℕ, _*_, _≤_, _<_}
+use mathlib.Core.Path.{_≡_}
+use mathlib.Core.List.{List}
+use lib.Dec.{eqb}
+use lib.ListN.{length}
+use Rattle.basics.specs.Says.{Decided, d-via, d-and, d-imp, d-none, d-eq, d-le, d-all}
+use Rattle.basics.specs.Refusals.{pick}
+use Rattle.slots.specs.Map.{wordsFor, usable}
+use Rattle.slots.specs.Slot.{free, retired, lastVersion, versionAt, phaseAt, SlotHolds, SlotsHold}
+
+pub d-slot : (version phase mapped : ℕ) → Decided (SlotHolds version phase mapped)
+d-slot version phase mapped =
+    d-via
+    (λ x. record { versioned = x .0; phased = x .1 .0; spent = x .1 .1 .0; in-map = x .1 .1 .1 })
+    (λ h. (h .versioned, (h .phased, (h .spent, h .in-map))))
+    (d-and (d-imp (d-eq version 0) d-none) (d-and (d-le phase retired) (d-and (d-imp (d-eq phase retired) (d-eq version lastVersion)) (d-eq mapped (pick (eqb phase free) 1 0)))))
+
+pub d-slots : (nums : List (List ℕ)) (map : List ℕ) → Decided (SlotsHold nums map)
+d-slots nums map =
+    d-via
+    (λ x. record { each = x .0; past = x .1 })
+    (λ h. (h .each, h .past))
+    (d-and (d-all (λ s. d-slot (versionAt nums s) (phaseAt nums s) (usable map s)) (length nums)) (d-all (λ s. d-imp (d-le (length nums) s) (d-eq (usable map s) 0)) (wordsFor (length nums) * 64)))

@@ -1,0 +1,18 @@
+-- Whether the pool and the cell table are a storage can be decided. Assumes nothing.
+use Prim.Native.Nat.{ℕ, _+_, _<_, _≤_}
+use mathlib.Core.Path.{_≡_}
+use mathlib.Core.List.{List}
+use native.Mathlib.Omega.{arith}
+use Rattle.basics.specs.Says.{Decided, d-via, d-and, d-eq, d-le, d-lt, d-all, d-any}
+use Rattle.storage.specs.Packed.{first, second, Packed}
+
+pub d-packed : (used rows : ℕ) (pool cells : List (List ℕ)) → Decided (Packed used rows pool cells)
+d-packed used rows pool cells =
+    d-via
+    (λ x. record { ordered = λ i j h l. x .0 j h i (omega arith); ascending = λ i j h l. x .1 .0 j h i l; has-row = x .1 .1 .0; has-list = x .1 .1 .1 .0; marks = x .1 .1 .1 .1 })
+    (λ h. ((λ j l i m. h .ordered i j l (omega arith)), ((λ j l i m. h .ascending i j l m), (h .has-row, (h .has-list, h .marks)))))
+    (d-and (d-all (λ j. d-all (λ i. d-le (first pool i) (first pool j)) (j + 1)) used)
+    (d-and (d-all (λ j. d-all (λ i. d-lt (first cells i) (first cells j)) j) rows)
+    (d-and (d-all (λ j. d-any (λ r. d-eq (first cells r) (first pool j)) rows) used)
+    (d-and (d-all (λ r. d-any (λ j. d-eq (first pool j) (first cells r)) used) rows)
+    (d-all (λ r. d-le (second cells r) 1) rows)))))
