@@ -2,3 +2,4 @@
 pub mod Says
 pub mod DecideFloat
 pub mod Refusals
+pub mod Counting

@@ -27,28 +27,28 @@ or-cases false b h = inr h
 same : (a b : ℕ) → a ≡ b → T (eqb a b)
 same a b e = subst (λ (z : ℕ). T (eqb a z)) e (eqb-refl a)
 
+-- the tests of `le` at two signs
+pub le-ff : (a b : ℕ) → a ≤ b → T (ltb a b || (eqb a b && true))
+le-ff a b h = elim (eq-or-lt-of-le h) [ inl e ↦ or-r (ltb a b) (eqb a b && true) (and-i (eqb a b) true (same a b e) tt) | inr g ↦ or-l (ltb a b) (eqb a b && true) (lt→ltb a b g) ]
+
+pub le-tt : (a b : ℕ) → b ≤ a → T (ltb b a || (eqb a b && true))
+le-tt a b h = elim (eq-or-lt-of-le h) [ inl e ↦ or-r (ltb b a) (eqb a b && true) (and-i (eqb a b) true (same a b (sym e)) tt) | inr g ↦ or-l (ltb b a) (eqb a b && true) (lt→ltb b a g) ]
+
+le-zz : (a b : ℕ) → a ≡ 0 → b ≡ 0 → T (eqb a b && (false || eqb a 0))
+le-zz a b e g = and-i (eqb a b) (eqb a 0) (same a b (e ∙ sym g)) (same a 0 e)
+
+pub le-tf : (a b : ℕ) → T (ltb 0 (a + b) || (eqb a b && (false || eqb a 0)))
+le-tf a b = elim (eq-zero-or-pos (a + b)) [ inl e ↦ or-r (ltb 0 (a + b)) (eqb a b && (false || eqb a 0)) (le-zz a b (fst e) (snd e)) | inr g ↦ or-l (ltb 0 (a + b)) (eqb a b && (false || eqb a 0)) (lt→ltb 0 (a + b) g) ]
+  where
+    fst : a + b ≡ 0 → a ≡ 0
+    fst e = omega arith
+
+    snd : a + b ≡ 0 → b ≡ 0
+    snd e = omega arith
+
 module _ (f : Format) where
   abbrev l : ℕ
   l = 2 ^ low f
-
-  -- the tests of `le` at two signs
-  le-ff : (a b : ℕ) → a ≤ b → T (ltb a b || (eqb a b && true))
-  le-ff a b h = elim (eq-or-lt-of-le h) [ inl e ↦ or-r (ltb a b) (eqb a b && true) (and-i (eqb a b) true (same a b e) tt) | inr g ↦ or-l (ltb a b) (eqb a b && true) (lt→ltb a b g) ]
-
-  le-tt : (a b : ℕ) → b ≤ a → T (ltb b a || (eqb a b && true))
-  le-tt a b h = elim (eq-or-lt-of-le h) [ inl e ↦ or-r (ltb b a) (eqb a b && true) (and-i (eqb a b) true (same a b (sym e)) tt) | inr g ↦ or-l (ltb b a) (eqb a b && true) (lt→ltb b a g) ]
-
-  le-zz : (a b : ℕ) → a ≡ 0 → b ≡ 0 → T (eqb a b && (false || eqb a 0))
-  le-zz a b e g = and-i (eqb a b) (eqb a 0) (same a b (e ∙ sym g)) (same a 0 e)
-
-  le-tf : (a b : ℕ) → T (ltb 0 (a + b) || (eqb a b && (false || eqb a 0)))
-  le-tf a b = elim (eq-zero-or-pos (a + b)) [ inl e ↦ or-r (ltb 0 (a + b)) (eqb a b && (false || eqb a 0)) (le-zz a b (fst e) (snd e)) | inr g ↦ or-l (ltb 0 (a + b)) (eqb a b && (false || eqb a 0)) (lt→ltb 0 (a + b) g) ]
-    where
-      fst : a + b ≡ 0 → a ≡ 0
-      fst e = omega arith
-
-      snd : a + b ≡ 0 → b ≡ 0
-      snd e = omega arith
 
   L : 0 < l
   L = pow-pos (low f)

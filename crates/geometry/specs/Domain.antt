@@ -2,7 +2,7 @@
 -- NaN and the infinities fail every comparison here, and -0.0 counts as 0. Assumes nothing.
 use Prim.Native.Nat.{ℕ}
 use mathlib.Core.Bool.{Bool, true, false, _&&_}
-use lib.IntN.{ℤ, pos}
+use lib.IntN.{pos}
 use lib.Ieee.{Float, fin, le}
 use Rattle.geometry.specs.declared.Position.{Position}
 use Rattle.geometry.specs.declared.Aabb.{Aabb}

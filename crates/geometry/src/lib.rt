@@ -135,7 +135,9 @@ pub fn same_bits(a: f32, b: f32) -> bool
     if b != b {
         return false;
     }
-    f32::to_bits(a) == f32::to_bits(b)
+    let x = f32::to_bits(a);
+    let y = f32::to_bits(b);
+    x == y
 }
 
 pub fn same_position(p: Position, q: Position) -> bool

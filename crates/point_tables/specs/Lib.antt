@@ -3,3 +3,4 @@ pub mod Tables
 pub mod Holds
 pub mod Decide
 pub mod Outcome
+pub mod CountLaws

@@ -18,11 +18,11 @@ returns c = says-no (λ p. nan-if-unlike (c .before .args .a) (c .if1 .taken) (p
 returns-2 : tie.Need-returns-2
 returns-2 c = says-no (λ p. nan-if-unlike (c .before .before .args .b) (c .if2 .taken) (ap isNan (sym (p .0)) ∙ p .1))
 
-float-to-bits-result : tie.Need-float-to-bits-result
-float-to-bits-result c = let a = c .before .before .args .a in clear a (number-if-alike a (c .before .if1 .left))
+float-to-bits-x : tie.Need-float-to-bits-x
+float-to-bits-x c = let a = c .before .before .args .a in clear a (number-if-alike a (c .before .if1 .left))
 
-float-to-bits-result-2 : tie.Need-float-to-bits-result-2
-float-to-bits-result-2 c = let b = c .before .before .args .b in clear b (number-if-alike b (c .if2 .left))
+float-to-bits-y : tie.Need-float-to-bits-y
+float-to-bits-y c = let b = c .before .before .args .b in clear b (number-if-alike b (c .if2 .left))
 
 returns-3 : tie.Need-returns-3
 returns-3 c =
@@ -36,4 +36,4 @@ returns-3 c =
 
 pub same-bits-spec : {M : Type 1} → statement M
 same-bits-spec =
-    tie.close (tie.spec returns returns-2 float-to-bits-result float-to-bits-result-2 returns-3)
+    tie.close (tie.spec returns returns-2 float-to-bits-x float-to-bits-y returns-3)
