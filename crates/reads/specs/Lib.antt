@@ -1,2 +1,5 @@
 -- What the reading calls answer.
 pub mod Reads
+pub mod ReadsLaws
+pub mod HandlesLaws
+pub mod LenLaws

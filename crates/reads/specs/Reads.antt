@@ -49,20 +49,20 @@ unfolding liveHandles
 lenOf t = pick (holds t) (count 0 (length (liveHandles t))) (count 3 0)
 
 -- ---- handles: what it returns and the output after it; 9 returns the number found
-pub record Handles : Type 0 where
+pub record Listing : Type 0 where
   pub returned : Count
   pub out : List (List ℕ)
 
-abbrev pub handles : Count → List (List ℕ) → Handles
-handles c o = record { returned = c; out = o }
+abbrev pub listing : Count → List (List ℕ) → Listing
+listing c o = record { returned = c; out = o }
 
 unfoldable pub handlesAnswer : Tables → List (List ℕ) → ℕ
 unfolding liveHandles
 handlesAnswer t out = firstOf (unless (holds t) 3 ∷ unless (leb (length (liveHandles t)) (length out)) 9 ∷ [])
 
-unfoldable pub handlesOf : Tables → List (List ℕ) → Handles
+unfoldable pub handlesOf : Tables → List (List ℕ) → Listing
 unfolding liveHandles handlesAnswer
 handlesOf t out =
     pick (eqb (handlesAnswer t out) 0)
-    (handles (count 0 (length (liveHandles t))) (written (liveHandles t) out))
-    (handles (count (handlesAnswer t out) (pick (eqb (handlesAnswer t out) 9) (length (liveHandles t)) 0)) out)
+    (listing (count 0 (length (liveHandles t))) (written (liveHandles t) out))
+    (listing (count (handlesAnswer t out) (pick (eqb (handlesAnswer t out) 9) (length (liveHandles t)) 0)) out)

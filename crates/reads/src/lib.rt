@@ -1,5 +1,16 @@
-// Reading a point grid: `get`, `len`, `handles`.
+// Reading a point grid: `get`, `len`, `handles`. Each takes the verdict of the check on the tables, `held`.
+ghost use mathlib.Core.Path.{_≡_};
+ghost use mathlib.Core.Bool.{true};
+ghost use Prim.Native.Nat.{_+_, _≤_, _<_};
+ghost use lib.Dec.{eqb};
+ghost use lib.ListN.{length, getD};
+ghost use Rattle.slots.specs.Slot.{live};
+ghost use Rattle.storage.specs.Keyed.{written};
+ghost use Rattle.point_tables.specs.Tables.{tables};
+ghost use Rattle.point_tables.specs.Decide.{holds};
+ghost use Rattle.reads.specs.Reads.{getOf, lenOf, handlesOf, listing, handlesFrom};
 use geometry::Position;
+use slots::Handle;
 
 // The recorded position and the data of an object beside the answer.
 pub struct Got {
@@ -12,4 +23,122 @@ pub struct Got {
 pub struct Count {
     pub answer: u32,
     pub count: u32,
+}
+
+pub fn get(
+    nums: &[[u32; 4]],
+    reals: &[[f32; 4]],
+    ints: &[[i32; 4]],
+    map: &[u64],
+    pool: &[[u64; 2]],
+    spots: &[[f32; 2]],
+    cells: &[[u64; 2]],
+    held: bool,
+    h: Handle,
+) -> Got
+    requires { ⌜ held ≡ holds (tables (now nums) (now reals) (now ints) (now map) (now pool) (now spots) (now cells)) ⌝ }
+    ensures { λ r. ⌜ r ≡ getOf (tables (now (nums .entry)) (now (reals .entry)) (now (ints .entry)) (now (map .entry)) (now (pool .entry)) (now (spots .entry)) (now (cells .entry))) h ⌝ }
+{
+    if !held {
+        return Got {
+            answer: 3,
+            position: Position { x: 0.0, y: 0.0 },
+            obj: 0,
+        };
+    }
+    if !slots::is_good(nums, h) {
+        return Got {
+            answer: 5,
+            position: Position { x: 0.0, y: 0.0 },
+            obj: 0,
+        };
+    }
+    let s = basics::wide(h.slot);
+    let n = nums[s];
+    let q = reals[s];
+    Got {
+        answer: 0,
+        position: Position { x: q[0], y: q[1] },
+        obj: n[2],
+    }
+}
+
+// Whether a slot is live.
+fn is_live(row: [u32; 4]) -> bool
+    ensures { λ r. ⌜ r ≡ eqb (getD row 1 0) live ⌝ }
+{
+    row[1] == 1
+}
+
+// The handles of the live slots, from place 0 of the output on.
+fn put_handles(nums: &[[u32; 4]], out: &mut [[u32; 2]])
+    requires { ⌜ (length (now nums) ≤ 4096) × (length (handlesFrom 0 (now nums)) ≤ length (now out)) ⌝ }
+    ensures { λ _. ⌜ now (out .exit) ≡ written (handlesFrom 0 (now (nums .entry))) (now (out .entry)) ⌝ }
+{
+    let mut k = 0;
+    let mut i = 0;
+    while i < nums.len() {
+        let row = nums[i];
+        if is_live(row) {
+            out[k] = [i as u32, row[0]];
+            k += 1;
+        }
+        i += 1;
+    }
+}
+
+// The number of objects: each has one entry, so the entries in use are as many.
+pub fn len(
+    nums: &[[u32; 4]],
+    reals: &[[f32; 4]],
+    ints: &[[i32; 4]],
+    map: &[u64],
+    pool: &[[u64; 2]],
+    spots: &[[f32; 2]],
+    cells: &[[u64; 2]],
+    held: bool,
+) -> Count
+    requires { ⌜ held ≡ holds (tables (now nums) (now reals) (now ints) (now map) (now pool) (now spots) (now cells)) ⌝ }
+    ensures { λ r. ⌜ r ≡ lenOf (tables (now (nums .entry)) (now (reals .entry)) (now (ints .entry)) (now (map .entry)) (now (pool .entry)) (now (spots .entry)) (now (cells .entry))) ⌝ }
+{
+    if !held {
+        return Count {
+            answer: 3,
+            count: 0,
+        };
+    }
+    let used = map[1];
+    Count {
+        answer: 0,
+        count: used as u32,
+    }
+}
+
+// The handles of the objects, ascending by slot.
+pub fn handles(
+    nums: &[[u32; 4]],
+    reals: &[[f32; 4]],
+    ints: &[[i32; 4]],
+    map: &[u64],
+    pool: &[[u64; 2]],
+    spots: &[[f32; 2]],
+    cells: &[[u64; 2]],
+    held: bool,
+    out: &mut [[u32; 2]],
+) -> Count
+    requires { ⌜ held ≡ holds (tables (now nums) (now reals) (now ints) (now map) (now pool) (now spots) (now cells)) ⌝ }
+    ensures { λ r. ⌜ listing r (now (out .exit)) ≡ handlesOf (tables (now (nums .entry)) (now (reals .entry)) (now (ints .entry)) (now (map .entry)) (now (pool .entry)) (now (spots .entry)) (now (cells .entry))) (now (out .entry)) ⌝ }
+{
+    let found = len(nums, reals, ints, map, pool, spots, cells, held);
+    if found.answer != 0 {
+        return found;
+    }
+    if out.len() < basics::wide(found.count) {
+        return Count {
+            answer: 9,
+            count: found.count,
+        };
+    }
+    put_handles(nums, out);
+    found
 }
