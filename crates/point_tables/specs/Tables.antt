@@ -4,7 +4,7 @@ use mathlib.Core.Path.{_≡_}
 use mathlib.Core.List.{List}
 use lib.IntN.{ℤ}
 use lib.Ieee.{Float}
-use lib.ListN.{length, getD, take}
+use lib.ListN.{length, getD, set, take}
 use Rattle.objects.specs.declared.Record.{Record}
 use Rattle.objects.specs.Columns.{recordAt}
 use Rattle.slots.specs.Map.{head, wordsFor}
@@ -34,6 +34,10 @@ usedOf t = getD (t .map) 1 0
 
 abbrev pub rowsOf : Tables → ℕ
 rowsOf t = getD (t .map) 2 0
+
+-- the map with other numbers of entries and cells in use
+abbrev pub counting : List ℕ → ℕ → ℕ → List ℕ
+counting m used rows = set (set m 1 used) 2 rows
 
 -- ---- the number of slots, the record of a slot, the entries in use, the rows of the cells in use
 abbrev pub slotsOf : Tables → ℕ
