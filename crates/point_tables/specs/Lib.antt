@@ -4,3 +4,4 @@ pub mod Holds
 pub mod Decide
 pub mod Outcome
 pub mod CountLaws
+pub mod Lent

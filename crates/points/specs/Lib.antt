@@ -1,0 +1,1 @@
+-- Statements about the public calls of the point grid.

@@ -1,0 +1,169 @@
+// The public calls of the point grid: src/grid.rs of the Rust. Each checks the tables first and answers by document 01's numbers, listed
+// with each call in their order. No call has a `requires`, and a refused call changes no table and no output.
+ghost use mathlib.Core.Path.{_≡_};
+ghost use Rattle.point_tables.specs.Lent.{lent};
+ghost use Rattle.point_tables.specs.Outcome.{outcome};
+ghost use Rattle.inserts.specs.New.{newOf};
+ghost use Rattle.inserts.specs.Insert.{insertOf};
+ghost use Rattle.moves.specs.Moves.{reply, setPositionOf, removeOf};
+ghost use Rattle.moves.specs.Batch.{batched, batchOf};
+ghost use Rattle.reads.specs.Reads.{getOf, lenOf, handlesOf, listing};
+use geometry::Position;
+use inserts::Inserted;
+use moves::BatchReply;
+use moves::Reply;
+use reads::Count;
+use reads::Got;
+use slots::Handle;
+
+// Builds an empty grid with cells of this size. 3: wrong lengths; 2: size outside its limits.
+pub fn new(
+    nums: &mut [[u32; 4]],
+    reals: &[[f32; 4]],
+    ints: &[[i32; 4]],
+    map: &mut [u64],
+    pool: &[[u64; 2]],
+    spots: &[[f32; 2]],
+    cells: &[[u64; 2]],
+    size: u32,
+) -> u32
+    ensures { λ r. ⌜ outcome r (lent (nums .exit) (reals .entry) (ints .entry) (map .exit) (pool .entry) (spots .entry) (cells .entry)) ≡ newOf (lent (nums .entry) (reals .entry) (ints .entry) (map .entry) (pool .entry) (spots .entry) (cells .entry)) size ⌝ }
+{
+    inserts::new(nums, reals, ints, map, pool, spots, cells, size)
+}
+
+// A new object at a position; queries see it at once. 3, 6, 4.
+pub fn insert(
+    nums: &mut [[u32; 4]],
+    reals: &mut [[f32; 4]],
+    ints: &mut [[i32; 4]],
+    map: &mut [u64],
+    pool: &mut [[u64; 2]],
+    spots: &mut [[f32; 2]],
+    cells: &mut [[u64; 2]],
+    at: Position,
+    obj: u32,
+) -> Inserted
+    ensures { λ r. ⌜ outcome r (lent (nums .exit) (reals .exit) (ints .exit) (map .exit) (pool .exit) (spots .exit) (cells .exit)) ≡ insertOf (lent (nums .entry) (reals .entry) (ints .entry) (map .entry) (pool .entry) (spots .entry) (cells .entry)) at obj ⌝ }
+{
+    let held = point_tables::check(nums, reals, ints, map, pool, spots, cells);
+    inserts::insert(nums, reals, ints, map, pool, spots, cells, held, at, obj)
+}
+
+// Where the object shall be after the next maintain. 3, 6, 5, 1.
+pub fn set_position(
+    nums: &mut [[u32; 4]],
+    reals: &mut [[f32; 4]],
+    ints: &mut [[i32; 4]],
+    map: &[u64],
+    pool: &[[u64; 2]],
+    spots: &[[f32; 2]],
+    cells: &mut [[u64; 2]],
+    h: Handle,
+    at: Position,
+) -> u32
+    ensures { λ r. ⌜ outcome (reply r 0) (lent (nums .exit) (reals .exit) (ints .exit) (map .entry) (pool .entry) (spots .entry) (cells .exit)) ≡ setPositionOf (lent (nums .entry) (reals .entry) (ints .entry) (map .entry) (pool .entry) (spots .entry) (cells .entry)) h at ⌝ }
+{
+    let held = point_tables::check(nums, reals, ints, map, pool, spots, cells);
+    moves::set_position(nums, reals, ints, map, pool, spots, cells, held, h, at)
+}
+
+// Marks the object; the next maintain takes it out. Gives the data, again if asked again. 3, 5.
+pub fn remove(
+    nums: &mut [[u32; 4]],
+    reals: &mut [[f32; 4]],
+    ints: &mut [[i32; 4]],
+    map: &[u64],
+    pool: &[[u64; 2]],
+    spots: &[[f32; 2]],
+    cells: &mut [[u64; 2]],
+    h: Handle,
+) -> Reply
+    ensures { λ r. ⌜ outcome r (lent (nums .exit) (reals .exit) (ints .exit) (map .entry) (pool .entry) (spots .entry) (cells .exit)) ≡ removeOf (lent (nums .entry) (reals .entry) (ints .entry) (map .entry) (pool .entry) (spots .entry) (cells .entry)) h ⌝ }
+{
+    let held = point_tables::check(nums, reals, ints, map, pool, spots, cells);
+    moves::remove(nums, reals, ints, map, pool, spots, cells, held, h)
+}
+
+// Deferred calls one after the other, with one check: kind 0 is set_position, any other remove. 3, 9.
+pub fn batch(
+    nums: &mut [[u32; 4]],
+    reals: &mut [[f32; 4]],
+    ints: &mut [[i32; 4]],
+    map: &[u64],
+    pool: &[[u64; 2]],
+    spots: &[[f32; 2]],
+    cells: &mut [[u64; 2]],
+    kinds: &[u32],
+    handles: &[[u32; 2]],
+    positions: &[[f32; 2]],
+    out: &mut [[u32; 2]],
+) -> BatchReply
+    ensures { λ r. ⌜ outcome (batched (r .answer) (r .count) (now (out .exit))) (lent (nums .exit) (reals .exit) (ints .exit) (map .entry) (pool .entry) (spots .entry) (cells .exit)) ≡ batchOf (lent (nums .entry) (reals .entry) (ints .entry) (map .entry) (pool .entry) (spots .entry) (cells .entry)) (now (kinds .entry)) (now (handles .entry)) (now (positions .entry)) (now (out .entry)) ⌝ }
+{
+    let held = point_tables::check(nums, reals, ints, map, pool, spots, cells);
+    moves::batch(
+        nums,
+        reals,
+        ints,
+        map,
+        pool,
+        spots,
+        cells,
+        held,
+        kinds,
+        handles,
+        positions,
+        out,
+    )
+}
+
+// The recorded position and the data. 3, 5.
+pub fn get(
+    nums: &[[u32; 4]],
+    reals: &[[f32; 4]],
+    ints: &[[i32; 4]],
+    map: &[u64],
+    pool: &[[u64; 2]],
+    spots: &[[f32; 2]],
+    cells: &[[u64; 2]],
+    h: Handle,
+) -> Got
+    ensures { λ r. ⌜ r ≡ getOf (lent (nums .entry) (reals .entry) (ints .entry) (map .entry) (pool .entry) (spots .entry) (cells .entry)) h ⌝ }
+{
+    let held = point_tables::check(nums, reals, ints, map, pool, spots, cells);
+    reads::get(nums, reals, ints, map, pool, spots, cells, held, h)
+}
+
+// The number of objects; removed ones count until maintain. 3.
+pub fn len(
+    nums: &[[u32; 4]],
+    reals: &[[f32; 4]],
+    ints: &[[i32; 4]],
+    map: &[u64],
+    pool: &[[u64; 2]],
+    spots: &[[f32; 2]],
+    cells: &[[u64; 2]],
+) -> Count
+    ensures { λ r. ⌜ r ≡ lenOf (lent (nums .entry) (reals .entry) (ints .entry) (map .entry) (pool .entry) (spots .entry) (cells .entry)) ⌝ }
+{
+    let held = point_tables::check(nums, reals, ints, map, pool, spots, cells);
+    reads::len(nums, reals, ints, map, pool, spots, cells, held)
+}
+
+// The handles of the objects, ascending by slot. 3, 9 with the number found.
+pub fn handles(
+    nums: &[[u32; 4]],
+    reals: &[[f32; 4]],
+    ints: &[[i32; 4]],
+    map: &[u64],
+    pool: &[[u64; 2]],
+    spots: &[[f32; 2]],
+    cells: &[[u64; 2]],
+    out: &mut [[u32; 2]],
+) -> Count
+    ensures { λ r. ⌜ listing r (now (out .exit)) ≡ handlesOf (lent (nums .entry) (reals .entry) (ints .entry) (map .entry) (pool .entry) (spots .entry) (cells .entry)) (now (out .entry)) ⌝ }
+{
+    let held = point_tables::check(nums, reals, ints, map, pool, spots, cells);
+    reads::handles(nums, reals, ints, map, pool, spots, cells, held, out)
+}
