@@ -2,9 +2,9 @@
 use mathlib.Core.Path.{_≡_, refl, sym, ap, _∙_, subst}
 use mathlib.Core.Bool.{Bool, true, false, not, cond}
 use Prim.Native.Nat.{ℕ, zero, suc, _+_, _-_, _*_, _/_, _%_, _^_, _≤_, _<_, min}
-use native.Mathlib.Nat.{le-trans, le-of-eq, lt-of-lt-of-le, mul-assoc, mul-comm, mul-left-comm, mul-le-mul-right, mod-lt, div-eq-of-lt, div-lt-iff-lt-mul, le-div-iff-mul-le, add-comm, pow-suc, lt-of-not-le}
+use native.Mathlib.Nat.{le-trans, le-of-eq, lt-of-lt-of-le, mul-assoc, mul-comm, mul-left-comm, mul-le-mul-right, mod-lt, div-eq-of-lt, div-lt-iff-lt-mul, le-div-iff-mul-le, add-comm, pow-suc}
 use native.Mathlib.Omega.{arith}
-use lib.IntN.{ℤ, pos, negsuc, negℤ, _-ℤ_, _+ℤ_}
+use lib.IntN.{ℤ, pos, negℤ}
 use lib.Dec.{T, leb, ltb, eqb, eqb→eq, lit≤, lit<}
 use lib.Pow.{pow-add, pow-pos, pow-mono, shl-lt, shl-shr, shr-shr, field}
 use lib.Ieee.{Float, nan, inf, fin, binary32, up, down, odd, fits, isNan, ofFields, ofBits, toBits, toSigned, ne}
@@ -14,9 +14,6 @@ use lib.Ieee.Exact.{HasValue, odd-sign}
 use lib.Ieee.Nearest.{div-same}
 use lib.Ieee.Compare.{differs-from-itself}
 use borrow.Author.Tests.{lt-ltb, le-ltb, ltb-true, ltb-false, lt-leb, le-leb}
-use mir.Syntax.{w32}
-use mir.Val.{SFits, toZ, ofZ}
-use mir.ValLaws.{toZ-pos, toZ-ofZ}
 use Rattle.cells.specs.Cut.{cutFields, cutBits}
 
 -- ---- shifts

@@ -1,10 +1,12 @@
 -- The cell of a coordinate and of a position. Assumes nothing.
 use Prim.Native.Nat.{ℕ}
-use mathlib.Core.Bool.{Bool, true, false, cond}
+use mathlib.Core.Bool.{false, cond}
+use lib.Dec.{T}
 use lib.IntN.{ℤ, pos, _-ℤ_}
 use lib.Signed.{quotZ}
 use lib.Ieee.{Float, fin, lt, toSigned}
 use Rattle.geometry.specs.declared.Position.{Position}
+use Rattle.geometry.specs.Domain.{within}
 use Rattle.cells.specs.declared.Cell.{Cell}
 
 -- the whole number of a coordinate: Rust's `as i32`, which drops the fraction toward zero
@@ -18,3 +20,7 @@ cellOf size x = cond (lt x (fin false 0 (pos 0))) (quotZ (wholeOf x) size -ℤ p
 
 abbrev pub cellAt : ℕ → Position → Cell
 cellAt size p = record { x = cellOf (pos size) (p .x); y = cellOf (pos size) (p .y) }
+
+-- what a cell is asked of: the domain, and the corners of a circle's range, which leave it by at most a radius
+abbrev pub Reached : Position → Type 0
+Reached p = T (within 21 (p .x)) × T (within 21 (p .y))

@@ -2,11 +2,11 @@
 use mathlib.Core.Path.{_≡_, refl, sym, ap, _∙_, subst}
 use mathlib.Core.Logic.{_⊎_, inl, inr}
 use mathlib.Core.Bool.{Bool, true, false, _&&_, _||_}
-use Prim.Native.Nat.{ℕ, zero, suc, _+_, _*_, _/_, _^_, _≤_, _<_, min, zero-le}
+use Prim.Native.Nat.{ℕ, zero, suc, _*_, _/_, _≤_, _<_, min, zero-le}
 use native.Mathlib.Nat.{le-of-lt, le-refl, le-of-eq, le-trans, zero-mul, mul-pos, zero-lt-suc, zero-div, div-le-self, div-le-of-le-mul, mul-le-mul-right}
 use native.Mathlib.Omega.{arith}
-use lib.IntN.{ℤ, pos, negsuc}
-use lib.Dec.{T, leb, ltb, eqb, ltb→lt, le→leb, eqb→eq}
+use lib.IntN.{ℤ, pos}
+use lib.Dec.{T, ltb, eqb, ltb→lt, le→leb, eqb→eq}
 use lib.Signed.{mag, leZ}
 use lib.Ieee.{Float, nan, inf, fin, up, down, lt, eq, le}
 use lib.Ieee.Fits.{down-pos, and-l, and-r}
@@ -14,7 +14,7 @@ use lib.Ieee.Nearest.{div-mono}
 use Rattle.geometry.specs.Domain.{within}
 use Rattle.geometry.specs.declared.Position.{Position}
 use Rattle.cells.specs.Numbers.{Near}
-use Rattle.cells.specs.CellRule.{cellOf, cellAt}
+use Rattle.cells.specs.CellRule.{cellOf, cellAt, Reached}
 use Rattle.cells.specs.CellSignLaws.{cell-pos, cell-neg, cell-zero, cell-inf, cell-neg-inf}
 
 -- ---- what `le` says of finite values
@@ -22,7 +22,7 @@ or-cases : (p q : Bool) → T (p || q) → T p ⊎ T q
 or-cases true q h = inl tt
 or-cases false q h = inr h
 
-le-of-tests : (a b : ℕ) (q : Bool) → (T q → a ≡ b) → T (ltb a b || q) → a ≤ b
+pub le-of-tests : (a b : ℕ) (q : Bool) → (T q → a ≡ b) → T (ltb a b || q) → a ≤ b
 le-of-tests a b q f h = elim (or-cases (ltb a b) q h) [ inl u ↦ le-of-lt (ltb→lt a b u) | inr u ↦ le-of-eq (f u) ]
 
 -- ---- the order
@@ -159,8 +159,8 @@ cell-small b (fin true m e) h =
           (and-l (le (fin true 1 (pos 21)) (fin true m e)) (le (fin true m e) (fin false 1 (pos 21))) h)))
     ]
 
-pub cell-near : (size : ℕ) (p : Position) → T (within 21 (p .x)) → T (within 21 (p .y)) → Near (cellAt size p)
-cell-near size p h k = record { x = wide (cell-small size (p .x) h); y = wide (cell-small size (p .y) k) }
+pub cell-near : (size : ℕ) (p : Position) → Reached p → Near (cellAt size p)
+cell-near size p h = record { x = wide (cell-small size (p .x) (h .0)); y = wide (cell-small size (p .y) (h .1)) }
   where
     wide : {n : ℕ} → n ≤ 2097152 → n ≤ 4194304
     wide h = omega arith

@@ -7,7 +7,7 @@ use native.Mathlib.Omega.{arith}
 use lib.IntN.{ℤ, pos, negsuc, negℤ, _-ℤ_, predℤ, -ℤ-one}
 use lib.Dec.{ltb}
 use lib.Signed.{quotZ}
-use lib.Ieee.{Float, inf, fin, up, down}
+use lib.Ieee.{inf, fin, up, down}
 use borrow.Author.Tests.{lt-ltb, le-ltb}
 use Rattle.cells.specs.CellRule.{cellOf}
 

@@ -7,5 +7,12 @@ pub mod CellSignLaws
 pub mod CellRuleLaws
 pub mod CellTable
 pub mod Range
+pub mod StepLaws
+pub mod RangeLaws
+pub mod Rising
 pub mod Key
 pub mod KeyLaws
+pub mod RangeKeyLaws
+pub mod CircleRange
+pub mod ReachLaws
+pub mod Cover

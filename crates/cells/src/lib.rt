@@ -1,14 +1,17 @@
 // The cell of a coordinate and of a position, ranges of cells and the keys of cells: the arithmetic of src/storage.rs.
 ghost use mathlib.Core.Path.{_≡_};
-ghost use Prim.Native.Nat.{_<_, _≤_, _^_};
+ghost use Prim.Native.Nat.{_<_, _^_};
 ghost use lib.Dec.{T};
 ghost use lib.IntN.{pos};
-ghost use lib.Signed.{_<ℤ_};
+ghost use mathlib.Core.Bool.{_&&_};
+ghost use lib.Signed.{_<ℤ_, leZ};
 ghost use Rattle.basics.specs.Says.{Says};
 ghost use Rattle.geometry.specs.Domain.{within};
 ghost use Rattle.cells.specs.Cut.{cutBits};
 ghost use Rattle.cells.specs.Size.{SizeInDomain};
-ghost use Rattle.cells.specs.CellRule.{wholeOf, cellOf, cellAt};
+ghost use Rattle.cells.specs.CellRule.{wholeOf, cellOf, cellAt, Reached};
+ghost use Rattle.cells.specs.Numbers.{Near};
+ghost use Rattle.cells.specs.Range.{countFrom, cellsIn, inRange};
 ghost use Rattle.cells.specs.Key.{upward, downward, keyOf, columnOf, rowOf, cellOfKey};
 use geometry::Position;
 
@@ -109,10 +112,9 @@ pub fn size_in_domain(size: u64) -> bool
     true
 }
 
-// The corners of a circle's range may leave the domain, but not by more than a radius.
 pub fn cell_at(size: u64, p: Position) -> Cell
     requires { ⌜ SizeInDomain size ⌝ }
-    requires { ⌜ T (within 21 (p .x)) × T (within 21 (p .y)) ⌝ }
+    requires { ⌜ Reached p ⌝ }
     ensures { λ r. ⌜ r ≡ cellAt size p ⌝ }
 {
     let s = size as i32;
@@ -140,10 +142,50 @@ pub fn same_cell(a: Cell, b: Cell) -> bool
 }
 
 // A cell number counted from the least.
-fn up_from_least(x: i32) -> u64
+pub fn up_from_least(x: i32) -> u64
     ensures { λ r. ⌜ r ≡ upward x ⌝ }
 {
     ((x as i64) + 2147483648) as u64
+}
+
+// How many whole numbers there are from a to b, both counted.
+fn count_from(a: i32, b: i32) -> u64
+    ensures { λ r. ⌜ r ≡ countFrom a b ⌝ }
+{
+    let low = up_from_least(a);
+    let high = up_from_least(b);
+    if high < low {
+        return 0;
+    }
+    high - low + 1
+}
+
+// The number of cells of the range from a to b; the product fits, since what a call asks for is Near.
+pub fn cells_in(a: Cell, b: Cell) -> u64
+    requires { ⌜ Near a × Near b ⌝ }
+    ensures { λ r. ⌜ r ≡ cellsIn a b ⌝ }
+{
+    let columns = count_from(a.x, b.x);
+    let rows = count_from(a.y, b.y);
+    columns * rows
+}
+
+fn between(a: i32, b: i32, n: i32) -> bool
+    ensures { λ r. ⌜ r ≡ (leZ a n && leZ n b) ⌝ }
+{
+    if a <= n {
+        return n <= b;
+    }
+    false
+}
+
+pub fn in_range(a: Cell, b: Cell, c: Cell) -> bool
+    ensures { λ r. ⌜ r ≡ inRange a b c ⌝ }
+{
+    if between(a.x, b.x, c.x) {
+        return between(a.y, b.y, c.y);
+    }
+    false
 }
 
 pub fn key_of(c: Cell) -> u64

@@ -1,5 +1,5 @@
 -- Laws of the bits of a number: under `bitOr`, `bitAnd` and `bitXor`, of a power of two, and below the lowest bit that is set. Assumes nothing.
-use Prim.Native.Nat.{ℕ, zero, suc, _+_, _*_, _/_, _%_, _^_, _<_, _≤_, min, max, zero-le, suc-le-suc}
+use Prim.Native.Nat.{ℕ, zero, suc, _+_, _/_, _%_, _^_, _<_, min, max, zero-le, suc-le-suc}
 use mathlib.Core.Path.{_≡_, refl, _∙_, ap}
 use native.Mathlib.Omega.{arith}
 use native.Mathlib.Nat.{not-suc-le-zero, le-of-suc-le-suc, div-one, div-self, div-div-eq-div-mul, pow-succ', zero-div, zero-mod, mul-div-cancel-left, max-le, max-zero, min-zero, min-le-left}

@@ -4,4 +4,8 @@ pub mod Slot
 pub mod BitLaws
 pub mod MapLaws
 pub mod LowestLaws
+pub mod CountLaws
+pub mod SlotLaws
+pub mod EmptyLaws
+pub mod HandleLaws
 pub mod Decide

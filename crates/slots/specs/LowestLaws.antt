@@ -1,6 +1,6 @@
 -- The lowest usable slot or none, exactly: what it is told by its definition, and that these facts determine it. Assumes nothing.
 use Prim.Native.Nat.{ℕ, zero, suc, _+_, _*_, _/_, _%_, _^_, _≤_, _<_}
-use mathlib.Core.Path.{_≡_, refl, sym, ap, _∙_, subst}
+use mathlib.Core.Path.{_≡_, refl, ap, subst}
 use mathlib.Core.Bool.{Bool, true, false}
 use mathlib.Core.List.{List}
 use mathlib.Core.Logic.{⊎-elim}
@@ -14,7 +14,7 @@ use borrow.Author.Tests.{eqb-true, eqb-false, ltb-true, ltb-false}
 use Rattle.basics.specs.Refusals.{pick}
 use Rattle.slots.specs.declared.Usable.{Usable}
 use Rattle.slots.specs.declared.Usable.the-variants.{At, Nothing}
-use Rattle.slots.specs.Map.{head, wordsFor, bit, usable, lowestFrom, lowestUsable}
+use Rattle.slots.specs.Map.{head, wordsFor, bit, usable, lowestFrom, lowestUsable, NonePast}
 use Rattle.slots.specs.BitLaws.{bit-of-zero, trailing-low, trailing-set}
 use Rattle.slots.specs.MapLaws.{not-usable}
 
@@ -76,7 +76,7 @@ module _ (m : List ℕ) where
   lowest-none n e = subst (IsLowest m n) e (lowest-is n)
 
 -- ---- the lowest slot of a map that has no bit past the last slot, at its first word that is not 0
-module _ (m : List ℕ) (n w : ℕ) (past : (s : ℕ) → s < wordsFor n * 64 → n ≤ s → usable m s ≡ 0) (low : (v : ℕ) → v < w → getD m (head + v) 0 ≡ 0) where
+module _ (m : List ℕ) (n w : ℕ) (past : NonePast m n) (low : (v : ℕ) → v < w → getD m (head + v) 0 ≡ 0) where
   low-word : (j : ℕ) → j / 64 < w → usable m j ≡ 0
   low-word j h = rw (low (j / 64) h) (bit-of-zero (j % 64))
 

@@ -1,9 +1,10 @@
 -- The slot map: 64 slots to a word, a bit set for each usable slot. Three head words, the grid's own, stand before the bits.
 -- Assumes nothing.
-use Prim.Native.Nat.{ℕ, zero, suc, _+_, _*_, _/_, _%_, _^_}
-use mathlib.Core.Bool.{Bool, true, false}
+use Prim.Native.Nat.{ℕ, zero, suc, _+_, _*_, _/_, _%_, _^_, _≤_, _<_}
+use mathlib.Core.Path.{_≡_}
 use mathlib.Core.List.{List}
 use lib.Bits.{bitAnd, bitOr, bitXor}
+use lib.Count.{ones}
 use lib.Dec.{eqb}
 use lib.ListN.{getD, set}
 use Rattle.basics.specs.Refusals.{pick}
@@ -47,3 +48,12 @@ lowestUsable m n = lowestFrom m 0 n
 unfoldable pub usableBelow : List ℕ → ℕ → ℕ
 usableBelow m zero = 0
 usableBelow m (suc k) = usableBelow m k + usable m k
+
+-- no bit of the map's words past the last of n slots is set
+abbrev pub NonePast : List ℕ → ℕ → Type 0
+NonePast m n = (s : ℕ) → s < wordsFor n * 64 → n ≤ s → usable m s ≡ 0
+
+-- how many bits of the first w words are set
+unfoldable pub onesOf : List ℕ → ℕ → ℕ
+onesOf m zero = 0
+onesOf m (suc w) = onesOf m w + ones (getD m (head + w) 0)

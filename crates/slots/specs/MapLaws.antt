@@ -1,16 +1,18 @@
--- Laws of the slot map: a slot that is taken, or given back, is as it should be, and every other slot and the head words as they were. Assumes nothing.
-use Prim.Native.Nat.{ℕ, _+_, _/_, _%_, _^_, _<_}
-use mathlib.Core.Path.{_≡_, refl}
+-- Laws of the slot map: a slot that is taken, or given back, is as it should be, and every other slot and the head words as they were;
+-- and how to see that no bit past the last slot is set. Assumes nothing.
+use Prim.Native.Nat.{ℕ, _+_, _-_, _/_, _%_, _^_, _<_}
+use mathlib.Core.Path.{_≡_, refl, sym, _∙_, subst}
 use mathlib.Core.Bool.{Bool, true, false}
 use mathlib.Core.List.{List}
 use native.Mathlib.Omega.{arith}
 use lib.Bits.{bitAnd, bitOr, bitXor}
 use lib.Dec.{eqb}
 use lib.ListN.{length, getD, set, length-set}
+use lib.Pow.{shr-lt}
 use lib.Seq.{getD-set-same, getD-set-other}
 use borrow.Author.Tests.{eqb-true, eqb-false}
-use Rattle.slots.specs.Map.{head, bit, usable, taken, givenBack}
-use Rattle.slots.specs.BitLaws.{bit-not-one, on-same, on-other, off-same, off-other}
+use Rattle.slots.specs.Map.{head, bit, usable, taken, givenBack, NonePast}
+use Rattle.slots.specs.BitLaws.{bit-of-zero, bit-not-one, bit-shifted, no-bits, on-same, on-other, off-same, off-other}
 
 -- a slot is usable or not
 pub not-usable : (m : List ℕ) (s : ℕ) → (usable m s ≡ 1 → ⊥) → usable m s ≡ 0
@@ -50,3 +52,24 @@ module _ (m : List ℕ) (s : ℕ) where
 
   pub given-back-head : (k : ℕ) → k < head → getD (givenBack m s) k 0 ≡ getD m k 0
   given-back-head k h = getD-set-other m (head + s / 64) k _ 0 (λ e. omega arith)
+
+-- ---- only the last word has bits past the last slot: there are none exactly when it is 0 without the bits of its slots
+module _ (m : List ℕ) (n : ℕ) (some : n % 64 ≡ 0 → ⊥) where
+  pub past-none : getD m (head + n / 64) 0 / 2 ^ (n % 64) ≡ 0 → NonePast m n
+  past-none e s l h =
+      let q : s / 64 ≡ n / 64 = omega arith in
+      let r : s % 64 ≡ n % 64 + (s % 64 - n % 64) = omega arith in
+      rw (q, r, ← bit-shifted (getD m (head + n / 64) 0) (n % 64) (s % 64 - n % 64), e) (bit-of-zero (s % 64 - n % 64))
+
+  pub past-all : getD m (head + n / 64) 0 < 2 ^ 64 → NonePast m n → getD m (head + n / 64) 0 / 2 ^ (n % 64) ≡ 0
+  past-all l f =
+      let x = getD m (head + n / 64) 0 in
+      let k = n % 64 in
+      let t : 64 ≡ 64 - k + k = omega arith in
+      no-bits (64 - k) (x / 2 ^ k) (shr-lt (64 - k) k (subst (λ (j : ℕ). x < 2 ^ j) t l)) (λ j h. bit-shifted x k j ∙ sym (at-word j h) ∙ f (n + j) (omega arith) (omega arith))
+    where
+      at-word : (j : ℕ) → j < 64 - n % 64 → usable m (n + j) ≡ bit (getD m (head + n / 64) 0) (n % 64 + j)
+      at-word j h =
+          let q : (n + j) / 64 ≡ n / 64 = omega arith in
+          let r : (n + j) % 64 ≡ n % 64 + j = omega arith in
+          rw (q, r)

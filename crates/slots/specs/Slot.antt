@@ -1,7 +1,7 @@
 -- A slot's version and phase, which stand first in its row of numbers, and when a handle is good. Assumes nothing.
-use Prim.Native.Nat.{ℕ, _+_, _*_, _≤_, _<_}
+use Prim.Native.Nat.{ℕ, zero, suc, _+_, _*_, _≤_, _<_}
 use mathlib.Core.Path.{_≡_}
-use mathlib.Core.Bool.{Bool, true, false, _&&_}
+use mathlib.Core.Bool.{Bool, _&&_}
 use mathlib.Core.List.{List, [], _∷_}
 use lib.Dec.{eqb, ltb}
 use lib.ListN.{length, getD, set, drop}
@@ -48,6 +48,11 @@ emptiedNums nums s = set nums s (emptiedRow (getD nums s []))
 -- the map after slot s is emptied: usable again, unless it is retired
 unfoldable pub emptiedMap : List (List ℕ) → List ℕ → ℕ → List ℕ
 emptiedMap nums map s = pick (eqb (versionAt nums s) lastVersion) map (givenBack map s)
+
+-- how many of the first k slots are in a phase
+unfoldable pub inPhase : ℕ → List (List ℕ) → ℕ → ℕ
+inPhase p nums zero = 0
+inPhase p nums (suc k) = inPhase p nums k + pick (eqb (phaseAt nums k) p) 1 0
 
 -- ---- one slot holds: no version is 0, a retired slot is at the last version, and the map has the free slots alone
 pub record SlotHolds (version phase mapped : ℕ) : Type 0 where

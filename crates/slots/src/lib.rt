@@ -1,12 +1,12 @@
 // Handles, versions and the slot map: what the Rust's SlotMap becomes.
 ghost use mathlib.Core.Path.{_≡_};
-ghost use Prim.Native.Nat.{ℕ, _+_, _*_, _/_, _^_, _≤_, _<_};
+ghost use Prim.Native.Nat.{ℕ, _+_, _*_, _/_, _%_, _^_, _≤_, _<_};
 ghost use lib.Dec.{eqb};
 ghost use lib.ListN.{length};
 ghost use Rattle.basics.specs.Says.{Says};
 ghost use Rattle.basics.specs.Refusals.{pick};
-ghost use Rattle.slots.specs.Map.{wordsFor, usable, taken, givenBack, lowestUsable, usableBelow};
-ghost use Rattle.slots.specs.Slot.{lastVersion, good, nextVersion, nextPhase, emptiedRow, emptiedNums, emptiedMap, SlotHolds, SlotsHold};
+ghost use Rattle.slots.specs.Map.{wordsFor, usable, taken, givenBack, lowestUsable, usableBelow, NonePast};
+ghost use Rattle.slots.specs.Slot.{lastVersion, good, nextVersion, nextPhase, versionAt, phaseAt, emptiedRow, emptiedNums, emptiedMap, SlotHolds, SlotsHold};
 
 pub struct Handle {
     pub slot: u32,
@@ -34,20 +34,27 @@ pub fn is_good(nums: &[[u32; 4]], h: Handle) -> bool
     row[0] == h.version
 }
 
-// The word with bit i alone.
-fn single(i: usize) -> u64
-    requires { ⌜ i < 64 ⌝ }
-    ensures { λ r. ⌜ r ≡ 2 ^ i ⌝ }
+// Words of 64 bits for n slots.
+pub fn words_for(n: usize) -> usize
+    requires { ⌜ n ≤ 4096 ⌝ }
+    ensures { λ r. ⌜ r ≡ wordsFor n ⌝ }
 {
-    1u64 << i
+    (n + 63) / 64
+}
+
+// The bit of slot s, alone in its word.
+fn bit_of(s: usize) -> u64
+    ensures { λ r. ⌜ r ≡ 2 ^ (s % 64) ⌝ }
+{
+    1u64 << (s % 64)
 }
 
 // The lowest usable slot of n: the lowest bit of the first word that has one.
 pub fn lowest(map: &[u64], n: usize) -> Usable
-    requires { ⌜ (length (now map) ≡ 3 + wordsFor n) × (n ≤ 4096) × ((s : ℕ) → s < wordsFor n * 64 → n ≤ s → usable (now map) s ≡ 0) ⌝ }
+    requires { ⌜ (length (now map) ≡ 3 + wordsFor n) × (n ≤ 4096) × NonePast (now map) n ⌝ }
     ensures { λ r. ⌜ r ≡ lowestUsable (now (map .entry)) n ⌝ }
 {
-    let words = (n + 63) / 64;
+    let words = words_for(n);
     let mut w = 0;
     while w < words {
         let x = map[3 + w];
@@ -60,13 +67,43 @@ pub fn lowest(map: &[u64], n: usize) -> Usable
     Usable::Nothing
 }
 
+// How many of n slots are usable: the ones of the words.
+pub fn count_usable(map: &[u64], n: usize) -> usize
+    requires { ⌜ (length (now map) ≡ 3 + wordsFor n) × (n ≤ 4096) ⌝ }
+    ensures { λ r. ⌜ r ≡ usableBelow (now (map .entry)) (wordsFor n * 64) ⌝ }
+{
+    let words = words_for(n);
+    let mut count = 0;
+    let mut w = 0;
+    while w < words {
+        let c = basics::wide(u64::count_ones(map[3 + w]));
+        count += c;
+        w += 1;
+    }
+    count
+}
+
+// Whether the map has slot s as usable.
+pub fn is_usable(map: &[u64], s: usize) -> bool
+    requires { ⌜ 3 + s / 64 < length (now map) ⌝ }
+    ensures { λ r. ⌜ Says r (usable (now (map .entry)) s ≡ 1) ⌝ }
+{
+    let w = 3 + s / 64;
+    let b = s % 64;
+    let x = map[w] >> b;
+    if x % 2 == 1 {
+        return true;
+    }
+    false
+}
+
 // Slot s is usable no more.
 pub fn take(map: &mut [u64], s: usize)
     requires { ⌜ 3 + s / 64 < length (now map) ⌝ }
     ensures { λ _. ⌜ now (map .exit) ≡ taken (now (map .entry)) s ⌝ }
 {
     let w = 3 + s / 64;
-    let m = single(s % 64);
+    let m = bit_of(s);
     let x = map[w];
     map[w] = x ^ (x & m);
 }
@@ -77,7 +114,7 @@ pub fn give_back(map: &mut [u64], s: usize)
     ensures { λ _. ⌜ now (map .exit) ≡ givenBack (now (map .entry)) s ⌝ }
 {
     let w = 3 + s / 64;
-    let m = single(s % 64);
+    let m = bit_of(s);
     map[w] = map[w] | m;
 }
 
@@ -130,4 +167,72 @@ pub fn empty(nums: &mut [[u32; 4]], map: &mut [u64], s: usize)
     let row = nums[s];
     nums[s] = emptied_row(row);
     release(map, s, row[0]);
+}
+
+// Whether a slot holds, by its version, its phase and whether the map has it.
+pub fn slot_ok(version: u32, phase: u32, mapped: bool) -> bool
+    ensures { λ r. ⌜ Says r (SlotHolds version phase (pick mapped 1 0)) ⌝ }
+{
+    if version == 0 {
+        return false;
+    }
+    if phase == 0 {
+        return mapped;
+    }
+    if mapped {
+        return false;
+    }
+    if phase == 1 {
+        return true;
+    }
+    if phase == 2 {
+        if version == 4294967295 {
+            return true;
+        }
+    }
+    false
+}
+
+// Whether no bit past the last of n slots is set: only the last word can have one.
+pub fn past_ok(map: &[u64], n: usize) -> bool
+    requires { ⌜ length (now map) ≡ 3 + wordsFor n ⌝ }
+    ensures { λ r. ⌜ Says r (NonePast (now (map .entry)) n) ⌝ }
+{
+    let b = n % 64;
+    if b == 0 {
+        return true;
+    }
+    let x = map[3 + n / 64] >> b;
+    if x == 0 {
+        return true;
+    }
+    false
+}
+
+// Whether each slot holds.
+fn each_ok(nums: &[[u32; 4]], map: &[u64]) -> bool
+    requires { ⌜ length (now map) ≡ 3 + wordsFor (length (now nums)) ⌝ }
+    ensures { λ r. ⌜ Says r ((s : ℕ) → s < length (now (nums .entry)) → SlotHolds (versionAt (now (nums .entry)) s) (phaseAt (now (nums .entry)) s) (usable (now (map .entry)) s)) ⌝ }
+{
+    let mut i = 0;
+    while i < nums.len() {
+        let row = nums[i];
+        let mapped = is_usable(map, i);
+        if !slot_ok(row[0], row[1], mapped) {
+            return false;
+        }
+        i += 1;
+    }
+    true
+}
+
+// Whether the slots hold, and the map past them.
+pub fn slots_ok(nums: &[[u32; 4]], map: &[u64]) -> bool
+    requires { ⌜ length (now map) ≡ 3 + wordsFor (length (now nums)) ⌝ }
+    ensures { λ r. ⌜ Says r (SlotsHold (now (nums .entry)) (now (map .entry))) ⌝ }
+{
+    if !each_ok(nums, map) {
+        return false;
+    }
+    past_ok(map, nums.len())
 }

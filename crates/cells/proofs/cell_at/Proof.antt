@@ -1,5 +1,5 @@
 -- `cells::cell_at` meets its contract. Assumes nothing.
-use mathlib.Core.Path.{_≡_, ap, _∙_}
+use mathlib.Core.Path.{ap, _∙_}
 use lib.IntN.{ℤ}
 use mir.Facts.{toZ-ofZ}
 use Rattle.cells.specs.CellRule.{cellOf}

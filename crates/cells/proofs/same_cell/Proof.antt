@@ -1,6 +1,5 @@
 -- `cells::same_cell` meets its contract. Assumes nothing.
-use mathlib.Core.Path.{_≡_, sym, _∙_, ap}
-use lib.IntN.{ℤ}
+use mathlib.Core.Path.{sym, _∙_, ap}
 use mir.Syntax.{w32}
 use mir.Val.{toZ, ofZ}
 use Rattle.cells.specs.declared.Cell.{Cell}

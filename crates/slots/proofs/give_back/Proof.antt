@@ -14,4 +14,4 @@ give-back-spec =
     (λ c. search needs)
     (λ c. search needs)
     (λ c. search needs)
-    (λ c. cc (c .before .single .ensures)))
+    (λ c. cc (c .before .bit-of .ensures)))

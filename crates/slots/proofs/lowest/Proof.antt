@@ -16,10 +16,10 @@ Inv-loop map n words w₀ w = (w ≤ words) × (words ≡ wordsFor n) × ((v : �
 abbrev μ-loop : tie.MeasureT-loop
 μ-loop map n words w₀ w = words - w
 
-add-t15 : tie.Need-add-t15 Inv-loop μ-loop
-add-t15 c =
+add-t14 : tie.Need-add-t14 Inv-loop μ-loop
+add-t14 c =
     let l = c .before .before .before .before in
-    omega (arith, c .wide .ensures, trailing-le 64 (getD (l .before .before .args .map .now) (head + l .loop .w) 0))
+    omega (arith, c .wide .ensures, trailing-le 64 (getD (l .before .before .before .args .map .now) (head + l .loop .w) 0))
 
 positive : (n : ℕ) → (n ≡ 0 → ⊥) → 0 < n
 positive zero h = absurd (h refl)
@@ -28,12 +28,12 @@ positive (suc n) h = suc-le-suc zero-le
 returns : tie.Need-returns Inv-loop μ-loop
 returns c =
     let l = c .before .before .before .before in
-    let s = l .before .before in
+    let s = l .before .before .before in
     sym (lowest-in-word (s .args .map .now) (s .args .n) (l .loop .w) (s .pre .2) (l .loop .inv .2) (c .wide .result) (omega arith) (positive _ (c .before .if1 .taken)) (c .before .before .shared-slice-known2 .given (head + l .loop .w) .fits) (c .wide .ensures))
 
 returns-2 : tie.Need-returns-2 Inv-loop μ-loop
 returns-2 c =
-    let s = c .before .before .before in
+    let s = c .before .before .before .before in
     sym (lowest-past-words (s .args .map .now) (s .args .n) (c .before .loop .w) (s .pre .2) (c .before .loop .inv .2) (omega arith))
 
 pub lowest-spec : {M : Type 1} → statement M
@@ -42,14 +42,14 @@ lowest-spec =
     (tie.spec
     Inv-loop
     μ-loop
-    (λ c. omega arith)
-    (λ c. (omega arith, refl, below-none _))
+    (λ c κs. c .before .pre .1)
+    (λ c. (omega arith, c .words-for .ensures, below-none _))
     (λ c. omega arith)
     (λ c. omega arith)
     (λ c. omega arith)
     (λ c κs. tt)
     (λ c. omega arith)
-    add-t15
+    add-t14
     returns
     (λ c. omega arith)
     (λ c. omega arith)

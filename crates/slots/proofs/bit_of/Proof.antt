@@ -1,0 +1,16 @@
+-- `slots::bit_of` meets its contract: a shift of 1 by less than 64 loses no bit. Assumes nothing.
+use Prim.Native.Nat.{_%_}
+use lib.Dec.{lit<}
+use lib.Pow.{shl-exact}
+use mathlib.Core.Path.{_∙_}
+use native.Mathlib.Omega.{arith}
+use native.Mathlib.Nat.{one-mul}
+use borrow.Author.Needs.{needs}
+use Rattle.slots.proofs.bit_of.Statement.{statement}
+use Rattle.slots.proofs.bit_of.Tie as tie
+
+returns : tie.Need-returns
+returns c = shl-exact {a = 1} 1 (c .args .s % 64) 64 (lit< tt) (omega arith) ∙ one-mul _
+
+pub bit-of-spec : {M : Type 1} → statement M
+bit-of-spec = tie.close (tie.spec (λ c. search needs) returns)

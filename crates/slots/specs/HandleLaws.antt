@@ -1,0 +1,70 @@
+-- Handles: when one is good, and that none is good once its slot is emptied. Assumes nothing.
+use Prim.Native.Nat.{ℕ, _+_, _<_}
+use mathlib.Core.Path.{_≡_, refl}
+use mathlib.Core.Bool.{Bool, true, false, _&&_}
+use mathlib.Core.List.{List, []}
+use native.Mathlib.Omega.{arith}
+use lib.Dec.{eqb, ltb}
+use lib.ListN.{length, getD, set, length-set}
+use lib.Seq.{getD-set-same, getD-set-other}
+use borrow.Author.Tests.{ltb-true, eqb-true, lt-ltb, eq-eqb}
+use Rattle.basics.specs.Says.{Says, apart}
+use Rattle.basics.specs.Refusals.{pick}
+use Rattle.slots.specs.Slot.{free, live, retired, lastVersion, versionAt, phaseAt, good, nextVersion, emptiedRow, emptiedNums}
+
+-- a handle is good exactly when its slot is one of the table's, is occupied and at that version
+pub good-says : (nums : List (List ℕ)) (slot version : ℕ) → Says (good nums slot version) ((slot < length nums) × (phaseAt nums slot ≡ live) × (versionAt nums slot ≡ version))
+unfolding good
+good-says nums slot version =
+    let a = ltb slot (length nums) in
+    let b = eqb (phaseAt nums slot) live in
+    let c = eqb (versionAt nums slot) version in
+    record {
+      yes = λ e. (ltb-true slot (length nums) (first a (b && c) e), eqb-true (phaseAt nums slot) live (first b c (second a (b && c) e)), eqb-true (versionAt nums slot) version (second b c (second a (b && c) e)));
+      no = λ h. rw (lt-ltb slot (length nums) (h .0), eq-eqb (phaseAt nums slot) live (h .1), eq-eqb (versionAt nums slot) version (h .2));
+    }
+  where
+    first : (a b : Bool) → (a && b) ≡ true → a ≡ true
+    first true b e = refl
+    first false b e = absurd (apart e)
+
+    second : (a b : Bool) → (a && b) ≡ true → b ≡ true
+    second true b e = e
+    second false b e = absurd (apart e)
+
+-- the row of another slot does not matter
+pub set-good-other : (nums : List (List ℕ)) (s : ℕ) (row : List ℕ) (t v : ℕ) → (t ≡ s → ⊥) → good (set nums s row) t v ≡ good nums t v
+unfolding good
+set-good-other nums s row t v n = rw (length-set nums s row, getD-set-other nums s t row [] n)
+
+-- a slot whose row has it live is good at that row's version, and at no other
+pub set-good-same : (nums : List (List ℕ)) (s : ℕ) (row : List ℕ) (v : ℕ) → s < length nums → getD row 1 0 ≡ live → good (set nums s row) s v ≡ eqb (getD row 0 0) v
+unfolding good
+set-good-same nums s row v i e = rw (length-set nums s row, getD-set-same nums s row [] i, lt-ltb s (length nums) i, eq-eqb (getD row 1 0) live e)
+
+-- ---- emptying
+pub emptied-not-good : (nums : List (List ℕ)) (s v : ℕ) → good (emptiedNums nums s) s v ≡ false
+unfolding good emptiedNums
+emptied-not-good nums s v =
+    rw (length-set nums s (emptiedRow (getD nums s []))) (go (ltb s (length nums)) refl)
+  where
+    no-phase : (b c : Bool) → (eqb (pick b retired free) live && c) ≡ false
+    no-phase true c = refl
+    no-phase false c = refl
+
+    go : (b : Bool) → ltb s (length nums) ≡ b → (b && (eqb (phaseAt (set nums s (emptiedRow (getD nums s []))) s) live && eqb (versionAt (set nums s (emptiedRow (getD nums s []))) s) v)) ≡ false
+    go false e = refl
+    go true e = rw (getD-set-same nums s (emptiedRow (getD nums s [])) [] (ltb-true s (length nums) e)) (no-phase (eqb (versionAt nums s) lastVersion) (eqb (nextVersion (versionAt nums s)) v))
+
+pub emptied-good-other : (nums : List (List ℕ)) (s t v : ℕ) → (t ≡ s → ⊥) → good (emptiedNums nums s) t v ≡ good nums t v
+unfolding emptiedNums
+emptied-good-other nums s t v n = set-good-other nums s (emptiedRow (getD nums s [])) t v n
+
+-- an emptied slot that can be used again is at the next version
+pub emptied-version : (nums : List (List ℕ)) (s : ℕ) → s < length nums → phaseAt (emptiedNums nums s) s ≡ free → versionAt (emptiedNums nums s) s ≡ versionAt nums s + 1
+unfolding emptiedNums
+emptied-version nums s i = rw (getD-set-same nums s (emptiedRow (getD nums s [])) [] i) (go (eqb (versionAt nums s) lastVersion))
+  where
+    go : (b : Bool) → pick b retired free ≡ free → pick b lastVersion (versionAt nums s + 1) ≡ versionAt nums s + 1
+    go true e = absurd (omega arith)
+    go false e = refl
