@@ -2,5 +2,6 @@
 pub mod Columns
 pub mod ColumnLaws
 pub mod Occupied
+pub mod OccupiedLaws
 pub mod Decide
 pub mod States

@@ -2,6 +2,12 @@
 ghost use mathlib.Core.Path.{_≡_};
 ghost use Prim.Native.Nat.{ℕ, _+_, _≤_, _<_};
 ghost use lib.ListN.{length, getD, set};
+ghost use Rattle.basics.specs.Says.{Says};
+ghost use Rattle.cells.specs.Size.{SizeInDomain};
+ghost use Rattle.cells.specs.CellRule.{cellAt};
+ghost use Rattle.cells.specs.Key.{keyOf};
+ghost use Rattle.objects.specs.Occupied.{InDomain, Agrees, Occupied};
+ghost use Rattle.objects.specs.States.{isRemoved, aimed, withState};
 ghost use Rattle.objects.specs.Columns.{tagOf, pendingOf, targetOf, stateOf, recordAt, numsOf, realsOf, intsOf};
 use cells::Cell;
 use geometry::Position;
@@ -113,4 +119,100 @@ pub fn store(
     nums[i] = [r.version, r.phase, r.obj, t];
     reals[i] = [p.x, p.y, q.x, q.y];
     ints[i] = [c.x, c.y, d.x, d.y];
+}
+
+// Whether a position of the domain lies in a cell.
+fn placed(size: u64, p: Position, c: Cell) -> bool
+    requires { ⌜ SizeInDomain size ⌝ }
+    ensures { λ b. ⌜ Says b (InDomain p × (cellAt size p ≡ c)) ⌝ }
+{
+    if !geometry::position_in_domain(p) {
+        return false;
+    }
+    let d = cells::cell_at(size, p);
+    cells::same_cell(d, c)
+}
+
+// Whether a position of the domain lies in a cell that is not c.
+fn relocated(size: u64, p: Position, to: Cell, c: Cell) -> bool
+    requires { ⌜ SizeInDomain size ⌝ }
+    ensures { λ b. ⌜ Says b (InDomain p × (cellAt size p ≡ to) × (to ≡ c → ⊥)) ⌝ }
+{
+    if cells::same_cell(to, c) {
+        return false;
+    }
+    placed(size, p, to)
+}
+
+// Whether what is pending for an object of cell c agrees with the cell rule.
+fn agrees(size: u64, c: Cell, s: State) -> bool
+    requires { ⌜ SizeInDomain size ⌝ }
+    ensures { λ b. ⌜ Says b (Agrees size c s) ⌝ }
+{
+    match s {
+        State::Unchanged => true,
+        State::NewPos(p) => placed(size, p, c),
+        State::Relocate(p, d) => relocated(size, p, d, c),
+        State::Removed => true,
+    }
+}
+
+// Whether an occupied record holds.
+pub fn record_ok(size: u64, r: Record) -> bool
+    requires { ⌜ SizeInDomain size ⌝ }
+    ensures { λ b. ⌜ Says b (Occupied size r) ⌝ }
+{
+    let p = r.position;
+    let c = r.cell;
+    if !placed(size, p, c) {
+        return false;
+    }
+    let s = r.state;
+    agrees(size, c, s)
+}
+
+pub fn is_removed(s: State) -> bool
+    ensures { λ r. ⌜ r ≡ isRemoved s ⌝ }
+{
+    match s {
+        State::Unchanged => false,
+        State::NewPos(_) => false,
+        State::Relocate(_, _) => false,
+        State::Removed => true,
+    }
+}
+
+// What a new position makes pending for an object of cell c.
+pub fn aim(size: u64, c: Cell, at: Position) -> State
+    requires { ⌜ SizeInDomain size × InDomain at ⌝ }
+    ensures { λ r. ⌜ r ≡ aimed size c at ⌝ }
+{
+    let d = cells::cell_at(size, at);
+    if cells::same_cell(d, c) {
+        return State::NewPos(at);
+    }
+    State::Relocate(at, d)
+}
+
+pub fn with_state(r: Record, s: State) -> Record
+    ensures { λ q. ⌜ q ≡ withState r s ⌝ }
+{
+    let p = r.position;
+    let c = r.cell;
+    Record {
+        version: r.version,
+        phase: r.phase,
+        obj: r.obj,
+        position: p,
+        cell: c,
+        state: s,
+    }
+}
+
+// The key of the recorded cell.
+pub fn key_of(r: Record) -> u64
+    ensures { λ k. ⌜ k ≡ keyOf (r .cell) ⌝ }
+{
+    let c = r.cell;
+    cells::key_of(c)
 }

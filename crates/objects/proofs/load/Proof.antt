@@ -1,3 +1,4 @@
+-- `objects::load` meets its contract. Assumes nothing.
 use Prim.Native.Nat.{ℕ}
 use mathlib.Core.List.{List, []}
 use lib.ListN.{getD}
@@ -6,20 +7,12 @@ use lib.IntN.{pos}
 use Rattle.objects.specs.declared.State.{State}
 use Rattle.objects.specs.declared.Record.{Record}
 use Rattle.objects.specs.Columns.{recordOf, stateOf}
-use Prim.Native.Nat.{_<_, _^_}
 use mathlib.Core.Path.{_≡_}
 use lib.IntN.{ℤ}
-use lib.Signed.{mag}
-use mir.Syntax.{w32}
-use mir.Val.{toZ, ofZ, hbits}
-use mir.Facts.{toZ-ofZ}
-use borrow.Author.Needs.{sfits-of}
+use Rattle.objects.proofs.Laws.{back}
 use borrow.Author.Needs.{needs}
 use Rattle.objects.proofs.load.Statement.{statement}
 use Rattle.objects.proofs.load.Tie as tie
-
-back : {z : ℤ} → mag z < 2 ^ hbits w32 → toZ w32 (ofZ w32 z) ≡ z
-back p = toZ-ofZ (sfits-of p)
 
 -- the record that is made of the rows, where each signed number and the state are known by an equation
 made : (n : List ℕ) (q : List Float) (z : List ℤ) (x y u v : ℤ) (s : State) → x ≡ getD z 0 (pos 0) → y ≡ getD z 1 (pos 0) → s ≡ stateOf (getD n 3 0) (record { x = getD q 2 nan; y = getD q 3 nan }) (record { x = u; y = v }) → u ≡ getD z 2 (pos 0) → v ≡ getD z 3 (pos 0) → _≡_ {A = Record} (record { version = getD n 0 0; phase = getD n 1 0; obj = getD n 2 0; position = record { x = getD q 0 nan; y = getD q 1 nan }; cell = record { x = x; y = y }; state = s }) (recordOf n q z)

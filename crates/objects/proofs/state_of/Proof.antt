@@ -1,3 +1,4 @@
+-- `objects::state_of` meets its contract. Assumes nothing.
 use borrow.Author.Tests.{eq-eqb, ne-eqb}
 use Rattle.objects.proofs.state_of.Statement.{statement}
 use Rattle.objects.proofs.state_of.Tie as tie

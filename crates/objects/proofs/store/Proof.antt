@@ -1,24 +1,18 @@
-use Prim.Native.Nat.{ℕ, _<_, _^_}
+-- `objects::store` meets its contract. Assumes nothing.
+use Prim.Native.Nat.{ℕ}
 use mathlib.Core.Path.{_≡_}
 use mathlib.Core.List.{List, [], _∷_}
 use lib.ListN.{set}
 use lib.Ieee.{Float}
 use lib.IntN.{ℤ}
-use lib.Signed.{mag}
-use mir.Syntax.{w32}
-use mir.Val.{toZ, ofZ, hbits}
-use mir.Facts.{toZ-ofZ}
-use borrow.Author.Needs.{sfits-of}
 use Rattle.objects.specs.declared.Record.{Record}
 use Rattle.geometry.specs.declared.Position.{Position}
 use Rattle.cells.specs.declared.Cell.{Cell}
 use Rattle.objects.specs.Columns.{tagOf, pendingOf, targetOf, numsOf, realsOf, intsOf}
+use Rattle.objects.proofs.Laws.{back}
 use borrow.Author.Needs.{needs}
 use Rattle.objects.proofs.store.Statement.{statement}
 use Rattle.objects.proofs.store.Tie as tie
-
-back : {z : ℤ} → mag z < 2 ^ hbits w32 → toZ w32 (ofZ w32 z) ≡ z
-back p = toZ-ofZ (sfits-of p)
 
 made : (ns : List (List ℕ)) (qs : List (List Float)) (zs : List (List ℤ)) (i : ℕ) (r : Record) (t : ℕ) (q : Position) (d : Cell) (x y u v : ℤ) → t ≡ tagOf (r .state) → q ≡ pendingOf (r .state) (r .position) → d ≡ targetOf (r .state) (r .cell) → x ≡ r .cell .x → y ≡ r .cell .y → u ≡ d .x → v ≡ d .y → (set ns i (r .version ∷ r .phase ∷ r .obj ∷ t ∷ []) ≡ set ns i (numsOf r)) × (set qs i (r .position .x ∷ r .position .y ∷ q .x ∷ q .y ∷ []) ≡ set qs i (realsOf r)) × (set zs i (x ∷ y ∷ u ∷ v ∷ []) ≡ set zs i (intsOf r))
 made ns qs zs i r t q d x y u v et eq ed ex ey eu ev = (cc, cc, cc)

@@ -1,0 +1,2 @@
+-- The laws that the proofs of objects share.
+pub mod Laws

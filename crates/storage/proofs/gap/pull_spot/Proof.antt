@@ -1,0 +1,14 @@
+-- `storage::gap::pull_spot` meets its contract. Assumes nothing.
+use mathlib.Core.Path.{_∙_}
+use lib.ListN.{length-set}
+use borrow.Author.Needs.{needs}
+use Rattle.storage.proofs.gap.pull_spot.Statement.{statement}
+use Rattle.storage.proofs.gap.pull_spot.Tie as tie
+
+same-length : tie.Need-same-length
+same-length c = c .before .close-spot .kept .0 ∙ simp length-set
+
+pub pull-spot-spec : {M : Type 1} → statement M
+pull-spot-spec =
+    tie.close
+    (tie.spec (λ c. search needs) (λ c. search needs) (λ c. search needs) (λ c. search needs) (λ c κs. search needs) same-length (λ c. search needs))

@@ -1,0 +1,107 @@
+-- What a projection makes of a list that is kept by keys: if it keeps the keys, it goes through `onList`, `append1` and `takeOut`, so
+-- that columns that are changed alike stay one list. Assumes nothing.
+use Prim.Native.Nat.{ℕ, _≤_}
+use mathlib.Core.Path.{_≡_, refl, sym, _∙_, ap, ap₂}
+use mathlib.Core.Bool.{Bool}
+use mathlib.Core.List.{List, [], _∷_, _++_, map, map-append}
+use native.Mathlib.Nat.{not-suc-le-zero, le-of-suc-le-suc}
+use lib.Dec.{ltb, eqb}
+use lib.Ieee.{Float}
+use lib.ListN.{length}
+use Rattle.storage.specs.Keyed.{under, below, above, onList, append1, appendAll, last, front, close, takeOut}
+use Rattle.storage.specs.Entries.{Entry, rowKey, entryKey, rowOf, spotOf, zipped}
+use Rattle.storage.specs.CellTable.{keysFrom, keysOf}
+use Rattle.storage.specs.FilterLaws.{by-test, all-any, filter-same, filter-map}
+
+module _ {A B : Type 0} (f : A → B) where
+  map-last : (x : A) (l : List A) → f (last x l) ≡ last (f x) (map f l)
+  map-last x [] = refl
+  map-last x (y ∷ l) = map-last y l
+
+  map-front : (x : A) (l : List A) → map f (front x l) ≡ front (f x) (map f l)
+  map-front x [] = refl
+  map-front x (y ∷ l) = ap (λ m. f x ∷ m) (map-front y l)
+
+  pub map-close : (l : List A) → map f (close l) ≡ close (map f l)
+  map-close [] = refl
+  map-close (x ∷ l) = ap₂ {C = List B} (λ (y : B) (m : List B). y ∷ m) (map-last x l) (map-front x l)
+
+  pub map-takeOut : (test : B → Bool) (l : List A) → map f (takeOut (λ x. test (f x)) l) ≡ takeOut test (map f l)
+  map-takeOut test [] = refl
+  map-takeOut test (x ∷ l) =
+      by-test (test (f x))
+      (λ e. rw e (map-close l))
+      (λ e. rw e (ap (λ m. f x ∷ m) (map-takeOut test l)))
+
+  module _ (keyA : A → ℕ) (keyB : B → ℕ) (keeps : (x : A) → keyB (f x) ≡ keyA x) where
+    pub map-under : (k : ℕ) (l : List A) → map f (under keyA k l) ≡ under keyB k (map f l)
+    map-under k l =
+        sym (filter-map (λ y. eqb (keyB y) k) f l
+        ∙ ap (map f) (filter-same (λ x. eqb (keyB (f x)) k) (λ x. eqb (keyA x) k) l (all-any (λ x. eqb (keyB (f x)) k ≡ eqb (keyA x) k) (λ x. ap (λ j. eqb j k) (keeps x)) l)))
+
+    pub map-below : (k : ℕ) (l : List A) → map f (below keyA k l) ≡ below keyB k (map f l)
+    map-below k l =
+        sym (filter-map (λ y. ltb (keyB y) k) f l
+        ∙ ap (map f) (filter-same (λ x. ltb (keyB (f x)) k) (λ x. ltb (keyA x) k) l (all-any (λ x. ltb (keyB (f x)) k ≡ ltb (keyA x) k) (λ x. ap (λ j. ltb j k) (keeps x)) l)))
+
+    pub map-above : (k : ℕ) (l : List A) → map f (above keyA k l) ≡ above keyB k (map f l)
+    map-above k l =
+        sym (filter-map (λ y. ltb k (keyB y)) f l
+        ∙ ap (map f) (filter-same (λ x. ltb k (keyB (f x))) (λ x. ltb k (keyA x)) l (all-any (λ x. ltb k (keyB (f x)) ≡ ltb k (keyA x)) (λ x. ap (λ j. ltb k j) (keeps x)) l)))
+
+    pub map-onList : (k : ℕ) (g : List A → List A) (h : List B → List B) → ((r : List A) → map f (g r) ≡ h (map f r)) → (l : List A)
+        → map f (onList keyA k g l) ≡ onList keyB k h (map f l)
+    unfolding onList
+    map-onList k g h c l =
+        rw (map-append f (below keyA k l) (g (under keyA k l) ++ above keyA k l), map-append f (g (under keyA k l)) (above keyA k l), c (under keyA k l), map-below k l, map-under k l, map-above k l)
+
+    pub map-onList-takeOut : (k : ℕ) (test : B → Bool) (l : List A) → map f (onList keyA k (takeOut (λ x. test (f x))) l) ≡ onList keyB k (takeOut test) (map f l)
+    map-onList-takeOut k test l = map-onList k (takeOut (λ x. test (f x))) (takeOut test) (map-takeOut test) l
+
+    pub map-append1 : (l : List A) (e : A) → map f (append1 keyA l e) ≡ append1 keyB (map f l) (f e)
+    unfolding append1
+    map-append1 l e = rw (keeps e) (map-onList (keyA e) (λ r. r ++ (e ∷ [])) (λ r. r ++ (f e ∷ [])) (λ r. map-append f r (e ∷ [])) l)
+
+    pub map-appendAll : (l es : List A) → map f (appendAll keyA l es) ≡ appendAll keyB (map f l) (map f es)
+    unfolding appendAll
+    map-appendAll l [] = refl
+    map-appendAll l (e ∷ es) = map-appendAll (append1 keyA l e) es ∙ ap (λ m. appendAll keyB m (map f es)) (map-append1 l e)
+
+    keys-from : (k : ℕ) (l : List A) → keysFrom keyB k (map f l) ≡ keysFrom keyA k l
+    keys-from k [] = refl
+    keys-from k (x ∷ l) = rw (keeps x, keys-from k l, keys-from (keyA x) l)
+
+    pub map-keys : (l : List A) → keysOf keyB (map f l) ≡ keysOf keyA l
+    unfolding keysOf
+    map-keys [] = refl
+    map-keys (x ∷ l) = rw (keeps x) (ap (λ m. keyA x ∷ m) (keys-from (keyA x) l))
+
+-- ---- the two columns of the pool
+pub zipped-rows : (rows : List (List ℕ)) (spots : List (List Float)) → length rows ≤ length spots → map rowOf (zipped rows spots) ≡ rows
+zipped-rows [] spots h = refl
+zipped-rows (r ∷ rows) [] h = absurd (not-suc-le-zero h)
+zipped-rows (r ∷ rows) (s ∷ spots) h = ap (λ (m : List (List ℕ)). r ∷ m) (zipped-rows rows spots (le-of-suc-le-suc h))
+
+pub zipped-spots : (rows : List (List ℕ)) (spots : List (List Float)) → length spots ≤ length rows → map spotOf (zipped rows spots) ≡ spots
+zipped-spots rows [] h = none rows
+  where
+    none : (rows : List (List ℕ)) → map spotOf (zipped rows []) ≡ []
+    none [] = refl
+    none (r ∷ rows) = refl
+zipped-spots [] (s ∷ spots) h = absurd (not-suc-le-zero h)
+zipped-spots (r ∷ rows) (s ∷ spots) h = ap (λ (m : List (List Float)). s ∷ m) (zipped-spots rows spots (le-of-suc-le-suc h))
+
+-- a list of entries is its two columns
+pub zipped-whole : (es : List Entry) → zipped (map rowOf es) (map spotOf es) ≡ es
+zipped-whole [] = refl
+zipped-whole (e ∷ es) = ap (λ (m : List Entry). e ∷ m) (zipped-whole es)
+
+module _ (l : List Entry) where
+  pub rows-append1 : (e : Entry) → map rowOf (append1 entryKey l e) ≡ append1 rowKey (map rowOf l) (rowOf e)
+  rows-append1 e = map-append1 rowOf entryKey rowKey (λ x. refl) l e
+
+  pub rows-appendAll : (es : List Entry) → map rowOf (appendAll entryKey l es) ≡ appendAll rowKey (map rowOf l) (map rowOf es)
+  rows-appendAll es = map-appendAll rowOf entryKey rowKey (λ x. refl) l es
+
+  pub rows-takeOut : (k : ℕ) (test : List ℕ → Bool) → map rowOf (onList entryKey k (takeOut (λ e. test (rowOf e))) l) ≡ onList rowKey k (takeOut test) (map rowOf l)
+  rows-takeOut k test = map-onList-takeOut rowOf entryKey rowKey (λ x. refl) k test l

@@ -1,0 +1,101 @@
+// The table of the cells in use: a row (key, mark) for each, in the order of the keys.
+ghost use mathlib.Core.Path.{_≡_};
+ghost use Prim.Native.Nat.{_≤_, _<_};
+ghost use lib.ListN.{length, take};
+ghost use Rattle.basics.specs.Says.{Says};
+ghost use Rattle.storage.specs.Keyed.{Sorted, under, written};
+ghost use Rattle.storage.specs.Entries.{rowKey};
+ghost use Rattle.storage.specs.Packed.{first};
+ghost use Rattle.storage.specs.Store.{Filled};
+ghost use Rattle.storage.specs.Tables.{Rising};
+ghost use Rattle.storage.specs.CellTable.{entered, dropped, marked, fresh};
+ghost use Rattle.storage.specs.Checked.{Begins};
+use crate::find::key_at;
+use crate::find::lower_bound;
+use crate::gap::close_row;
+use crate::gap::open_row;
+
+// Whether the row at a place is there and has the key.
+fn is_key(rows: &[[u64; 2]], k: usize, at: usize, key: u64) -> bool
+    requires { ⌜ k ≤ length (now rows) ⌝ }
+    ensures { λ b. ⌜ Says b ((at < k) × (first (now (rows .entry)) at ≡ key)) ⌝ }
+{
+    if k <= at {
+        return false;
+    }
+    key_at(rows, at) == key
+}
+
+// Whether some row has the key.
+pub fn has_key(rows: &[[u64; 2]], k: usize, key: u64) -> bool
+    requires { ⌜ (k ≤ length (now rows)) × Sorted rowKey (take k (now rows)) ⌝ }
+    ensures { λ b. ⌜ Says b (Filled (under rowKey key (take k (now (rows .entry))))) ⌝ }
+{
+    let at = lower_bound(rows, k, key);
+    is_key(rows, k, at, key)
+}
+
+// The cell has a row: a new one has no mark. Returns how many rows there are.
+pub fn enter_cell(cells: &mut [[u64; 2]], rows: usize, key: u64) -> usize
+    requires { ⌜ (rows < length (now cells)) × Sorted rowKey (take rows (now cells)) ⌝ }
+    ensures { λ r. ⌜ (r ≡ length (entered key (take rows (now (cells .entry))))) × (now (cells .exit) ≡ written (entered key (take rows (now (cells .entry)))) (now (cells .entry))) ⌝ }
+{
+    let at = lower_bound(cells, rows, key);
+    if is_key(cells, rows, at, key) {
+        return rows;
+    }
+    open_row(cells, at, rows, [key, 0]);
+    rows + 1
+}
+
+// The cell has no row. Returns how many rows there are.
+pub fn drop_cell(cells: &mut [[u64; 2]], rows: usize, key: u64) -> usize
+    requires { ⌜ (rows ≤ length (now cells)) × Rising rowKey (take rows (now cells)) ⌝ }
+    ensures { λ r. ⌜ (r ≡ length (dropped key (take rows (now (cells .entry))))) × (now (cells .exit) ≡ written (dropped key (take rows (now (cells .entry)))) (now (cells .entry))) ⌝ }
+{
+    let at = lower_bound(cells, rows, key);
+    if is_key(cells, rows, at, key) {
+        close_row(cells, at, rows);
+        return rows - 1;
+    }
+    rows
+}
+
+// The cell's mark is set, if it has a row.
+pub fn mark_cell(cells: &mut [[u64; 2]], rows: usize, key: u64)
+    requires { ⌜ (rows ≤ length (now cells)) × Rising rowKey (take rows (now cells)) ⌝ }
+    ensures { λ _. ⌜ now (cells .exit) ≡ written (marked key (take rows (now (cells .entry)))) (now (cells .entry)) ⌝ }
+{
+    let at = lower_bound(cells, rows, key);
+    if is_key(cells, rows, at, key) {
+        cells[at] = [key, 1];
+    }
+}
+
+// Whether an entry begins a list.
+fn begins(pool: &[[u64; 2]], j: usize) -> bool
+    requires { ⌜ j < length (now pool) ⌝ }
+    ensures { λ b. ⌜ Says b (Begins (now (pool .entry)) j) ⌝ }
+{
+    if j == 0 {
+        return true;
+    }
+    key_at(pool, j - 1) != key_at(pool, j)
+}
+
+// The table of the pool, with no mark set. Returns how many rows there are.
+pub fn rebuild(cells: &mut [[u64; 2]], pool: &[[u64; 2]], used: usize) -> usize
+    requires { ⌜ (used ≤ length (now pool)) × (length (fresh (take used (now pool))) ≤ length (now cells)) ⌝ }
+    ensures { λ r. ⌜ (r ≡ length (fresh (take used (now (pool .entry))))) × (now (cells .exit) ≡ written (fresh (take used (now (pool .entry)))) (now (cells .entry))) ⌝ }
+{
+    let mut rows = 0;
+    let mut j = 0;
+    while j < used {
+        if begins(pool, j) {
+            cells[rows] = [key_at(pool, j), 0];
+            rows += 1;
+        }
+        j += 1;
+    }
+    rows
+}

@@ -1,0 +1,86 @@
+// The walk of a range of cells: the entries of one row of cells after those of another, each found by its place.
+// A range goes from the key `low` of the lower left cell to the key `high` of the upper right one.
+ghost use mathlib.Core.Path.{_≡_};
+ghost use mathlib.Core.Bool.{true};
+ghost use Prim.Native.Nat.{_≤_, _<_};
+ghost use lib.ListN.{length, take};
+ghost use Rattle.storage.specs.Keyed.{Sorted};
+ghost use Rattle.storage.specs.Entries.{rowKey};
+ghost use Rattle.storage.specs.Packed.{first};
+ghost use Rattle.storage.specs.Window.{columnOf, lineOf, inWindow};
+ghost use Rattle.storage.specs.Run.{NextKey, FirstIn, RunEnd, NextRun};
+use crate::Run;
+use crate::find::key_at;
+use crate::find::lower_bound_from;
+
+// The key itself if it is in the range; else the next one that may be.
+fn next_key(key: u64, low: u64, high: u64) -> u64
+    requires { ⌜ key ≤ high ⌝ }
+    ensures { λ r. ⌜ NextKey (columnOf low) (lineOf low) (columnOf high) (lineOf high) key r ⌝ }
+{
+    let x = key % 4294967296;
+    let y = key / 4294967296;
+    if y < low / 4294967296 {
+        return low;
+    }
+    let start = low % 4294967296;
+    if x < start {
+        return y * 4294967296 + start;
+    }
+    if high % 4294967296 < x {
+        return (y + 1) * 4294967296 + start;
+    }
+    key
+}
+
+// The first place from `i` on whose entry is in the range, or `used`.
+fn first_in(pool: &[[u64; 2]], used: usize, i: usize, low: u64, high: u64) -> usize
+    requires { ⌜ (i ≤ used) × (used ≤ length (now pool)) × Sorted rowKey (take used (now pool)) ⌝ }
+    ensures { λ r. ⌜ FirstIn (now (pool .entry)) used i (columnOf low) (lineOf low) (columnOf high) (lineOf high) r ⌝ }
+{
+    let mut p = i;
+    while p < used {
+        let key = key_at(pool, p);
+        if high < key {
+            return used;
+        }
+        let next = next_key(key, low, high);
+        if next == key {
+            return p;
+        }
+        p = lower_bound_from(pool, p, used, next);
+    }
+    p
+}
+
+// The end of the entries from `from` on that are in the row of cells of that entry, and in the range.
+fn run_end(pool: &[[u64; 2]], used: usize, from: usize, low: u64, high: u64) -> usize
+    requires { ⌜ (from < used) × (used ≤ length (now pool)) × Sorted rowKey (take used (now pool)) × (inWindow (columnOf low) (lineOf low) (columnOf high) (lineOf high) (first (now pool) from) ≡ true) ⌝ }
+    ensures { λ r. ⌜ RunEnd (now (pool .entry)) used from (columnOf low) (lineOf low) (columnOf high) (lineOf high) r ⌝ }
+{
+    let last = key_at(pool, from) / 4294967296 * 4294967296 + high % 4294967296;
+    let mut to = from + 1;
+    while to < used {
+        if last < key_at(pool, to) {
+            return to;
+        }
+        to += 1;
+    }
+    to
+}
+
+// The next entries of the range from place `i` on: a stretch of the pool within one row of cells.
+pub fn next_run(pool: &[[u64; 2]], used: usize, i: usize, low: u64, high: u64) -> Run
+    requires { ⌜ (i ≤ used) × (used ≤ length (now pool)) × Sorted rowKey (take used (now pool)) ⌝ }
+    ensures { λ r. ⌜ NextRun (now (pool .entry)) used i (columnOf low) (lineOf low) (columnOf high) (lineOf high) r ⌝ }
+{
+    let from = first_in(pool, used, i, low, high);
+    if from == used {
+        return Run {
+            from: used,
+            to: used,
+        };
+    }
+    let to = run_end(pool, used, from, low, high);
+    Run { from: from, to: to }
+}
