@@ -20,7 +20,7 @@ use Rattle.storage.specs.CellTable.{entered}
 use Rattle.objects.specs.declared.State.the-variants.{Unchanged}
 use Rattle.objects.specs.declared.Record.{Record}
 use Rattle.objects.specs.Columns.{numsOf, realsOf, intsOf}
-use Rattle.point_tables.specs.Tables.{Tables, tables, sizeOf, slotsOf, entriesIn, cellRows}
+use Rattle.point_tables.specs.Tables.{Tables, tables, counting, sizeOf, slotsOf, entriesIn, cellRows}
 use Rattle.point_tables.specs.Decide.{holds}
 use Rattle.point_tables.specs.Outcome.{Outcome, outcome}
 use Rattle.inserts.specs.declared.Inserted.{Inserted}
@@ -53,10 +53,6 @@ entriesWith t s p = append1 entryKey (entriesIn t) (newEntry t s p)
 
 abbrev pub rowsWith : Tables → Position → List (List ℕ)
 rowsWith t p = entered (keyOf (cellAt (sizeOf t) p)) (cellRows t)
-
--- the map's head words: entries and cells in use
-abbrev pub counting : List ℕ → ℕ → ℕ → List ℕ
-counting m used rows = set (set m 1 used) 2 rows
 
 unfoldable pub put : Tables → ℕ → Position → ℕ → Tables
 put t s p d =

@@ -1,3 +1,15 @@
--- What building and inserting answer and leave.
+-- What building and inserting answer and leave, and that both keep the tables holding a grid.
 pub mod New
 pub mod Insert
+pub mod Fresh
+pub mod FreeWordLaws
+pub mod NewLaws
+pub mod Members
+pub mod RowLaws
+pub mod EnterLaws
+pub mod EntryLaws
+pub mod Pigeons
+pub mod ListedLaws
+pub mod PutLaws
+pub mod InsertKeeps
+pub mod InsertLaws

@@ -1,3 +1,15 @@
 -- What the deferred calls answer and leave.
 pub mod Moves
 pub mod Batch
+pub mod MovesLaws
+pub mod MovesKeeps
+pub mod AnswerLaws
+pub mod AgainLaws
+pub mod BatchAnswers
+-- what the working code does, and that it is the calls
+pub mod Ready
+pub mod ReadyLaws
+pub mod PendedLaws
+pub mod Held
+pub mod HeldLaws
+pub mod BatchLaws

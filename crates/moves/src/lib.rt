@@ -1,6 +1,72 @@
-// The deferred calls of trackers: `set_position`, `remove`, and a batch of them.
+// The deferred calls of trackers: `set_position`, `remove`, and a batch of them. Nothing moves before maintain.
+// The caller has checked whether the tables hold a grid, and hands the verdict down as `held`.
+ghost use mathlib.Core.Path.{_≡_};
+ghost use Rattle.point_tables.specs.Lent.{lent};
+ghost use Rattle.point_tables.specs.Decide.{holds};
+ghost use Rattle.point_tables.specs.Outcome.{outcome};
+ghost use Rattle.moves.specs.Moves.{reply, setPositionOf, removeOf};
+
+mod batches;
+mod call;
+
+pub use batches::batch;
+use geometry::Position;
+use slots::Handle;
+
 // The data of an object beside the answer.
 pub struct Reply {
     pub answer: u32,
     pub obj: u32,
+}
+
+// The answer of a batch, and with 0 and 9 the number of its calls.
+pub struct BatchReply {
+    pub answer: u32,
+    pub count: u64,
+}
+
+// The object takes `at` as its new position, pending: a relocation if the cell of `at` is not its recorded cell.
+pub fn set_position(
+    nums: &mut [[u32; 4]],
+    reals: &mut [[f32; 4]],
+    ints: &mut [[i32; 4]],
+    map: &[u64],
+    pool: &[[u64; 2]],
+    spots: &[[f32; 2]],
+    cells: &mut [[u64; 2]],
+    held: bool,
+    h: Handle,
+    at: Position,
+) -> u32
+    requires { ⌜ held ≡ holds (lent nums reals ints map pool spots cells) ⌝ }
+    ensures { λ r. ⌜ outcome (reply r 0) (lent (nums .exit) (reals .exit) (ints .exit) (map .entry) (pool .entry) (spots .entry) (cells .exit)) ≡ setPositionOf (lent (nums .entry) (reals .entry) (ints .entry) (map .entry) (pool .entry) (spots .entry) (cells .entry)) h at ⌝ }
+{
+    if !held {
+        return 3;
+    }
+    let r = call::deferred(nums, reals, ints, map, cells, 0, h, at);
+    r.answer
+}
+
+// The object is marked as removed, and its data returned; a second one before maintain returns it again.
+pub fn remove(
+    nums: &mut [[u32; 4]],
+    reals: &mut [[f32; 4]],
+    ints: &mut [[i32; 4]],
+    map: &[u64],
+    pool: &[[u64; 2]],
+    spots: &[[f32; 2]],
+    cells: &mut [[u64; 2]],
+    held: bool,
+    h: Handle,
+) -> Reply
+    requires { ⌜ held ≡ holds (lent nums reals ints map pool spots cells) ⌝ }
+    ensures { λ r. ⌜ outcome r (lent (nums .exit) (reals .exit) (ints .exit) (map .entry) (pool .entry) (spots .entry) (cells .exit)) ≡ removeOf (lent (nums .entry) (reals .entry) (ints .entry) (map .entry) (pool .entry) (spots .entry) (cells .entry)) h ⌝ }
+{
+    if !held {
+        return Reply { answer: 3, obj: 0 };
+    }
+    // a removal looks at no position
+    let nowhere = Position { x: 0.0, y: 0.0 };
+    call::deferred(nums, reals, ints, map, cells, 1, h, nowhere)
 }

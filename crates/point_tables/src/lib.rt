@@ -1,1 +1,173 @@
 // The tables of a point grid, and the check that they hold one.
+ghost use mathlib.Core.Path.{_≡_};
+ghost use mathlib.Core.Bool.{true, false};
+ghost use Prim.Native.Nat.{ℕ, _+_, _/_, _≤_, _<_};
+ghost use lib.ListN.{length, getD};
+ghost use Rattle.basics.specs.Says.{Says};
+ghost use Rattle.cells.specs.Size.{SizeInDomain};
+ghost use Rattle.point_tables.specs.Tables.{tables, Lengths};
+ghost use Rattle.point_tables.specs.Decide.{holds};
+ghost use Rattle.point_tables.specs.Check.{Counts, LiveOk, SlotOk, SlotsOk, Room};
+
+// Whether the tables have the lengths of n slots.
+pub fn lengths_ok(
+    n: usize,
+    reals: usize,
+    ints: usize,
+    map: usize,
+    pool: usize,
+    spots: usize,
+    cells: usize,
+) -> bool
+    ensures { λ b. ⌜ Says b (Lengths n reals ints map pool spots cells) ⌝ }
+{
+    if n < 1 {
+        return false;
+    }
+    if 4096 < n {
+        return false;
+    }
+    if reals != n {
+        return false;
+    }
+    if ints != n {
+        return false;
+    }
+    if map != 3 + (n + 63) / 64 {
+        return false;
+    }
+    if pool != n {
+        return false;
+    }
+    if spots != n {
+        return false;
+    }
+    cells == n
+}
+
+// Whether the cell size is in its limits and the counts are within n.
+fn counts_ok(n: usize, size: u64, used: usize, rows: usize) -> bool
+    ensures { λ b. ⌜ Says b (Counts n size used rows) ⌝ }
+{
+    if !cells::size_in_domain(size) {
+        return false;
+    }
+    if n < used {
+        return false;
+    }
+    rows <= n
+}
+
+// Whether an occupied slot, which an entry names if it is listed, holds.
+fn live_ok(
+    nums: &[[u32; 4]],
+    reals: &[[f32; 4]],
+    ints: &[[i32; 4]],
+    size: u64,
+    s: usize,
+    listed: bool,
+) -> bool
+    requires { ⌜ (s < length (now nums)) × (s < length (now reals)) × (s < length (now ints)) × SizeInDomain size ⌝ }
+    ensures { λ b. ⌜ Says b (LiveOk (now (nums .entry)) (now (reals .entry)) (now (ints .entry)) size s listed) ⌝ }
+{
+    if !listed {
+        return false;
+    }
+    let n = nums[s];
+    if 3 < n[3] {
+        return false;
+    }
+    let r = objects::load(nums, reals, ints, s);
+    objects::record_ok(size, r)
+}
+
+fn slot_ok(
+    nums: &[[u32; 4]],
+    reals: &[[f32; 4]],
+    ints: &[[i32; 4]],
+    map: &[u64],
+    size: u64,
+    s: usize,
+    listed: bool,
+) -> bool
+    requires { ⌜ (s < length (now nums)) × (s < length (now reals)) × (s < length (now ints)) × SizeInDomain size × (3 + s / 64 < length (now map)) ⌝ }
+    ensures { λ b. ⌜ Says b (SlotOk (now (nums .entry)) (now (reals .entry)) (now (ints .entry)) (now (map .entry)) size s listed) ⌝ }
+{
+    let n = nums[s];
+    let mapped = slots::is_usable(map, s);
+    if !slots::slot_ok(n[0], n[1], mapped) {
+        return false;
+    }
+    if n[1] != 1 {
+        return true;
+    }
+    live_ok(nums, reals, ints, size, s, listed)
+}
+
+// Whether every slot holds, and every occupied one is marked as named by an entry.
+fn slots_ok(
+    nums: &[[u32; 4]],
+    reals: &[[f32; 4]],
+    ints: &[[i32; 4]],
+    map: &[u64],
+    marks: &[bool; 4096],
+) -> bool
+    requires { ⌜ Room (now nums) (now reals) (now ints) (now map) ⌝ }
+    ensures { λ b. ⌜ Says b (SlotsOk (now (nums .entry)) (now (reals .entry)) (now (ints .entry)) (now (map .entry)) (now (marks .entry))) ⌝ }
+{
+    let size = map[0];
+    let mut i = 0;
+    while i < nums.len() {
+        let listed = marks[i];
+        if !slot_ok(nums, reals, ints, map, size, i, listed) {
+            return false;
+        }
+        i += 1;
+    }
+    slots::past_ok(map, nums.len())
+}
+
+// Whether the tables hold a grid.
+pub fn check(
+    nums: &[[u32; 4]],
+    reals: &[[f32; 4]],
+    ints: &[[i32; 4]],
+    map: &[u64],
+    pool: &[[u64; 2]],
+    spots: &[[f32; 2]],
+    cells: &[[u64; 2]],
+) -> bool
+    ensures { λ b. ⌜ b ≡ holds (tables (now (nums .entry)) (now (reals .entry)) (now (ints .entry)) (now (map .entry)) (now (pool .entry)) (now (spots .entry)) (now (cells .entry))) ⌝ }
+{
+    if !lengths_ok(
+        nums.len(),
+        reals.len(),
+        ints.len(),
+        map.len(),
+        pool.len(),
+        spots.len(),
+        cells.len(),
+    ) {
+        return false;
+    }
+    let used = basics::index_of(map[1]);
+    let rows = basics::index_of(map[2]);
+    if !counts_ok(nums.len(), map[0], used, rows) {
+        return false;
+    }
+    let mut marks = [false; 4096];
+    if !pool_pass::pool_ok(
+        nums,
+        reals,
+        ints,
+        pool,
+        spots,
+        cells,
+        used,
+        rows,
+        &mut marks,
+    ) {
+        return false;
+    }
+    slots_ok(nums, reals, ints, map, &marks)
+}

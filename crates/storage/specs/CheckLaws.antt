@@ -6,7 +6,7 @@ use native.Mathlib.Omega.{arith}
 use borrow.Author.Count.{below-none, below-more}
 use Rattle.storage.specs.FilterLaws.{by-order}
 use Rattle.storage.specs.Packed.{first, second, Packed}
-use Rattle.storage.specs.Checked.{RowFine, RowsFine, Begins, RowStep, stays, steps, fails, Lists}
+use Rattle.storage.specs.Checked.{RowFine, RowsFine, RowStep, stays, steps, fails, Lists}
 
 -- ---- the rows by themselves
 pub fine-none : (cells : List (List ℕ)) → RowsFine cells 0

@@ -1,5 +1,5 @@
 -- A key cuts a sorted list by place: below the key's first place the keys are less, and from it on they are not. Assumes nothing.
-use Prim.Native.Nat.{ℕ, zero, suc, _+_, _<_, _≤_}
+use Prim.Native.Nat.{ℕ, zero, suc, _<_, _≤_}
 use mathlib.Core.Path.{_≡_, refl, sym, _∙_, ap}
 use mathlib.Core.List.{List, [], _∷_, _++_, append-assoc, append-nil}
 use native.Mathlib.Omega.{arith}
@@ -8,7 +8,7 @@ use lib.Dec.{ltb}
 use lib.ListN.{length, getD, take, drop}
 use lib.Seq.{take-at, drop-at, length-take-le, getD-take}
 use borrow.Author.Tests.{lt-ltb, le-ltb}
-use Rattle.storage.specs.Keyed.{All, Sorted, below, under, above}
+use Rattle.storage.specs.Keyed.{Sorted, below, under, above}
 use Rattle.storage.specs.Places.{endOf}
 use Rattle.storage.specs.FilterLaws.{by-test, all-map, all-append, all-at, filter-append, filter-length}
 use Rattle.storage.specs.KeyedLaws.{all-below, all-under, all-above, none-below, whole-below, sorted-parts}

@@ -1,13 +1,13 @@
 -- How a loop that moves one element a turn opens a gap, and closes one: the laws that the loop's invariant goes by, for any type of
 -- elements. Assumes nothing.
 use Prim.Native.Nat.{ℕ, zero, suc, _+_, _-_, _<_, _≤_}
-use mathlib.Core.Path.{_≡_, refl, sym, _∙_, ap}
-use mathlib.Core.List.{List, [], _∷_, _++_, append-assoc, append-nil}
+use mathlib.Core.Path.{_≡_, sym, _∙_, ap}
+use mathlib.Core.List.{List, [], _∷_, _++_, append-assoc}
 use native.Mathlib.Omega.{arith}
 use native.Mathlib.Numerals.{add-one, sub-one}
 use native.Mathlib.Nat.{not-suc-le-zero}
 use lib.ListN.{length, getD, set, take, drop, length-append, List·getD-append, take-append-drop}
-use lib.Seq.{slice, slice-empty, slice-cons, length-slice, set-at, take-suc, drop-cons, split-at, getD-take, getD-at, getD-append-add, getD-drop, drop-append-le, append-snoc, length-take-le}
+use lib.Seq.{slice, slice-empty, slice-cons, length-slice, set-at, take-suc, drop-cons, split-at, getD-take, getD-append-add, getD-drop, drop-append-le, append-snoc, length-take-le}
 use Rattle.storage.specs.Places.{opened, closed}
 
 -- `closed` in the terms of the last place j that moved

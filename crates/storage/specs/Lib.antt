@@ -44,5 +44,6 @@ pub mod TableMoveLaws
 pub mod CheckLaws
 pub mod RunLaws
 pub mod RebuildLaws
+pub mod RunStepLaws
 pub mod PackedDecide
 pub mod WrittenLaws

@@ -1,18 +1,17 @@
 -- Appending and taking out, as moves of places; and what they do to each column of a table whose used part is a sorted list.
 -- Assumes nothing.
-use Prim.Native.Nat.{ℕ, zero, suc, _+_, _-_, _<_, _≤_}
+use Prim.Native.Nat.{ℕ, suc, _+_, _-_, _<_, _≤_}
 use mathlib.Core.Path.{_≡_, refl, sym, _∙_, ap}
 use mathlib.Core.Bool.{Bool, true, false}
-use mathlib.Core.List.{List, [], _∷_, _++_, map, append-assoc, append-nil}
+use mathlib.Core.List.{List, [], _∷_, _++_, append-assoc}
 use native.Mathlib.Omega.{arith}
-use lib.ListN.{length, getD, set, take, drop, length-append, length-map, length-drop, take-append-drop}
-use lib.Seq.{slice, take-at, drop-at, drop-append-le, take-take, set-at, getD-at, set-getD, split-at, length-take-le, length-slice, getD-take, getD-drop, drop-cons, slice-cons}
-use Rattle.storage.specs.Keyed.{All, Sorted, below, under, above, written, onList, append1, takeOut, close, front, last}
-use Rattle.storage.specs.Places.{endOf, opened, closed, inserted, removed, swapped}
+use lib.ListN.{length, getD, take, drop, length-append, take-append-drop}
+use lib.Seq.{slice, take-at, drop-at, drop-append-le, take-take, set-at, getD-at, set-getD, split-at, length-take-le, length-slice, getD-take, getD-drop}
+use Rattle.storage.specs.Keyed.{All, Sorted, below, under, above, onList, append1, takeOut, close, front, last}
+use Rattle.storage.specs.Places.{endOf, inserted, removed, swapped}
 use Rattle.storage.specs.FilterLaws.{all-of}
 use Rattle.storage.specs.KeyedLaws.{length-parts, sorted-parts, onList-same}
 use Rattle.storage.specs.TakeOutLaws.{front-last, length-front, takeOut-at, takeOut-none, has-none}
-use Rattle.storage.specs.PlaceLaws.{written-opened, written-swapped, map-inserted, map-swapped}
 use Rattle.storage.specs.CutLaws.{take-end, drop-end}
 
 module _ {A : Type 0} where

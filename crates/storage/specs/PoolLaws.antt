@@ -1,16 +1,16 @@
 -- The columns of a pool whose used part is a sorted list: what an append and a taking out do to each. Assumes nothing.
-use Prim.Native.Nat.{ℕ, suc, _-_, _<_, _≤_}
+use Prim.Native.Nat.{ℕ, _<_, _≤_}
 use mathlib.Core.Path.{_≡_, refl, sym, _∙_, ap}
-use mathlib.Core.List.{List, [], _∷_, map}
+use mathlib.Core.List.{List, map}
 use native.Mathlib.Omega.{arith}
 use lib.Ieee.{Float}
 use lib.ListN.{length, getD, set, take, length-append, length-map}
 use lib.Seq.{length-take-le}
-use Rattle.storage.specs.Keyed.{All, Sorted, below, under, written, append1}
-use Rattle.storage.specs.Entries.{Entry, rowKey, rowOf, spotOf, entryKey, entriesOf}
+use Rattle.storage.specs.Keyed.{Sorted, below, under, written, append1}
+use Rattle.storage.specs.Entries.{rowKey, rowOf, spotOf, entryKey, entriesOf}
 use Rattle.storage.specs.Places.{endOf, opened, closed, inserted, swapped}
-use Rattle.storage.specs.FilterLaws.{all-at}
 use Rattle.storage.specs.ColumnLaws.{map-below, map-under, zipped-rows, zipped-spots}
+use Rattle.storage.specs.KeepsLaws.{map-sorted}
 use Rattle.storage.specs.PlaceLaws.{written-opened, written-swapped, map-inserted, map-swapped}
 use Rattle.storage.specs.MoveLaws.{end-most, append-placed}
 
@@ -30,13 +30,8 @@ module _ {A B : Type 0} (key : A → ℕ) (l : List A) (s : Sorted key l) (f : A
 
 -- ---- what the keys of a column say of the list
 module _ {A B : Type 0} (f : A → B) (key : B → ℕ) where
-  all-under-map : (P : B → Type 0) (l : List A) → All P (map f l) → All (λ x. P (f x)) l
-  all-under-map P [] a = tt
-  all-under-map P (x ∷ l) a = (a .0, all-under-map P l (a .1))
-
   pub sorted-column : (l : List A) → Sorted key (map f l) → Sorted (λ x. key (f x)) l
-  sorted-column [] s = tt
-  sorted-column (x ∷ l) s = (all-under-map (λ y. key (f x) ≤ key y) l (s .0), sorted-column l (s .1))
+  sorted-column l s = map-sorted f (λ x. key (f x)) key (λ x. refl) l s
 
   pub start-column : (k : ℕ) (l : List A) → length (below (λ x. key (f x)) k l) ≡ length (below key k (map f l))
   start-column k l = sym (length-map (below (λ x. key (f x)) k l) f) ∙ ap length (map-below f (λ x. key (f x)) key (λ x. refl) k l)

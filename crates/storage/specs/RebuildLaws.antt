@@ -1,13 +1,12 @@
 -- The table of a pool, one entry more at a time: a key that is not that of the entry before has a new row. Assumes nothing.
 use Prim.Native.Nat.{ℕ, zero, suc, _+_, _-_, _<_, _≤_}
 use mathlib.Core.Path.{_≡_, refl, sym, _∙_, ap}
-use mathlib.Core.Bool.{Bool, true, false}
 use mathlib.Core.List.{List, [], _∷_, _++_, map, map-append, append-assoc, append-nil}
 use native.Mathlib.Omega.{arith}
 use native.Mathlib.Numerals.{add-one}
 use lib.Dec.{eqb}
-use lib.ListN.{length, getD, set, take, drop, length-append, length-set}
-use lib.Seq.{take-suc, set-at, drop-cons, length-take-le}
+use lib.ListN.{length, getD, set, take, length-append, length-set}
+use lib.Seq.{take-suc}
 use borrow.Author.Tests.{eqb-true, eqb-false, eq-eqb, ne-eqb}
 use Rattle.basics.specs.Refusals.{pick}
 use Rattle.storage.specs.Keyed.{written}
@@ -15,6 +14,7 @@ use Rattle.storage.specs.Entries.{rowKey}
 use Rattle.storage.specs.CellTable.{keysFrom, keysOf, fresh}
 use Rattle.storage.specs.Packed.{first}
 use Rattle.storage.specs.Checked.{Begins}
+use Rattle.storage.specs.WrittenLaws.{written-next}
 use Rattle.storage.specs.FilterLaws.{by-test, by-order}
 
 module _ {A : Type 0} (key : A → ℕ) where
@@ -104,12 +104,6 @@ pub fresh-size : (pool : List (List ℕ)) (n : ℕ) → n ≤ length pool → le
 fresh-size pool zero h = rw (fresh-none pool) (omega arith)
 fresh-size pool (suc n) h = omega (arith, fresh-size pool n (omega arith), rw (add-one n) at (fresh-slow pool n (omega arith)))
 
--- a table with one row more
-pub written-more : {A : Type 0} (d : A) (new old : List A) (r : A) → length new < length old → written (new ++ (r ∷ [])) old ≡ set (written new old) (length new) r
-written-more d new old r h =
-    rw (drop-cons old (length new) d h, set-at new (getD old (length new) d) (drop (suc (length new)) old) r (length new) refl, length-append new (r ∷ []), add-one (length new))
-    (append-assoc new (r ∷ []) (drop (suc (length new)) old))
-
 -- ---- the table as it stands once the first j entries are passed
 pub record Built (cells₀ pool : List (List ℕ)) (j rows : ℕ) (cells : List (List ℕ)) : Type 0 where
   pub count : rows ≡ length (fresh (take j pool))
@@ -137,7 +131,7 @@ module _ (cells₀ pool : List (List ℕ)) (used : ℕ) (room : used ≤ length 
           table =
               ap (λ m. set m rows (first pool j ∷ 0 ∷ [])) (b .table)
               ∙ ap (λ m. set (written (fresh (take j pool)) cells₀) m (first pool j ∷ 0 ∷ [])) (b .count)
-              ∙ sym (written-more [] (fresh (take j pool)) cells₀ (first pool j ∷ 0 ∷ []) (omega (arith, built-room n, b .size, b .count)))
+              ∙ written-next [] (fresh (take j pool)) cells₀ (first pool j ∷ 0 ∷ []) (omega (arith, built-room n, b .size, b .count))
               ∙ ap (λ m. written m cells₀) (sym (grown n));
           size = length-set cells rows (first pool j ∷ 0 ∷ []) ∙ b .size;
         }

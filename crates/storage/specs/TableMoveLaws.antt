@@ -3,7 +3,7 @@ use Prim.Native.Nat.{ℕ, suc, _+_, _-_, _<_, _≤_}
 use mathlib.Core.Path.{_≡_, sym, _∙_, ap}
 use mathlib.Core.List.{List, [], _∷_}
 use native.Mathlib.Omega.{arith}
-use lib.ListN.{length, set, take, length-append}
+use lib.ListN.{length, set, take}
 use lib.Seq.{length-take-le}
 use Rattle.storage.specs.Keyed.{Sorted, below, under, written}
 use Rattle.storage.specs.Entries.{rowKey}
@@ -14,7 +14,7 @@ use Rattle.storage.specs.Tables.{Rising}
 use Rattle.storage.specs.Places.{endOf, opened, closed, inserted, removed}
 use Rattle.storage.specs.PlaceLaws.{written-same, written-opened, written-closed, written-set, length-inserted, length-removed}
 use Rattle.storage.specs.TableLaws.{rising-sorted}
-use Rattle.storage.specs.PackedLaws.{place-filled, filled-first}
+use Rattle.storage.specs.PackedLaws.{place-filled}
 use Rattle.storage.specs.MoveLaws.{start-most}
 use Rattle.storage.specs.PoolLaws.{end-within}
 use Rattle.storage.specs.RowLaws.{one-row, row-here, row-nowhere, no-list, entered-new, entered-same, dropped-same, dropped-row, marked-same, marked-row}

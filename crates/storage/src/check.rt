@@ -1,5 +1,4 @@
 // The check of a storage: one pass over the cell table, and one over the pool.
-ghost use mathlib.Core.Path.{_≡_};
 ghost use Prim.Native.Nat.{_≤_, _<_};
 ghost use lib.ListN.{length};
 ghost use Rattle.basics.specs.Says.{Says};

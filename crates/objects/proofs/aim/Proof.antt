@@ -1,14 +1,14 @@
 -- `objects::aim` meets its contract. Assumes nothing.
 use mathlib.Core.Path.{sym, _∙_}
 use Rattle.basics.specs.Says.{apart}
-use Rattle.objects.specs.OccupiedLaws.{domain-near}
+use Rattle.cells.specs.ReachLaws.{position-reached}
 use Rattle.objects.proofs.Laws.{aimed-same, aimed-other}
 use borrow.Author.Needs.{needs}
 use Rattle.objects.proofs.aim.Statement.{statement}
 use Rattle.objects.proofs.aim.Tie as tie
 
 cell-at-requires : tie.Need-cell-at-requires
-cell-at-requires c κs = (c .pre .0, domain-near (c .args .at) (c .pre .1))
+cell-at-requires c κs = (c .pre .0, position-reached (c .args .at) (c .pre .1))
 
 returns : tie.Need-returns
 returns c = let a = c .before .before .before .args in aimed-same (a .size) (a .c) (c .before .before .cell-at .result) (a .at) (c .before .before .cell-at .ensures) (c .before .same-cell .ensures .yes (c .if1 .taken))

@@ -4,7 +4,7 @@ use lib.Dec.{T}
 use borrow.Author.Tests.{not-true, not-false}
 use Rattle.basics.specs.Says.{says-no}
 use Rattle.objects.specs.Occupied.{InDomain}
-use Rattle.objects.specs.OccupiedLaws.{domain-near}
+use Rattle.cells.specs.ReachLaws.{position-reached}
 use borrow.Author.Needs.{needs}
 use Rattle.objects.proofs.placed.Statement.{statement}
 use Rattle.objects.proofs.placed.Tie as tie
@@ -16,7 +16,7 @@ returns : tie.Need-returns
 returns c = says-no (λ q. subst T (sym (c .before .position-in-domain .ensures) ∙ not-true _ (c .if1 .taken)) (q .0))
 
 cell-at-requires : tie.Need-cell-at-requires
-cell-at-requires c κs = (c .before .before .pre, domain-near (c .before .before .args .p) (inside c))
+cell-at-requires c κs = (c .before .before .pre, position-reached (c .before .before .args .p) (inside c))
 
 returns-2 : tie.Need-returns-2
 returns-2 c = record { yes = λ e. (inside (c .before .before), sym (c .before .cell-at .ensures) ∙ c .same-cell .ensures .yes e); no = λ q. c .same-cell .ensures .no (c .before .cell-at .ensures ∙ q .1) }

@@ -1,6 +1,6 @@
 -- `storage::check::lists_ok` meets its contract: of the first j entries c rows are met. The measure is what is left of the entries.
 -- Assumes nothing.
-use Prim.Native.Nat.{ℕ, _-_, _≤_, _<_}
+use Prim.Native.Nat.{ℕ, _-_, _≤_}
 use mathlib.Core.Path.{_≡_, subst}
 use native.Mathlib.Omega.{arith}
 use Rattle.basics.specs.Says.{says-yes, says-no}

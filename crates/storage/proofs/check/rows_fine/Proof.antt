@@ -1,12 +1,11 @@
 -- `storage::check::rows_fine` meets its contract: the rows before i are fine. The measure is what is left. Assumes nothing.
-use Prim.Native.Nat.{ℕ, _-_, _≤_, _<_}
+use Prim.Native.Nat.{_-_, _≤_}
 use mathlib.Core.Path.{_≡_, sym, _∙_, subst}
 use native.Mathlib.Omega.{arith}
 use borrow.Author.Tests.{not-true, not-false}
 use Rattle.basics.specs.Says.{says-yes, says-no, apart}
 use Rattle.storage.specs.Checked.{RowsFine}
 use Rattle.storage.specs.CheckLaws.{fine-none, fine-more, fine-at}
-use borrow.Author.Needs.{needs}
 use Rattle.storage.proofs.check.rows_fine.Statement.{statement}
 use Rattle.storage.proofs.check.rows_fine.Tie as tie
 

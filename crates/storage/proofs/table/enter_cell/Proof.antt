@@ -1,8 +1,6 @@
 -- `storage::table::enter_cell` meets its contract. Assumes nothing.
-use Prim.Native.Nat.{_≤_}
 use mathlib.Core.Path.{_∙_}
 use native.Mathlib.Omega.{arith}
-use lib.ListN.{length}
 use borrow.Author.Needs.{needs}
 use Rattle.storage.specs.TableMoveLaws.{at-within, enter-old, enter-new}
 use Rattle.storage.proofs.Tests.{denied}

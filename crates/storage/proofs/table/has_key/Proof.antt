@@ -1,6 +1,4 @@
 -- `storage::table::has_key` meets its contract. Assumes nothing.
-use mathlib.Core.Path.{_≡_, refl}
-use mathlib.Core.Bool.{Bool, true, false}
 use borrow.Author.Needs.{needs}
 use Rattle.storage.specs.FilterLaws.{by-test}
 use Rattle.storage.specs.TableMoveLaws.{key-filled, filled-key}

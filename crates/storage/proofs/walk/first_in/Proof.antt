@@ -1,8 +1,8 @@
 -- `storage::walk::first_in` meets its contract: no place passed is in the window. The measure is what is left of the pool.
 -- Assumes nothing.
-use Prim.Native.Nat.{ℕ, _-_, _*_, _+_, _<_, _≤_}
-use mathlib.Core.Path.{_≡_, subst, sym}
-use mathlib.Core.Bool.{true, false}
+use Prim.Native.Nat.{ℕ, _-_, _<_, _≤_}
+use mathlib.Core.Path.{_≡_, subst}
+use mathlib.Core.Bool.{false}
 use mathlib.Core.List.{[]}
 use native.Mathlib.Omega.{arith}
 use lib.ListN.{length, take}

@@ -1,5 +1,4 @@
 -- `storage::walk::next_key` meets its contract, case by case. Assumes nothing.
-use Prim.Native.Nat.{ℕ}
 use native.Mathlib.Omega.{arith}
 use borrow.Author.Needs.{needs}
 use Rattle.storage.specs.Window.{columnOf, lineOf}

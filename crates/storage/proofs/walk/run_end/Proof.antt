@@ -1,8 +1,8 @@
 -- `storage::walk::run_end` meets its contract: every place passed is in the window. The measure is what is left of the pool.
 -- Assumes nothing.
-use Prim.Native.Nat.{ℕ, _-_, _*_, _+_, _<_, _≤_}
-use mathlib.Core.Path.{_≡_, subst, sym, ap, _∙_}
-use mathlib.Core.Bool.{true, false}
+use Prim.Native.Nat.{ℕ, _-_, _<_, _≤_}
+use mathlib.Core.Path.{_≡_, ap, _∙_}
+use mathlib.Core.Bool.{true}
 use native.Mathlib.Omega.{arith}
 use Rattle.storage.specs.Packed.{first}
 use Rattle.storage.specs.Window.{columnOf, lineOf, inWindow}

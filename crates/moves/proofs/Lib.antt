@@ -1,0 +1,3 @@
+-- What the proofs of the deferred calls share.
+pub mod Laws
+pub mod Ends

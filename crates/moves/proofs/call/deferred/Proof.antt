@@ -1,0 +1,51 @@
+-- `moves::call::deferred` meets its contract. Assumes nothing.
+use Prim.Native.Nat.{ℕ}
+use mathlib.Core.Path.{ap, sym, _∙_, subst}
+use borrow.Author.Needs.{needs}
+use Rattle.point_tables.specs.Tables.{Tables}
+use Rattle.moves.specs.Batch.{Call}
+use Rattle.moves.specs.Held.{poolless, call, worked}
+use Rattle.moves.specs.Ready.{Workable}
+use Rattle.moves.specs.HeldLaws.{held-accepted}
+use Rattle.moves.proofs.Laws.{refused, done}
+use Rattle.moves.proofs.call.deferred.Statement.{statement}
+use Rattle.moves.proofs.call.deferred.Tie as tie
+
+-- the tables at entry, and the call
+abbrev at-entry : tie.Start → Tables
+at-entry s = poolless (s .args .nums .now) (s .args .reals .now) (s .args .ints .now) (s .args .map .now) (s .args .cells .now)
+
+abbrev asked : tie.Start → Call
+asked s = call (s .args .kind) (s .args .h) (s .args .at)
+
+returns : tie.Need-returns
+returns c = let s = c .before .before .before .before .before .before in refused (at-entry s) (asked s) _ (c .before .refusal .ensures) (c .if1 .taken)
+
+work-requires : tie.Need-work-requires
+work-requires c κs =
+    let s = c .before .before .before .before .before .before .before .before .before .before .before in
+    let w = held-accepted (at-entry s) (asked s) (sym (c .before .before .before .before .before .before .refusal .ensures) ∙ c .before .before .before .before .before .if1 .left) in
+    (s .pre, subst (λ (n : ℕ). Workable (at-entry s) n (s .args .kind) (s .args .at)) (sym (c .before .before .before .before .wide .ensures)) w)
+
+returns-2 : tie.Need-returns-2
+returns-2 c =
+    let s = c .before .before .before .before .before .before .before .before .before .before .before .before .before .before .before .before in
+    done (at-entry s) _ (asked s) _ _ (c .before .before .before .before .before .before .before .before .before .before .before .refusal .ensures) (c .before .before .before .before .before .before .before .before .before .before .if1 .left)
+    (c .before .before .before .before .work .ensures ∙ ap (λ (n : ℕ). worked (at-entry s) n (s .args .kind) (s .args .at)) (c .before .before .before .before .before .before .before .before .before .wide .ensures))
+
+pub deferred-spec : {M : Type 1} → statement M
+deferred-spec =
+    tie.close
+    (tie.spec
+    (λ c κs. (c .before .before .before .before .pre .of-reals, c .before .before .before .before .pre .of-ints))
+    (λ c. search needs)
+    (λ c. search needs)
+    (λ c. search needs)
+    returns
+    (λ c κs. search needs)
+    work-requires
+    (λ c. search needs)
+    (λ c. search needs)
+    (λ c. search needs)
+    (λ c. search needs)
+    returns-2)

@@ -1,0 +1,86 @@
+-- A deferred call on tables that are known to hold a grid: what the working code does. `HeldLaws` shows that it is the call. The pool and
+-- its positions are neither read nor written, so that the tables may be without them. Assumes nothing.
+use Prim.Native.Nat.{ℕ}
+use mathlib.Core.Bool.{not}
+use mathlib.Core.List.{List, [], _∷_}
+use lib.Dec.{eqb}
+use denote.Ref.{RefT, now}
+use lib.IntN.{ℤ}
+use lib.Ieee.{Float}
+use Rattle.basics.specs.Refusals.{unless, firstOf, pick}
+use Rattle.geometry.specs.Domain.{positionInDomain}
+use Rattle.geometry.specs.declared.Position.{Position}
+use Rattle.slots.specs.declared.Handle.{Handle}
+use Rattle.slots.specs.Slot.{good}
+use Rattle.objects.specs.declared.State.{State}
+use Rattle.objects.specs.declared.State.the-variants.{Removed}
+use Rattle.objects.specs.declared.Record.{Record}
+use Rattle.objects.specs.States.{isRemoved, aimed}
+use Rattle.point_tables.specs.Tables.{Tables, tables, sizeOf, recordOn}
+use Rattle.point_tables.specs.Outcome.{Outcome, outcome}
+use Rattle.moves.specs.declared.Reply.{Reply}
+use Rattle.moves.specs.Moves.{reply, pended}
+use Rattle.moves.specs.Batch.{Call}
+
+-- tables without the pool, the same behind five references, and tables with a pool
+abbrev pub poolless : List (List ℕ) → List (List Float) → List (List ℤ) → List ℕ → List (List ℕ) → Tables
+poolless nums reals ints map cells = tables nums reals ints map [] [] cells
+
+abbrev pub lentPoolless : RefT (List (List ℕ)) → RefT (List (List Float)) → RefT (List (List ℤ)) → RefT (List ℕ) → RefT (List (List ℕ)) → Tables
+lentPoolless nums reals ints map cells = poolless (now nums) (now reals) (now ints) (now map) (now cells)
+
+abbrev pub withPool : Tables → List (List ℕ) → List (List Float) → Tables
+withPool t pool spots = tables (t .nums) (t .reals) (t .ints) (t .map) pool spots (t .cells)
+
+abbrev pub call : ℕ → Handle → Position → Call
+call k h p = record { kind = k; handle = h; at = p }
+
+-- ---- the refusals past the check, for an object of that state
+unfoldable pub setRefusal : List (List ℕ) → State → Handle → Position → ℕ
+setRefusal nums state h at =
+    firstOf (
+    unless (positionInDomain at) 6
+    ∷ unless (good nums (h .slot) (h .version)) 5
+    ∷ unless (not (isRemoved state)) 1
+    ∷ []
+    )
+
+unfoldable pub removeRefusal : List (List ℕ) → Handle → ℕ
+removeRefusal nums h = firstOf (unless (good nums (h .slot) (h .version)) 5 ∷ [])
+
+abbrev pub refusalOf : List (List ℕ) → State → Call → ℕ
+refusalOf nums state c = pick (eqb (c .kind) 0) (setRefusal nums state (c .handle) (c .at)) (removeRefusal nums (c .handle))
+
+abbrev pub heldAnswer : Tables → Call → ℕ
+heldAnswer t c = refusalOf (t .nums) (recordOn t (c .handle .slot) .state) c
+
+-- ---- what becomes pending for a record, and what is returned of it
+abbrev pub nextState : ℕ → Record → ℕ → Position → State
+nextState size r kind at = pick (eqb kind 0) (aimed size (r .cell) at) Removed
+
+abbrev pub returned : Record → ℕ → ℕ
+returned r kind = pick (eqb kind 0) 0 (r .obj)
+
+-- ---- the work of a call for slot s: what is returned, and the tables after it
+unfoldable pub worked : Tables → ℕ → ℕ → Position → Outcome ℕ
+unfolding pended
+worked t s kind at = outcome (returned (recordOn t s) kind) (pended t s (nextState (sizeOf t) (recordOn t s) kind at))
+
+-- ---- one call, and calls one after the other
+unfoldable pub heldOf : Tables → Call → Outcome Reply
+unfolding worked
+heldOf t c =
+    let w = worked t (c .handle .slot) (c .kind) (c .at) in
+    pick (eqb (heldAnswer t c) 0)
+    (outcome (reply 0 (w .result)) (w .after))
+    (outcome (reply (heldAnswer t c) 0) t)
+
+unfoldable pub heldAfter : Tables → List Call → Tables
+unfolding heldOf
+heldAfter t [] = t
+heldAfter t (c ∷ cs) = heldAfter (heldOf t c .after) cs
+
+unfoldable pub heldReplies : Tables → List Call → List Reply
+unfolding heldOf
+heldReplies t [] = []
+heldReplies t (c ∷ cs) = heldOf t c .result ∷ heldReplies (heldOf t c .after) cs

@@ -1,0 +1,120 @@
+// A batch of deferred calls: one verdict on the tables for all of them, and each call's answer and data in its place of the output.
+ghost use mathlib.Core.Path.{_≡_};
+ghost use mathlib.Core.List.{[], _∷_};
+ghost use mathlib.Core.Bool.{_&&_};
+ghost use Prim.Native.Nat.{_≤_};
+ghost use lib.Dec.{eqb, leb};
+ghost use lib.ListN.{length};
+ghost use Rattle.basics.specs.Refusals.{unless, firstOf};
+ghost use Rattle.storage.specs.Keyed.{written};
+ghost use Rattle.point_tables.specs.Lent.{lent};
+ghost use Rattle.point_tables.specs.Decide.{holds};
+ghost use Rattle.point_tables.specs.Outcome.{outcome};
+ghost use Rattle.moves.specs.Batch.{callsOf, replyRows, batched, batchOf};
+ghost use Rattle.moves.specs.Ready.{Ready};
+ghost use Rattle.moves.specs.Held.{lentPoolless, heldAfter, heldReplies};
+use crate::BatchReply;
+use crate::call::deferred;
+use geometry::Position;
+use slots::Handle;
+
+fn batch_answer(held: bool, kinds: usize, handles: usize, positions: usize, out: usize) -> u32
+    ensures { λ r. ⌜ r ≡ firstOf (unless ((eqb handles kinds && eqb positions kinds) && held) 3 ∷ unless (leb kinds out) 9 ∷ []) ⌝ }
+{
+    if handles != kinds {
+        return 3;
+    }
+    if positions != kinds {
+        return 3;
+    }
+    if !held {
+        return 3;
+    }
+    if kinds > out {
+        return 9;
+    }
+    0
+}
+
+// The calls one after the other.
+fn run(
+    nums: &mut [[u32; 4]],
+    reals: &mut [[f32; 4]],
+    ints: &mut [[i32; 4]],
+    map: &[u64],
+    cells: &mut [[u64; 2]],
+    kinds: &[u32],
+    handles: &[[u32; 2]],
+    positions: &[[f32; 2]],
+    out: &mut [[u32; 2]],
+)
+    requires ready { ⌜ Ready (lentPoolless nums reals ints map cells) ⌝ }
+    requires long { ⌜ (length (now handles) ≡ length (now kinds)) × (length (now positions) ≡ length (now kinds)) × (length (now kinds) ≤ length (now out)) ⌝ }
+    ensures after { λ _. ⌜ lentPoolless (nums .exit) (reals .exit) (ints .exit) (map .entry) (cells .exit) ≡ heldAfter (lentPoolless (nums .entry) (reals .entry) (ints .entry) (map .entry) (cells .entry)) (callsOf (now (kinds .entry)) (now (handles .entry)) (now (positions .entry))) ⌝ }
+    ensures out { λ _. ⌜ now (out .exit) ≡ written (replyRows (heldReplies (lentPoolless (nums .entry) (reals .entry) (ints .entry) (map .entry) (cells .entry)) (callsOf (now (kinds .entry)) (now (handles .entry)) (now (positions .entry))))) (now (out .entry)) ⌝ }
+{
+    let mut i = 0;
+    while i < kinds.len() {
+        let h = handles[i];
+        let p = positions[i];
+        let r = deferred(
+            nums,
+            reals,
+            ints,
+            map,
+            cells,
+            kinds[i],
+            Handle {
+                slot: h[0],
+                version: h[1],
+            },
+            Position { x: p[0], y: p[1] },
+        );
+        out[i] = [r.answer, r.obj];
+        i += 1;
+    }
+}
+
+// As `set_position` and `remove` one after the other, but with one verdict for all.
+pub fn batch(
+    nums: &mut [[u32; 4]],
+    reals: &mut [[f32; 4]],
+    ints: &mut [[i32; 4]],
+    map: &[u64],
+    pool: &[[u64; 2]],
+    spots: &[[f32; 2]],
+    cells: &mut [[u64; 2]],
+    held: bool,
+    kinds: &[u32],
+    handles: &[[u32; 2]],
+    positions: &[[f32; 2]],
+    out: &mut [[u32; 2]],
+) -> BatchReply
+    requires { ⌜ held ≡ holds (lent nums reals ints map pool spots cells) ⌝ }
+    ensures { λ r. ⌜ outcome (batched (r .answer) (r .count) (now (out .exit))) (lent (nums .exit) (reals .exit) (ints .exit) (map .entry) (pool .entry) (spots .entry) (cells .exit)) ≡ batchOf (lent (nums .entry) (reals .entry) (ints .entry) (map .entry) (pool .entry) (spots .entry) (cells .entry)) (now (kinds .entry)) (now (handles .entry)) (now (positions .entry)) (now (out .entry)) ⌝ }
+{
+    let n = kinds.len();
+    let a = batch_answer(held, n, handles.len(), positions.len(), out.len());
+    let count = basics::word_of(n);
+    if a == 9 {
+        return BatchReply { answer: 9, count };
+    }
+    if a != 0 {
+        return BatchReply {
+            answer: a,
+            count: 0,
+        };
+    }
+    run(
+        nums,
+        reals,
+        ints,
+        map,
+        cells,
+        kinds,
+        handles,
+        positions,
+        out,
+    );
+    BatchReply { answer: 0, count }
+}

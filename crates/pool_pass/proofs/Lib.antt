@@ -1,0 +1,2 @@
+-- The laws that the proofs of pool_pass share.
+pub mod Laws
