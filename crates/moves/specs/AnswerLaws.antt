@@ -21,7 +21,7 @@ use Rattle.moves.specs.declared.Reply.{Reply}
 use Rattle.moves.specs.Moves.{setPositionAnswer, setPositionOf, removeAnswer, removeOf}
 use Rattle.moves.specs.Batch.{Call, callOf}
 use Rattle.moves.specs.MovesLaws.{set-accepted, remove-accepted, set-refused, set-done, remove-refused, remove-done}
-use Rattle.moves.specs.MovesKeeps.{call-keeps}
+use Rattle.moves.specs.MovesKeeps.{set-position-keeps, remove-keeps}
 
 -- one of the numbers of a list
 abbrev pub Among : List ℕ → ℕ → Type 0
@@ -77,6 +77,13 @@ pub remove-unheld : (t : Tables) (h : Handle) → Says (not (holds t)) (removeOf
 unfolding removeAnswer
 remove-unheld t h = rw (remove-answer-is t h) (remove-three (holds t) (good (t .nums) (h .slot) (h .version)))
 
+-- ---- accepted: the call found a grid, and leaves one
+pub set-done-holds : (t : Tables) (h : Handle) (at : Position) → setPositionOf t h at .result .answer ≡ 0 → Holds t × Holds (setPositionOf t h at .after)
+set-done-holds t h at e = let g = set-accepted t h at (sym (set-answer-is t h at) ∙ e) .held in (g, set-position-keeps t h at g)
+
+pub remove-done-holds : (t : Tables) (h : Handle) → removeOf t h .result .answer ≡ 0 → Holds t × Holds (removeOf t h .after)
+remove-done-holds t h e = let g = remove-accepted t h (sym (remove-answer-is t h) ∙ e) .held in (g, remove-keeps t h g)
+
 -- ---- a call of either kind
 module _ (t : Tables) (c : Call) where
   -- what holds of both kinds holds of the call
@@ -107,12 +114,5 @@ module _ (t : Tables) (c : Call) where
       (λ n. rw (set-refused t (c .handle) (c .at) (λ e. n (set-answer-is t (c .handle) (c .at) ∙ e))) (refl, refl))
       (λ n. rw (remove-refused t (c .handle) (λ e. n (remove-answer-is t (c .handle) ∙ e))) (refl, refl))
 
-  -- an accepted call found a grid, and leaves one
   pub call-accepted : callOf t c .result .answer ≡ 0 → Holds t × Holds (callOf t c .after)
-  call-accepted e = (found e, call-keeps t c (found e))
-    where
-      found : callOf t c .result .answer ≡ 0 → Holds t
-      found =
-          by-kind (λ o. o .result .answer ≡ 0 → Holds t)
-          (λ q. set-accepted t (c .handle) (c .at) (sym (set-answer-is t (c .handle) (c .at)) ∙ q) .held)
-          (λ q. remove-accepted t (c .handle) (sym (remove-answer-is t (c .handle)) ∙ q) .held)
+  call-accepted = by-kind (λ o. o .result .answer ≡ 0 → Holds t × Holds (o .after)) (set-done-holds t (c .handle) (c .at)) (remove-done-holds t (c .handle))

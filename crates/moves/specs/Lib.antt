@@ -5,7 +5,7 @@ pub mod MovesLaws
 pub mod MovesKeeps
 pub mod AnswerLaws
 pub mod AgainLaws
-pub mod BatchAnswers
+pub mod BatchAnswerLaws
 -- what the working code does, and that it is the calls
 pub mod Ready
 pub mod ReadyLaws

@@ -1,7 +1,6 @@
 -- `moves::remove` meets its contract. Assumes nothing.
 use mathlib.Core.Path.{sym, _∙_}
 use borrow.Author.Tests.{not-true, not-false}
-use borrow.Author.Needs.{needs}
 use Rattle.point_tables.specs.Tables.{Tables, tables}
 use Rattle.point_tables.specs.Decide.{holds-says}
 use Rattle.moves.specs.ReadyLaws.{holds-ready, ready-pool}
@@ -36,8 +35,8 @@ remove-spec =
     (tie.spec
     returns
     deferred-requires
-    (λ c. search needs)
-    (λ c. search needs)
-    (λ c. search needs)
-    (λ c. search needs)
+    (λ c. c .before .before .before .nums .given)
+    (λ c. c .before .before .reals .given)
+    (λ c. c .before .ints .given)
+    (λ c. c .cells .given)
     returns-2)

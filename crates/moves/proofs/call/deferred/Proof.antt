@@ -1,7 +1,6 @@
 -- `moves::call::deferred` meets its contract. Assumes nothing.
 use Prim.Native.Nat.{ℕ}
-use mathlib.Core.Path.{ap, sym, _∙_, subst}
-use borrow.Author.Needs.{needs}
+use mathlib.Core.Path.{refl, ap, sym, _∙_, subst}
 use Rattle.point_tables.specs.Tables.{Tables}
 use Rattle.moves.specs.Batch.{Call}
 use Rattle.moves.specs.Held.{poolless, call, worked}
@@ -38,14 +37,14 @@ deferred-spec =
     tie.close
     (tie.spec
     (λ c κs. (c .before .before .before .before .pre .of-reals, c .before .before .before .before .pre .of-ints))
-    (λ c. search needs)
-    (λ c. search needs)
-    (λ c. search needs)
+    (λ c. refl)
+    (λ c. refl)
+    (λ c. refl)
     returns
-    (λ c κs. search needs)
+    (λ c κs. tt)
     work-requires
-    (λ c. search needs)
-    (λ c. search needs)
-    (λ c. search needs)
-    (λ c. search needs)
+    (λ c. c .before .before .before .nums .given)
+    (λ c. c .before .before .reals .given)
+    (λ c. c .before .ints .given)
+    (λ c. c .cells .given)
     returns-2)

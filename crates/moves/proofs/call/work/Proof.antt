@@ -37,17 +37,17 @@ work-spec =
     tie.close
     (tie.spec
     (λ c κs. search needs)
-    (λ c κs. search needs)
+    (λ c κs. tt)
     (λ c. search needs)
-    (λ c κs. search needs)
+    (λ c κs. tt)
     mark-cell-requires
     (λ c. search needs)
     (λ c κs. search needs)
-    (λ c κs. search needs)
+    (λ c κs. tt)
     store-requires
-    (λ c κs. search needs)
-    (λ c. search needs)
-    (λ c. search needs)
-    (λ c. search needs)
-    (λ c. search needs)
+    (λ c κs. tt)
+    (λ c. c .before .before .before .nums .given)
+    (λ c. c .before .before .reals .given)
+    (λ c. c .before .ints .given)
+    (λ c. c .before .before .before .before .before .before .before .before .before .before .before .cells .given)
     returns)

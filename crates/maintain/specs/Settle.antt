@@ -1,0 +1,31 @@
+-- Slots settled one after the other: those of a list, those below n that pass a test, and every live one. Assumes nothing.
+use Prim.Native.Nat.{ℕ, zero, suc}
+use mathlib.Core.Path.{_≡_}
+use mathlib.Core.Bool.{Bool, true, false}
+use mathlib.Core.List.{List, [], _∷_}
+use lib.Dec.{eqb}
+use Rattle.basics.specs.Refusals.{pick}
+use Rattle.point_tables.specs.Tables.{Tables, slotsOf}
+use Rattle.point_tables.specs.CountLaws.{isLive}
+use Rattle.maintain.specs.Walk.{settled}
+
+-- whether k stands in a list of numbers, and no number stands there twice
+abbrev pub among : ℕ → List ℕ → Bool
+among k [] = false
+among k (j ∷ l) = pick (eqb j k) true (among k l)
+
+abbrev pub Distinct : List ℕ → Type 0
+Distinct [] = Unit {0}
+Distinct (k ∷ l) = (among k l ≡ false) × Distinct l
+
+unfoldable pub settledOver : Tables → List ℕ → Tables
+settledOver t [] = t
+settledOver t (s ∷ ss) = settledOver (settled t s) ss
+
+unfoldable pub settledIn : (ℕ → Bool) → ℕ → Tables → Tables
+settledIn test zero t = t
+settledIn test (suc n) t = pick (test n) (settled (settledIn test n t) n) (settledIn test n t)
+
+unfoldable pub settledAll : Tables → Tables
+unfolding settledIn
+settledAll t = settledIn (isLive t) (slotsOf t) t

@@ -1,0 +1,5 @@
+-- What the proofs of the removals share.
+pub mod Taken
+pub mod Answers
+pub mod Turns
+pub mod Cleared

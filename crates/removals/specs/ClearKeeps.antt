@@ -1,0 +1,132 @@
+-- Clearing leaves tables that hold a grid: no slot is live, each that was is at its next version or retired, and no entry is in use.
+-- Assumes nothing.
+use Prim.Native.Nat.{ℕ, _<_, _≤_}
+use mathlib.Core.Path.{_≡_, refl, sym, _∙_, ap}
+use mathlib.Core.Bool.{Bool, true, false}
+use mathlib.Core.List.{List, [], map}
+use mathlib.Core.Logic.{_⊎_, inl, inr, ⊎-elim}
+use native.Mathlib.Omega.{arith}
+use lib.Dec.{eqb}
+use lib.ListN.{length, getD, length-map, List·getD-map}
+use borrow.Author.Tests.{eqb-true, eqb-false, eq-eqb, ne-eqb}
+use Rattle.basics.specs.Says.{d-eq}
+use Rattle.slots.specs.Map.{head}
+use Rattle.slots.specs.Slot.{free, live, retired, versionAt, phaseAt, nextVersion, nextPhase, emptiedRow, good, SlotsHold}
+use Rattle.slots.specs.HandleLaws.{good-says}
+use Rattle.storage.specs.Packed.{Packed}
+use Rattle.point_tables.specs.Tables.{Tables, sizeOf, usedOf, rowsOf, slotsOf, Sized}
+use Rattle.point_tables.specs.Holds.{Counted, ListsHold, Holds}
+use Rattle.removals.specs.Clear.{clearedRow, clearedMap, cleared}
+use Rattle.removals.specs.HeadLaws.{counted-used, counted-rows, counted-size, counted-length, counted-slots}
+use Rattle.removals.specs.TakenLaws.{next-not-live}
+use Rattle.removals.specs.ClearedLaws.{cleared-map-length, cleared-map-head, cleared-slots}
+
+module _ (t : Tables) where
+  -- ---- each slot
+  cleared-row : (s : ℕ) → getD (cleared t .nums) s [] ≡ clearedRow (getD (t .nums) s [])
+  unfolding cleared
+  cleared-row s = List·getD-map clearedRow (t .nums) s []
+
+  -- the version of a live slot rises, or the slot is retired at the last one
+  pub cleared-live : (s : ℕ) → phaseAt (t .nums) s ≡ live → (versionAt (cleared t .nums) s ≡ nextVersion (versionAt (t .nums) s)) × (phaseAt (cleared t .nums) s ≡ nextPhase (versionAt (t .nums) s))
+  cleared-live s e =
+      let r : getD (cleared t .nums) s [] ≡ emptiedRow (getD (t .nums) s []) = cleared-row s ∙ rw (eq-eqb (phaseAt (t .nums) s) live e) in
+      (ap (λ (l : List ℕ). getD l 0 0) r, ap (λ (l : List ℕ). getD l 1 0) r)
+
+  -- every other slot stays as it was
+  pub cleared-idle : (s : ℕ) → (phaseAt (t .nums) s ≡ live → ⊥) → getD (cleared t .nums) s [] ≡ getD (t .nums) s []
+  cleared-idle s n = cleared-row s ∙ rw (ne-eqb (phaseAt (t .nums) s) live n)
+
+  pub cleared-none : (s : ℕ) → phaseAt (cleared t .nums) s ≡ live → ⊥
+  cleared-none s e =
+      ⊎-elim
+      (λ l. next-not-live (versionAt (t .nums) s) (sym (cleared-live s l .1) ∙ e))
+      (λ n. n (sym (ap (λ (l : List ℕ). getD l 1 0) (cleared-idle s n)) ∙ e))
+      (d-eq (phaseAt (t .nums) s) live)
+
+  -- so no handle is good
+  pub cleared-not-good : (s v : ℕ) → good (cleared t .nums) s v ≡ false
+  cleared-not-good s v = go (good (cleared t .nums) s v) (good-says (cleared t .nums) s v .yes)
+    where
+      go : (b : Bool) → (b ≡ true → (s < slotsOf (cleared t)) × (phaseAt (cleared t .nums) s ≡ live) × (versionAt (cleared t .nums) s ≡ v)) → b ≡ false
+      go true f = absurd (cleared-none s (f refl .1))
+      go false f = refl
+
+-- ---- the tables
+module _ (t : Tables) (h : Holds t) where
+  heads : head ≤ length (clearedMap 0 (t .nums) (t .map))
+  heads = rw (cleared-map-length (t .nums) 0 (t .map)) (omega (arith, h .sized .of-map))
+
+  pub cleared-used : usedOf (cleared t) ≡ 0
+  unfolding cleared
+  cleared-used = counted-used (clearedMap 0 (t .nums) (t .map)) 0 0 heads
+
+  pub cleared-rows : rowsOf (cleared t) ≡ 0
+  unfolding cleared
+  cleared-rows = counted-rows (clearedMap 0 (t .nums) (t .map)) 0 0 heads
+
+  keeps-size : sizeOf (cleared t) ≡ sizeOf t
+  unfolding cleared
+  keeps-size = counted-size (clearedMap 0 (t .nums) (t .map)) 0 0 heads ∙ cleared-map-head (t .nums) 0 (t .map) 0 (omega arith)
+
+  keeps-sized : Sized (cleared t)
+  unfolding cleared
+  keeps-sized =
+      rw (length-map (t .nums) clearedRow)
+      (record {
+        some = h .sized .some;
+        most = h .sized .most;
+        of-reals = h .sized .of-reals;
+        of-ints = h .sized .of-ints;
+        of-map = counted-length (clearedMap 0 (t .nums) (t .map)) 0 0 heads ∙ cleared-map-length (t .nums) 0 (t .map) ∙ h .sized .of-map;
+        of-pool = h .sized .of-pool;
+        of-spots = h .sized .of-spots;
+        of-cells = h .sized .of-cells;
+      })
+
+  keeps-counted : Counted (cleared t)
+  keeps-counted = record { size = rw keeps-size (h .counted .size); used-most = omega (arith, cleared-used); rows-most = omega (arith, cleared-rows) }
+
+  keeps-slots : SlotsHold (cleared t .nums) (cleared t .map)
+  unfolding cleared
+  keeps-slots = counted-slots (clearedMap 0 (t .nums) (t .map)) 0 0 heads (map clearedRow (t .nums)) (cleared-slots (t .nums) (t .map) (h .slots) (h .sized .of-map))
+
+  -- no entry and no row is in use
+  no-entry : {G : Type 0} (j : ℕ) → j < usedOf (cleared t) → G
+  no-entry j l = absurd (omega (arith, cleared-used))
+
+  no-row : {G : Type 0} (r : ℕ) → r < rowsOf (cleared t) → G
+  no-row r l = absurd (omega (arith, cleared-rows))
+
+  keeps-packed : Packed (usedOf (cleared t)) (rowsOf (cleared t)) (cleared t .pool) (cleared t .cells)
+  keeps-packed =
+      record {
+        ordered = λ i j l m. no-entry j l;
+        ascending = λ i j l m. no-row j l;
+        has-row = λ j l. no-entry j l;
+        has-list = λ r l. no-row r l;
+        marks = λ r l. no-row r l;
+      }
+
+  keeps-lists : ListsHold (cleared t)
+  keeps-lists = record { each = λ j l. no-entry j l; once = λ i j l m e. no-entry j l; every = λ s l e. absurd (cleared-none t s e) }
+
+  pub cleared-keeps : Holds (cleared t)
+  cleared-keeps =
+      record {
+        sized = keeps-sized;
+        counted = keeps-counted;
+        slots = keeps-slots;
+        records = λ s l e. absurd (cleared-none t s e);
+        packed = keeps-packed;
+        lists = keeps-lists;
+        dirty = λ s l q r m. no-row r m;
+      }
+
+  -- every slot is free or retired
+  pub cleared-phases : (s : ℕ) → s < slotsOf (cleared t) → (phaseAt (cleared t .nums) s ≡ free) ⊎ (phaseAt (cleared t .nums) s ≡ retired)
+  cleared-phases s l = go (eqb (phaseAt (cleared t .nums) s) free) refl
+    where
+      go : (b : Bool) → eqb (phaseAt (cleared t .nums) s) free ≡ b → (phaseAt (cleared t .nums) s ≡ free) ⊎ (phaseAt (cleared t .nums) s ≡ retired)
+      go true e = inl (eqb-true (phaseAt (cleared t .nums) s) free e)
+      go false e = inr (omega (arith, keeps-slots .each s l .phased, eqb-false (phaseAt (cleared t .nums) s) free e, cleared-none t s))

@@ -1,0 +1,18 @@
+-- What `remove_maintain` and `clear` answer and leave.
+pub mod RemoveMaintain
+pub mod Clear
+pub mod Members
+pub mod EntryLaws
+pub mod RowLaws
+pub mod ListedLaws
+pub mod HeadLaws
+pub mod GoneLaws
+pub mod DropLaws
+pub mod TakenLaws
+pub mod RemoveKeeps
+pub mod RemoveLaws
+pub mod LiveLaws
+pub mod ClearedLaws
+pub mod ClearKeeps
+pub mod ClearLaws
+pub mod Steps

@@ -1,0 +1,89 @@
+-- The lists of tables that hold a grid, as facts of the list of their entries: each names an object, no two the same one, and every
+-- object is named. Assumes nothing.
+use Prim.Native.Nat.{ℕ, _<_, _≤_}
+use mathlib.Core.Path.{_≡_}
+use mathlib.Core.List.{List, []}
+use native.Mathlib.Omega.{arith}
+use lib.Ieee.{nan}
+use lib.ListN.{length, getD, take}
+use Rattle.cells.specs.Key.{keyOf}
+use Rattle.slots.specs.Slot.{live, phaseAt}
+use Rattle.storage.specs.Keyed.{All, Sorted}
+use Rattle.storage.specs.Entries.{Entry, entry, rowKey, rowItem, entryKey}
+use Rattle.storage.specs.PoolLaws.{sorted-entries}
+use Rattle.point_tables.specs.Tables.{Tables, usedOf, rowsOf, slotsOf, recordOn, entriesIn, cellRows}
+use Rattle.point_tables.specs.Holds.{ListsHold, Holds}
+use Rattle.removals.specs.Members.{Some, Pairs, some-at, some-of, pairs-at, pairs-of}
+use Rattle.removals.specs.EntryLaws.{entryAt, entries-length, entries-at, all-entries, entries-all}
+use Rattle.removals.specs.RowLaws.{PackedRows, to-rows}
+
+abbrev pub slotOf : Entry → ℕ
+slotOf e = rowItem (e .row)
+
+-- an entry names an occupied slot, under the key of its cell, with its recorded position
+pub record Named (t : Tables) (e : Entry) : Type 0 where
+  pub inside : slotOf e < slotsOf t
+  pub occupied : phaseAt (t .nums) (slotOf e) ≡ live
+  pub key : rowKey (e .row) ≡ keyOf (recordOn t (slotOf e) .cell)
+  pub at-x : getD (e .spot) 0 nan ≡ recordOn t (slotOf e) .position .x
+  pub at-y : getD (e .spot) 1 nan ≡ recordOn t (slotOf e) .position .y
+
+-- no two of one slot
+abbrev pub Alone : List Entry → Type 0
+Alone es = Pairs (λ x y. slotOf x ≡ slotOf y → ⊥) es
+
+pub record Listing (t : Tables) (es : List Entry) : Type 0 where
+  pub each : All (Named t) es
+  pub once : Alone es
+  pub every : (s : ℕ) → s < slotsOf t → phaseAt (t .nums) s ≡ live → Some (λ e. slotOf e ≡ s) es
+
+module _ (t : Tables) (u : usedOf t ≤ length (t .pool)) (v : usedOf t ≤ length (t .spots)) where
+  pub to-listing : ListsHold t → Listing t (entriesIn t)
+  to-listing h =
+      record {
+        each = all-entries (t .pool) (t .spots) (usedOf t) u v (Named t) (λ j l. let e = h .each j l in record { inside = e .inside; occupied = e .occupied; key = e .key; at-x = e .at-x; at-y = e .at-y });
+        once = pairs-of _ (entry [] []) (entriesIn t) (λ i j l g. let l′ : j < usedOf t = rw (entries-length (t .pool) (t .spots) (usedOf t) u v) at l in rw (at i (omega arith), at j l′) (h .once i j l′ g));
+        every = λ s l p. let w = h .every s l p in some-of _ (entry [] []) (entriesIn t) (w .0) (rw (entries-length (t .pool) (t .spots) (usedOf t) u v) (w .1)) (rw (at (w .0) (w .1)) (w .2));
+      }
+    where
+      at : (j : ℕ) → j < usedOf t → getD (entriesIn t) j (entry [] []) ≡ entryAt (t .pool) (t .spots) j
+      at = entries-at (t .pool) (t .spots) (usedOf t) u v
+
+  pub from-listing : Listing t (entriesIn t) → ListsHold t
+  from-listing h =
+      record {
+        each = λ j l. let e = entries-all (t .pool) (t .spots) (usedOf t) u v (Named t) (h .each) j l in record { inside = e .inside; occupied = e .occupied; key = e .key; at-x = e .at-x; at-y = e .at-y };
+        once = λ i j l g. rw (at i (omega arith), at j l) at (pairs-at _ (entry [] []) (entriesIn t) (h .once) i j (rw (entries-length (t .pool) (t .spots) (usedOf t) u v) l) g);
+        every = λ s l p. found s (some-at _ (entry [] []) (entriesIn t) (h .every s l p));
+      }
+    where
+      at : (j : ℕ) → j < usedOf t → getD (entriesIn t) j (entry [] []) ≡ entryAt (t .pool) (t .spots) j
+      at = entries-at (t .pool) (t .spots) (usedOf t) u v
+
+      found : (s : ℕ) → (j : ℕ) × (j < length (entriesIn t)) × (slotOf (getD (entriesIn t) j (entry [] [])) ≡ s) → (j : ℕ) × (j < usedOf t) × (slotOf (entryAt (t .pool) (t .spots) j) ≡ s)
+      found s w =
+          let l : w .0 < usedOf t = rw (entries-length (t .pool) (t .spots) (usedOf t) u v) at (w .1) in
+          (w .0, l, rw (at (w .0) l) at (w .2))
+
+-- ---- tables that hold a grid
+module _ (t : Tables) (h : Holds t) where
+  pub in-pool : usedOf t ≤ length (t .pool)
+  in-pool = omega (arith, h .counted .used-most, h .sized .of-pool)
+
+  pub in-spots : usedOf t ≤ length (t .spots)
+  in-spots = omega (arith, h .counted .used-most, h .sized .of-spots)
+
+  pub listing : Listing t (entriesIn t)
+  listing = to-listing t in-pool in-spots (h .lists)
+
+  pub count-entries : length (entriesIn t) ≡ usedOf t
+  count-entries = entries-length (t .pool) (t .spots) (usedOf t) in-pool in-spots
+
+  pub in-cells : rowsOf t ≤ length (t .cells)
+  in-cells = omega (arith, h .counted .rows-most, h .sized .of-cells)
+
+  pub rows-in : PackedRows (take (usedOf t) (t .pool)) (cellRows t)
+  rows-in = to-rows (usedOf t) (rowsOf t) (t .pool) (t .cells) in-pool in-cells (h .packed)
+
+  pub entries-sorted : Sorted entryKey (entriesIn t)
+  entries-sorted = sorted-entries (t .pool) (t .spots) (usedOf t) in-pool in-spots (rows-in .ordered)

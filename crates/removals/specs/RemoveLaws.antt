@@ -1,0 +1,102 @@
+-- `remove_maintain`: exactly when each answer is given, what it then leaves, that its handle is good no more, and that tables that hold a
+-- grid still do after it. Assumes nothing.
+use Prim.Native.Nat.{ℕ, _+_, _<_}
+use mathlib.Core.Path.{_≡_, refl, _∙_, ap}
+use mathlib.Core.Bool.{Bool, true, false}
+use mathlib.Core.List.{List}
+use mathlib.Core.Logic.{_⊎_, inl, inr}
+use lib.Dec.{eqb}
+use lib.ListN.{getD}
+use Rattle.basics.specs.Refusals.{pick, orElse}
+use Rattle.slots.specs.declared.Handle.{Handle}
+use Rattle.slots.specs.Slot.{live, phaseAt, versionAt, nextVersion, nextPhase, good}
+use Rattle.slots.specs.EmptyLaws.{emptied-same}
+use Rattle.slots.specs.HandleLaws.{good-says, emptied-not-good, emptied-good-other}
+use Rattle.point_tables.specs.Tables.{Tables, usedOf, slotsOf, recordOn}
+use Rattle.point_tables.specs.Holds.{Holds}
+use Rattle.point_tables.specs.Decide.{holds, holds-says}
+use Rattle.point_tables.specs.Outcome.{Outcome, outcome}
+use Rattle.removals.specs.declared.Reply.{Reply}
+use Rattle.removals.specs.RemoveMaintain.{reply, takenOut, removeMaintainAnswer, removeMaintainOf}
+use Rattle.removals.specs.RemoveKeeps.{taken-keeps, taken-count}
+
+-- the handle is that of an object
+abbrev pub isGood : Tables → Handle → Bool
+isGood t h = good (t .nums) (h .slot) (h .version)
+
+module _ (t : Tables) (h : Handle) where
+  -- the outcome by the two tests
+  abbrev removeBy : Bool → Bool → Outcome Reply
+  removeBy a b =
+      pick (eqb (orElse a 3 (orElse b 5 0)) 0)
+      (outcome (reply 0 (recordOn t (h .slot) .obj)) (takenOut t (h .slot)))
+      (outcome (reply (orElse a 3 (orElse b 5 0)) 0) t)
+
+  by-tests : removeMaintainOf t h ≡ removeBy (holds t) (isGood t h)
+  unfolding removeMaintainOf removeMaintainAnswer
+  by-tests = refl
+
+  -- ---- exactly when each answer is given
+  pub remove-unheld : holds t ≡ false → removeMaintainOf t h ≡ outcome (reply 3 0) t
+  remove-unheld e = by-tests ∙ rw e
+
+  pub remove-lost : holds t ≡ true → isGood t h ≡ false → removeMaintainOf t h ≡ outcome (reply 5 0) t
+  remove-lost e f = by-tests ∙ rw (e, f)
+
+  -- whatever the object's state is
+  pub remove-done : holds t ≡ true → isGood t h ≡ true → removeMaintainOf t h ≡ outcome (reply 0 (recordOn t (h .slot) .obj)) (takenOut t (h .slot))
+  remove-done e f = by-tests ∙ rw (e, f)
+
+  -- ---- 0, 3 or 5
+  pub remove-answers : (removeMaintainOf t h .result .answer ≡ 0) ⊎ ((removeMaintainOf t h .result .answer ≡ 3) ⊎ (removeMaintainOf t h .result .answer ≡ 5))
+  remove-answers = rw by-tests (go (holds t) (isGood t h))
+    where
+      go : (a b : Bool) → (removeBy a b .result .answer ≡ 0) ⊎ ((removeBy a b .result .answer ≡ 3) ⊎ (removeBy a b .result .answer ≡ 5))
+      go false b = inr (inl refl)
+      go true false = inr (inr refl)
+      go true true = inl refl
+
+  -- a refusal leaves the tables and returns zeros
+  pub remove-refused : (removeMaintainOf t h .result .answer ≡ 0 → ⊥) → removeMaintainOf t h ≡ outcome (reply (removeMaintainOf t h .result .answer) 0) t
+  remove-refused = rw by-tests (go (holds t) (isGood t h))
+    where
+      go : (a b : Bool) → (removeBy a b .result .answer ≡ 0 → ⊥) → removeBy a b ≡ outcome (reply (removeBy a b .result .answer) 0) t
+      go false b n = refl
+      go true false n = refl
+      go true true n = absurd (n refl)
+
+  -- tables that hold a grid still do
+  pub remove-holds : Holds t → Holds (removeMaintainOf t h .after)
+  remove-holds k = rw by-tests (go (holds t) (isGood t h) (good-says (t .nums) (h .slot) (h .version) .yes))
+    where
+      go : (a b : Bool) → (b ≡ true → (h .slot < slotsOf t) × (phaseAt (t .nums) (h .slot) ≡ live) × (versionAt (t .nums) (h .slot) ≡ h .version)) → Holds (removeBy a b .after)
+      go false b g = k
+      go true false g = k
+      go true true g = taken-keeps t k (h .slot) (g refl .0) (g refl .1)
+
+  -- ---- accepted: the handle is good no more, every other is as before, and there is one entry less
+  module _ (k : Holds t) (g : isGood t h ≡ true) where
+    accepted : removeMaintainOf t h .after ≡ takenOut t (h .slot)
+    accepted = ap (λ (o : Outcome Reply). o .after) (remove-done (holds-says t .no k) g)
+
+    pub remove-count : usedOf (removeMaintainOf t h .after) + 1 ≡ usedOf t
+    remove-count =
+        let n = good-says (t .nums) (h .slot) (h .version) .yes g in
+        rw accepted (taken-count t k (h .slot) (n .0) (n .1))
+
+    -- the slot's version rises by one, or the slot is retired at the last
+    pub remove-version : (versionAt (removeMaintainOf t h .after .nums) (h .slot) ≡ nextVersion (h .version)) × (phaseAt (removeMaintainOf t h .after .nums) (h .slot) ≡ nextPhase (h .version))
+    unfolding takenOut
+    remove-version =
+        let n = good-says (t .nums) (h .slot) (h .version) .yes g in
+        let r = emptied-same (t .nums) (h .slot) (n .0) in
+        rw accepted (ap (λ (l : List ℕ). getD l 0 0) r ∙ ap nextVersion (n .2), ap (λ (l : List ℕ). getD l 1 0) r ∙ ap nextPhase (n .2))
+
+    -- good at no version
+    pub remove-not-good : (v : ℕ) → good (removeMaintainOf t h .after .nums) (h .slot) v ≡ false
+    unfolding takenOut
+    remove-not-good v = rw accepted (emptied-not-good (t .nums) (h .slot) v)
+
+    pub remove-good-other : (i v : ℕ) → (i ≡ h .slot → ⊥) → good (removeMaintainOf t h .after .nums) i v ≡ good (t .nums) i v
+    unfolding takenOut
+    remove-good-other i v n = rw accepted (emptied-good-other (t .nums) (h .slot) i v n)

@@ -1,0 +1,51 @@
+-- `remove_maintain` takes the object out now, whatever its state: the last entry of its list moves into the gap. Assumes nothing.
+use Prim.Native.Nat.{ℕ}
+use mathlib.Core.Bool.{Bool, true, false}
+use mathlib.Core.List.{List, [], _∷_, map}
+use lib.Dec.{eqb}
+use lib.ListN.{length}
+use Rattle.basics.specs.Refusals.{unless, firstOf, pick}
+use Rattle.cells.specs.Key.{keyOf}
+use Rattle.slots.specs.declared.Handle.{Handle}
+use Rattle.slots.specs.Slot.{good, emptiedNums, emptiedMap}
+use Rattle.storage.specs.Keyed.{under, onList, takeOut, written}
+use Rattle.storage.specs.Entries.{Entry, rowOf, spotOf, entryKey, isItem}
+use Rattle.storage.specs.CellTable.{dropped}
+use Rattle.point_tables.specs.Tables.{Tables, tables, counting, recordOn, entriesIn, cellRows}
+use Rattle.point_tables.specs.Decide.{holds}
+use Rattle.point_tables.specs.Outcome.{Outcome, outcome}
+use Rattle.removals.specs.declared.Reply.{Reply}
+
+abbrev pub reply : ℕ → ℕ → Reply
+reply a d = record { answer = a; obj = d }
+
+abbrev pub isEmpty : {A : Type 0} → List A → Bool
+isEmpty [] = true
+isEmpty (x ∷ l) = false
+
+-- the entries without that of slot s
+abbrev pub entriesWithout : Tables → ℕ → List Entry
+entriesWithout t s = onList entryKey (keyOf (recordOn t s .cell)) (takeOut (λ e. isItem s (e .row))) (entriesIn t)
+
+-- a cell whose list is empty has no row
+abbrev pub rowsWithout : Tables → ℕ → List (List ℕ)
+rowsWithout t s =
+    pick (isEmpty (under entryKey (keyOf (recordOn t s .cell)) (entriesWithout t s))) (dropped (keyOf (recordOn t s .cell)) (cellRows t)) (cellRows t)
+
+unfoldable pub takenOut : Tables → ℕ → Tables
+takenOut t s =
+    tables (emptiedNums (t .nums) s) (t .reals) (t .ints)
+    (counting (emptiedMap (t .nums) (t .map) s) (length (entriesWithout t s)) (length (rowsWithout t s)))
+    (written (map rowOf (entriesWithout t s)) (t .pool))
+    (written (map spotOf (entriesWithout t s)) (t .spots))
+    (written (rowsWithout t s) (t .cells))
+
+unfoldable pub removeMaintainAnswer : Tables → Handle → ℕ
+removeMaintainAnswer t h = firstOf (unless (holds t) 3 ∷ unless (good (t .nums) (h .slot) (h .version)) 5 ∷ [])
+
+unfoldable pub removeMaintainOf : Tables → Handle → Outcome Reply
+unfolding removeMaintainAnswer takenOut
+removeMaintainOf t h =
+    pick (eqb (removeMaintainAnswer t h) 0)
+    (outcome (reply 0 (recordOn t (h .slot) .obj)) (takenOut t (h .slot)))
+    (outcome (reply (removeMaintainAnswer t h) 0) t)

@@ -1,0 +1,164 @@
+-- The tables after an object is taken out, part by part: the head words, the slots, the records, the entries and the rows.
+-- Assumes nothing.
+use Prim.Native.Nat.{ℕ, _+_, _<_, _≤_}
+use mathlib.Core.Path.{_≡_, refl, sym, _∙_, ap, subst}
+use mathlib.Core.Bool.{Bool, true, false}
+use mathlib.Core.List.{List, [], _∷_, map}
+use native.Mathlib.Omega.{arith}
+use lib.Dec.{eqb}
+use lib.ListN.{length, getD, length-map}
+use lib.Seq.{length-take-le}
+use borrow.Author.Tests.{eq-eqb}
+use Rattle.basics.specs.Refusals.{pick}
+use Rattle.cells.specs.Key.{keyOf}
+use Rattle.slots.specs.Map.{head}
+use Rattle.slots.specs.Slot.{free, live, retired, lastVersion, phaseAt, versionAt, nextPhase, emptiedNums, emptiedMap, SlotsHold}
+use Rattle.slots.specs.SlotLaws.{emptied-holds}
+use Rattle.slots.specs.EmptyLaws.{emptied-length, emptied-same, emptied-other, emptied-map-length, emptied-map-head}
+use Rattle.storage.specs.Keyed.{under}
+use Rattle.storage.specs.Entries.{Entry, rowKey, rowOf, spotOf, entryKey, entriesOf, isItem}
+use Rattle.storage.specs.Packed.{Packed}
+use Rattle.storage.specs.WrittenLaws.{length-written}
+use Rattle.storage.specs.ColumnLaws.{map-under, rows-takeOut}
+use Rattle.storage.specs.PoolLaws.{rows-column}
+use Rattle.storage.specs.TakeOutLaws.{has, length-onList-takeOut}
+use Rattle.objects.specs.Columns.{recordOf}
+use Rattle.point_tables.specs.Tables.{Tables, sizeOf, usedOf, rowsOf, slotsOf, recordOn, entriesIn, cellRows, Sized}
+use Rattle.point_tables.specs.Holds.{Counted, Holds}
+use Rattle.removals.specs.RemoveMaintain.{isEmpty, entriesWithout, rowsWithout, takenOut}
+use Rattle.removals.specs.EntryLaws.{written-entries}
+use Rattle.removals.specs.RowLaws.{PackedRows, from-rows}
+use Rattle.removals.specs.ListedLaws.{slotOf, Named, in-pool, in-spots, in-cells, listing, count-entries, rows-in}
+use Rattle.removals.specs.HeadLaws.{counted-used, counted-rows, counted-size, counted-length, counted-slots}
+use Rattle.removals.specs.GoneLaws.{some-both, some-filter, some-has}
+use Rattle.removals.specs.DropLaws.{rowsBy, rowsBy-length, packed-remove}
+
+-- the phase of a slot that was emptied
+pub next-not-live : (v : ℕ) → nextPhase v ≡ live → ⊥
+next-not-live v e = go (eqb v lastVersion) e
+  where
+    go : (b : Bool) → pick b retired free ≡ live → ⊥
+    go true q = omega arith
+    go false q = omega arith
+
+empty-rows : (l : List Entry) → isEmpty (map rowOf l) ≡ isEmpty l
+empty-rows [] = refl
+empty-rows (e ∷ l) = refl
+
+-- ---- the object of slot s
+module _ (t : Tables) (h : Holds t) (s : ℕ) (inside : s < slotsOf t) (is-live : phaseAt (t .nums) s ≡ live) where
+  abbrev key : ℕ
+  key = keyOf (recordOn t s .cell)
+
+  heads : head ≤ length (emptiedMap (t .nums) (t .map) s)
+  heads = rw (emptied-map-length (t .nums) (t .map) s) (omega (arith, h .sized .of-map))
+
+  -- ---- its entry stands in the list of its cell
+  pub entry-found : has (λ e. isItem s (e .row)) (under entryKey key (entriesIn t)) ≡ true
+  entry-found =
+      some-has (λ e. (slotOf e ≡ s) × Named t e) _ (λ e q. eq-eqb (slotOf e) s (q .0)) (under entryKey key (entriesIn t))
+      (some-filter _ _ (λ e q. eq-eqb (entryKey e) key (q .1 .key ∙ ap (λ (i : ℕ). keyOf (recordOn t i .cell)) (q .0))) (entriesIn t)
+      (some-both (λ e. slotOf e ≡ s) (Named t) (entriesIn t) (listing t h .every s inside is-live) (listing t h .each)))
+
+  -- ---- the counts
+  pub one-less : length (entriesWithout t s) + 1 ≡ usedOf t
+  one-less = length-onList-takeOut entryKey key _ (entriesIn t) entry-found ∙ count-entries t h
+
+  pub rows-fit : length (rowsWithout t s) ≤ rowsOf t
+  rows-fit = omega (arith, rowsBy-length (isEmpty (under entryKey key (entriesWithout t s))) key (cellRows t), length-cells)
+    where
+      length-cells : length (cellRows t) ≡ rowsOf t
+      length-cells = length-take-le (rowsOf t) (t .cells) (in-cells t h)
+
+  pub taken-used : usedOf (takenOut t s) ≡ length (entriesWithout t s)
+  unfolding takenOut
+  taken-used = counted-used (emptiedMap (t .nums) (t .map) s) _ _ heads
+
+  pub taken-rows : rowsOf (takenOut t s) ≡ length (rowsWithout t s)
+  unfolding takenOut
+  taken-rows = counted-rows (emptiedMap (t .nums) (t .map) s) _ _ heads
+
+  pub taken-size : sizeOf (takenOut t s) ≡ sizeOf t
+  unfolding takenOut
+  taken-size = counted-size (emptiedMap (t .nums) (t .map) s) _ _ heads ∙ emptied-map-head (t .nums) (t .map) s 0 (omega arith)
+
+  pub taken-length : slotsOf (takenOut t s) ≡ slotsOf t
+  unfolding takenOut
+  taken-length = emptied-length (t .nums) s
+
+  -- ---- the slots and their rows
+  pub taken-slots : SlotsHold (takenOut t s .nums) (takenOut t s .map)
+  unfolding takenOut
+  taken-slots = counted-slots (emptiedMap (t .nums) (t .map) s) _ _ heads (emptiedNums (t .nums) s) (emptied-holds (t .nums) (t .map) (h .slots) s inside (h .sized .of-map) is-live)
+
+  pub taken-gone : phaseAt (takenOut t s .nums) s ≡ live → ⊥
+  unfolding takenOut
+  taken-gone e = next-not-live (versionAt (t .nums) s) (sym (ap (λ (r : List ℕ). getD r 1 0) (emptied-same (t .nums) s inside)) ∙ e)
+
+  pub taken-other : (i : ℕ) → (i ≡ s → ⊥) → getD (takenOut t s .nums) i [] ≡ getD (t .nums) i []
+  unfolding takenOut
+  taken-other i n = emptied-other (t .nums) s i n
+
+  pub taken-record : (i : ℕ) → (i ≡ s → ⊥) → recordOn (takenOut t s) i ≡ recordOn t i
+  taken-record i n = rw (taken-other i n) same
+    where
+      same : recordOf (getD (t .nums) i []) (getD (takenOut t s .reals) i []) (getD (takenOut t s .ints) i []) ≡ recordOn t i
+      same = unfold takenOut in refl
+
+  -- ---- the entries and the rows
+  pub taken-entries : entriesIn (takenOut t s) ≡ entriesWithout t s
+  taken-entries = ap (entriesOf (takenOut t s .pool) (takenOut t s .spots)) taken-used ∙ as-written
+    where
+      as-written : entriesOf (takenOut t s .pool) (takenOut t s .spots) (length (entriesWithout t s)) ≡ entriesWithout t s
+      as-written = unfold takenOut in written-entries (entriesWithout t s) (t .pool) (t .spots)
+
+  old-rows : PackedRows (map rowOf (entriesIn t)) (cellRows t)
+  old-rows = rw (rows-column (t .pool) (t .spots) (usedOf t) (in-pool t h) (in-spots t h)) (rows-in t h)
+
+  same-list : under rowKey key (map rowOf (entriesWithout t s)) ≡ map rowOf (under entryKey key (entriesWithout t s))
+  same-list = sym (map-under rowOf entryKey rowKey (λ e. refl) key (entriesWithout t s))
+
+  -- the cell's list is empty exactly when none of the pool's rows has its key
+  pub same-empty : isEmpty (under rowKey key (map rowOf (entriesWithout t s))) ≡ isEmpty (under entryKey key (entriesWithout t s))
+  same-empty = ap isEmpty same-list ∙ empty-rows (under entryKey key (entriesWithout t s))
+
+  pub new-rows : PackedRows (map rowOf (entriesWithout t s)) (rowsWithout t s)
+  new-rows =
+      subst (λ (b : Bool). PackedRows (map rowOf (entriesWithout t s)) (rowsBy b key (cellRows t))) same-empty
+      (rw (rows-takeOut (entriesIn t) key (isItem s)) (packed-remove (map rowOf (entriesIn t)) (cellRows t) old-rows key (isItem s)))
+
+  rows-written : Packed (length (entriesWithout t s)) (length (rowsWithout t s)) (takenOut t s .pool) (takenOut t s .cells)
+  unfolding takenOut
+  rows-written =
+      subst (λ (n : ℕ). Packed n (length (rowsWithout t s)) (takenOut t s .pool) (takenOut t s .cells)) (length-map (entriesWithout t s) rowOf)
+      (from-rows (map rowOf (entriesWithout t s)) (rowsWithout t s) (t .pool) (t .cells) new-rows)
+
+  pub taken-packed : Packed (usedOf (takenOut t s)) (rowsOf (takenOut t s)) (takenOut t s .pool) (takenOut t s .cells)
+  taken-packed = rw (taken-used, taken-rows) rows-written
+
+  -- ---- the lengths and the counts
+  fits : length (entriesWithout t s) ≤ slotsOf t
+  fits = omega (arith, one-less, h .counted .used-most)
+
+  pub taken-sized : Sized (takenOut t s)
+  unfolding takenOut
+  taken-sized =
+      rw (emptied-length (t .nums) s)
+      (record {
+        some = h .sized .some;
+        most = h .sized .most;
+        of-reals = h .sized .of-reals;
+        of-ints = h .sized .of-ints;
+        of-map = counted-length (emptiedMap (t .nums) (t .map) s) _ _ heads ∙ emptied-map-length (t .nums) (t .map) s ∙ h .sized .of-map;
+        of-pool = length-written (map rowOf (entriesWithout t s)) (t .pool) (omega (arith, length-map (entriesWithout t s) rowOf, fits, h .sized .of-pool)) ∙ h .sized .of-pool;
+        of-spots = length-written (map spotOf (entriesWithout t s)) (t .spots) (omega (arith, length-map (entriesWithout t s) spotOf, fits, h .sized .of-spots)) ∙ h .sized .of-spots;
+        of-cells = length-written (rowsWithout t s) (t .cells) (omega (arith, rows-fit, h .counted .rows-most, h .sized .of-cells)) ∙ h .sized .of-cells;
+      })
+
+  pub taken-counted : Counted (takenOut t s)
+  taken-counted =
+      record {
+        size = rw taken-size (h .counted .size);
+        used-most = rw (taken-used, taken-length) fits;
+        rows-most = rw (taken-rows, taken-length) (omega (arith, rows-fit, h .counted .rows-most));
+      }

@@ -1,0 +1,125 @@
+// `clear`: writes recorded position and data, ascending by slot, then empties the grid. Versions rise as with any emptying.
+ghost use mathlib.Core.Path.{_≡_};
+ghost use mathlib.Core.Bool.{true};
+ghost use Prim.Native.Nat.{_+_, _≤_, _<_};
+ghost use lib.Dec.{eqb};
+ghost use lib.ListN.{length, getD};
+ghost use Rattle.slots.specs.Map.{wordsFor};
+ghost use Rattle.slots.specs.Slot.{live};
+ghost use Rattle.storage.specs.Keyed.{written};
+ghost use Rattle.point_tables.specs.Tables.{tables, counting};
+ghost use Rattle.point_tables.specs.Decide.{holds};
+ghost use Rattle.point_tables.specs.Outcome.{outcome};
+ghost use Rattle.removals.specs.Clear.{liveFrom, clearedMap, wrote, clearOf};
+ghost use Rattle.removals.specs.Steps.{roomAnswer, countBy, placesOf, objsOf, clearedRows};
+use crate::Count;
+
+// Whether a slot is live.
+fn is_live(row: [u32; 4]) -> bool
+    ensures { λ r. ⌜ r ≡ eqb (getD row 1 0) live ⌝ }
+{
+    row[1] == 1
+}
+
+// 9 if one of the outputs has fewer than n places, else 0.
+fn short_of(n: usize, places: usize, objs: usize) -> u32
+    ensures { λ r. ⌜ r ≡ roomAnswer n places objs ⌝ }
+{
+    if places < n {
+        return 9;
+    }
+    if objs < n {
+        return 9;
+    }
+    0
+}
+
+// The answer, with the number of objects: each has one entry, so the entries in use are as many.
+fn answer(map: &[u64], held: bool, places: usize, objs: usize) -> Count
+    requires { ⌜ (held ≡ true → (1 < length (now map)) × (getD (now map) 1 0 ≤ 4096)) ⌝ }
+    ensures { λ r. ⌜ r ≡ countBy held (getD (now (map .entry)) 1 0) places objs ⌝ }
+{
+    if !held {
+        return Count {
+            answer: 3,
+            count: 0,
+        };
+    }
+    let n = map[1];
+    let a = short_of(basics::index_of(n), places, objs);
+    Count {
+        answer: a,
+        count: n as u32,
+    }
+}
+
+// The recorded position and the data of each live slot, from place 0 of the outputs on.
+fn put_objects(nums: &[[u32; 4]], reals: &[[f32; 4]], places: &mut [[f32; 2]], objs: &mut [u32])
+    requires { ⌜ (length (now reals) ≡ length (now nums)) × (length (now nums) ≤ 4096) × (length (liveFrom 0 (now nums)) ≤ length (now places)) × (length (liveFrom 0 (now nums)) ≤ length (now objs)) ⌝ }
+    ensures places { λ _. ⌜ now (places .exit) ≡ written (placesOf (now (reals .entry)) (liveFrom 0 (now (nums .entry)))) (now (places .entry)) ⌝ }
+    ensures objs { λ _. ⌜ now (objs .exit) ≡ written (objsOf (now (nums .entry)) (liveFrom 0 (now (nums .entry)))) (now (objs .entry)) ⌝ }
+{
+    let mut k = 0;
+    let mut i = 0;
+    while i < nums.len() {
+        let row = nums[i];
+        if is_live(row) {
+            let q = reals[i];
+            places[k] = [q[0], q[1]];
+            objs[k] = row[2];
+            k += 1;
+        }
+        i += 1;
+    }
+}
+
+// Every live slot is emptied.
+fn empty_slots(nums: &mut [[u32; 4]], map: &mut [u64])
+    requires { ⌜ length (now map) ≡ 3 + wordsFor (length (now nums)) ⌝ }
+    ensures nums { λ _. ⌜ now (nums .exit) ≡ clearedRows (now (nums .entry)) ⌝ }
+    ensures map { λ _. ⌜ now (map .exit) ≡ clearedMap 0 (now (nums .entry)) (now (map .entry)) ⌝ }
+{
+    let mut i = 0;
+    while i < nums.len() {
+        let row = nums[i];
+        if is_live(row) {
+            slots::empty(nums, map, i);
+        }
+        i += 1;
+    }
+}
+
+// No entry and no row of a cell is in use.
+fn empty_all(nums: &mut [[u32; 4]], map: &mut [u64])
+    requires { ⌜ length (now map) ≡ 3 + wordsFor (length (now nums)) ⌝ }
+    ensures nums { λ _. ⌜ now (nums .exit) ≡ clearedRows (now (nums .entry)) ⌝ }
+    ensures map { λ _. ⌜ now (map .exit) ≡ counting (clearedMap 0 (now (nums .entry)) (now (map .entry))) 0 0 ⌝ }
+{
+    empty_slots(nums, map);
+    map[1] = 0;
+    map[2] = 0;
+}
+
+pub fn clear(
+    nums: &mut [[u32; 4]],
+    reals: &[[f32; 4]],
+    ints: &[[i32; 4]],
+    map: &mut [u64],
+    pool: &[[u64; 2]],
+    spots: &[[f32; 2]],
+    cells: &[[u64; 2]],
+    held: bool,
+    places: &mut [[f32; 2]],
+    objs: &mut [u32],
+) -> Count
+    requires { ⌜ held ≡ holds (tables (now nums) (now reals) (now ints) (now map) (now pool) (now spots) (now cells)) ⌝ }
+    ensures { λ r. ⌜ outcome (wrote r (now (places .exit)) (now (objs .exit))) (tables (now (nums .exit)) (now (reals .entry)) (now (ints .entry)) (now (map .exit)) (now (pool .entry)) (now (spots .entry)) (now (cells .entry))) ≡ clearOf (tables (now (nums .entry)) (now (reals .entry)) (now (ints .entry)) (now (map .entry)) (now (pool .entry)) (now (spots .entry)) (now (cells .entry))) (now (places .entry)) (now (objs .entry)) ⌝ }
+{
+    let c = answer(map, held, places.len(), objs.len());
+    if c.answer != 0 {
+        return c;
+    }
+    put_objects(nums, reals, places, objs);
+    empty_all(nums, map);
+    c
+}

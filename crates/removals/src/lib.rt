@@ -1,0 +1,19 @@
+// Taking objects out at once: `remove_maintain` and `clear`.
+// The caller has checked whether the tables hold a grid, and hands the verdict down as `held`.
+mod clearing;
+mod removing;
+
+pub use clearing::clear;
+pub use removing::remove_maintain;
+
+// The data of an object beside the answer.
+pub struct Reply {
+    pub answer: u32,
+    pub obj: u32,
+}
+
+// A number beside the answer.
+pub struct Count {
+    pub answer: u32,
+    pub count: u32,
+}

@@ -1,0 +1,108 @@
+// `remove_maintain`: the object is taken out now, whatever its state. The last entry of its list moves into the gap.
+ghost use mathlib.Core.Path.{_≡_};
+ghost use mathlib.Core.List.{[], _∷_};
+ghost use Prim.Native.Nat.{_+_, _/_, _≤_, _<_};
+ghost use lib.ListN.{length, take};
+ghost use Rattle.basics.specs.Refusals.{unless, firstOf};
+ghost use Rattle.slots.specs.Slot.{good, emptiedNums, emptiedMap};
+ghost use Rattle.storage.specs.Keyed.{Sorted, under, written};
+ghost use Rattle.storage.specs.Entries.{rowKey};
+ghost use Rattle.storage.specs.Tables.{Rising};
+ghost use Rattle.point_tables.specs.Tables.{tables, counting, recordOn};
+ghost use Rattle.point_tables.specs.Decide.{holds};
+ghost use Rattle.point_tables.specs.Outcome.{outcome};
+ghost use Rattle.removals.specs.RemoveMaintain.{isEmpty, takenOut, removeMaintainOf};
+ghost use Rattle.removals.specs.DropLaws.{rowsBy};
+ghost use Rattle.removals.specs.Steps.{Object};
+use crate::Reply;
+use slots::Handle;
+
+// The answer: the first refusal that applies, or 0. The object's state is not looked at.
+fn answer(nums: &[[u32; 4]], held: bool, h: Handle) -> u32
+    ensures { λ r. ⌜ r ≡ firstOf (unless held 3 ∷ unless (good (now (nums .entry)) (h .slot) (h .version)) 5 ∷ []) ⌝ }
+{
+    if !held {
+        return 3;
+    }
+    if !slots::is_good(nums, h) {
+        return 5;
+    }
+    0
+}
+
+// The row of a cell whose list is empty goes. Returns how many rows are left.
+fn drop_empty(
+    cells: &mut [[u64; 2]],
+    rows: usize,
+    pool: &[[u64; 2]],
+    used: usize,
+    key: u64,
+) -> usize
+    requires cells { ⌜ (rows ≤ length (now cells)) × Rising rowKey (take rows (now cells)) ⌝ }
+    requires pool { ⌜ (used ≤ length (now pool)) × Sorted rowKey (take used (now pool)) ⌝ }
+    ensures { λ r. ⌜ (r ≡ length (rowsBy (isEmpty (under rowKey key (take used (now (pool .entry))))) key (take rows (now (cells .entry))))) × (now (cells .exit) ≡ written (rowsBy (isEmpty (under rowKey key (take used (now (pool .entry))))) key (take rows (now (cells .entry)))) (now (cells .entry))) ⌝ }
+{
+    if storage::has_key(pool, used, key) {
+        return rows;
+    }
+    storage::drop_cell(cells, rows, key)
+}
+
+// Slot s is emptied, and the head words of the map have the counts.
+fn empty(nums: &mut [[u32; 4]], map: &mut [u64], s: usize, used: usize, rows: usize)
+    requires { ⌜ (s < length (now nums)) × (3 + s / 64 < length (now map)) ⌝ }
+    ensures nums { λ _. ⌜ now (nums .exit) ≡ emptiedNums (now (nums .entry)) s ⌝ }
+    ensures map { λ _. ⌜ now (map .exit) ≡ counting (emptiedMap (now (nums .entry)) (now (map .entry)) s) used rows ⌝ }
+{
+    slots::empty(nums, map, s);
+    map[1] = basics::word_of(used);
+    map[2] = basics::word_of(rows);
+}
+
+// The object of slot s goes. Returns its data.
+fn take_out(
+    nums: &mut [[u32; 4]],
+    reals: &[[f32; 4]],
+    ints: &[[i32; 4]],
+    map: &mut [u64],
+    pool: &mut [[u64; 2]],
+    spots: &mut [[f32; 2]],
+    cells: &mut [[u64; 2]],
+    s: usize,
+) -> u32
+    requires { ⌜ Object (tables (now nums) (now reals) (now ints) (now map) (now pool) (now spots) (now cells)) s ⌝ }
+    ensures { λ r. ⌜ outcome r (tables (now (nums .exit)) (now (reals .entry)) (now (ints .entry)) (now (map .exit)) (now (pool .exit)) (now (spots .exit)) (now (cells .exit))) ≡ outcome (recordOn (tables (now (nums .entry)) (now (reals .entry)) (now (ints .entry)) (now (map .entry)) (now (pool .entry)) (now (spots .entry)) (now (cells .entry))) s .obj) (takenOut (tables (now (nums .entry)) (now (reals .entry)) (now (ints .entry)) (now (map .entry)) (now (pool .entry)) (now (spots .entry)) (now (cells .entry))) s) ⌝ }
+{
+    let r = objects::load(nums, reals, ints, s);
+    let key = objects::key_of(r);
+    let used = basics::index_of(map[1]);
+    let rows = basics::index_of(map[2]);
+    let item = basics::word_of(s);
+    let left = storage::take_entry(pool, spots, used, key, item);
+    let kept = drop_empty(cells, rows, pool, left, key);
+    empty(nums, map, s, left, kept);
+    r.obj
+}
+
+pub fn remove_maintain(
+    nums: &mut [[u32; 4]],
+    reals: &[[f32; 4]],
+    ints: &[[i32; 4]],
+    map: &mut [u64],
+    pool: &mut [[u64; 2]],
+    spots: &mut [[f32; 2]],
+    cells: &mut [[u64; 2]],
+    held: bool,
+    h: Handle,
+) -> Reply
+    requires { ⌜ held ≡ holds (tables (now nums) (now reals) (now ints) (now map) (now pool) (now spots) (now cells)) ⌝ }
+    ensures { λ r. ⌜ outcome r (tables (now (nums .exit)) (now (reals .entry)) (now (ints .entry)) (now (map .exit)) (now (pool .exit)) (now (spots .exit)) (now (cells .exit))) ≡ removeMaintainOf (tables (now (nums .entry)) (now (reals .entry)) (now (ints .entry)) (now (map .entry)) (now (pool .entry)) (now (spots .entry)) (now (cells .entry))) h ⌝ }
+{
+    let a = answer(nums, held, h);
+    if a != 0 {
+        return Reply { answer: a, obj: 0 };
+    }
+    let s = basics::wide(h.slot);
+    let d = take_out(nums, reals, ints, map, pool, spots, cells, s);
+    Reply { answer: 0, obj: d }
+}
