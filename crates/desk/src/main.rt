@@ -1,0 +1,162 @@
+// A first frame at a desk, on a grid of two slots: what a person reads is what the gate compares. Each line is a call, its answer and its
+// numbers.
+use geometry::Position;
+use libc::STDOUT_FILENO;
+
+fn say(what: &[u8]) {
+    io::write_all(STDOUT_FILENO, what);
+}
+
+fn line(what: &[u8], answer: u32, a: u32, b: u32) {
+    say(what);
+    io::print_decimal(STDOUT_FILENO, answer as u64);
+    say(b",");
+    io::print_decimal(STDOUT_FILENO, a as u64);
+    say(b",");
+    io::print_decimal(STDOUT_FILENO, b as u64);
+    say(b"\n");
+}
+
+// A point comes in: answer, slot, version.
+fn enter(
+    nums: &mut [[u32; 4]],
+    reals: &mut [[f32; 4]],
+    ints: &mut [[i32; 4]],
+    map: &mut [u64],
+    pool: &mut [[u64; 2]],
+    spots: &mut [[f32; 2]],
+    cells: &mut [[u64; 2]],
+    at: Position,
+    obj: u32,
+) {
+    let r = points::insert(nums, reals, ints, map, pool, spots, cells, at, obj);
+    let h = r.handle;
+    line(b"insert ", r.answer, h.slot, h.version);
+}
+
+// What the grid has, told into a buffer that is one short.
+fn list(
+    nums: &[[u32; 4]],
+    reals: &[[f32; 4]],
+    ints: &[[i32; 4]],
+    map: &[u64],
+    pool: &[[u64; 2]],
+    spots: &[[f32; 2]],
+    cells: &[[u64; 2]],
+) {
+    let mut one = [[7u32; 2]; 1];
+    let r = points::handles(nums, reals, ints, map, pool, spots, cells, &mut one);
+    let kept = one[0];
+    line(b"handles ", r.answer, r.count, kept[0]);
+}
+
+// Five deferred calls with one check: far moves, two removals of one object, a move of what is removed, a handle that is not good.
+fn frame(
+    nums: &mut [[u32; 4]],
+    reals: &mut [[f32; 4]],
+    ints: &mut [[i32; 4]],
+    map: &[u64],
+    pool: &[[u64; 2]],
+    spots: &[[f32; 2]],
+    cells: &mut [[u64; 2]],
+) {
+    let kinds = [0u32, 1, 1, 0, 0];
+    let handles = [[0u32, 1], [1, 1], [1, 1], [1, 1], [0, 2]];
+    let positions = [
+        [300.0f32, -0.5],
+        [0.0, 0.0],
+        [0.0, 0.0],
+        [1.0, 1.0],
+        [0.0, 0.0],
+    ];
+    let mut out = [[9u32; 2]; 5];
+    let r = points::batch(
+        nums,
+        reals,
+        ints,
+        map,
+        pool,
+        spots,
+        cells,
+        &kinds,
+        &handles,
+        &positions,
+        &mut out,
+    );
+    let a = out[0];
+    let b = out[1];
+    let c = out[2];
+    let d = out[3];
+    let e = out[4];
+    line(b"batch ", r.answer, a[0], b[0]);
+    line(b"removed ", b[1], c[0], c[1]);
+    line(b"refused ", d[0], e[0], e[1]);
+    list(nums, reals, ints, map, pool, spots, cells);
+}
+
+fn main() {
+    let mut nums = [[0u32; 4]; 2];
+    let mut reals = [[0.0f32; 4]; 2];
+    let mut ints = [[0i32; 4]; 2];
+    let mut map = [0u64; 4];
+    let mut pool = [[0u64; 2]; 2];
+    let mut spots = [[0.0f32; 2]; 2];
+    let mut cells = [[0u64; 2]; 2];
+    let made = points::new(
+        &mut nums,
+        &reals,
+        &ints,
+        &mut map,
+        &pool,
+        &spots,
+        &cells,
+        10,
+    );
+    line(b"new ", made, 0, 0);
+    let home = Position { x: 0.0, y: 0.0 };
+    let near = Position { x: 5.0, y: 5.0 };
+    enter(
+        &mut nums,
+        &mut reals,
+        &mut ints,
+        &mut map,
+        &mut pool,
+        &mut spots,
+        &mut cells,
+        home,
+        7,
+    );
+    enter(
+        &mut nums,
+        &mut reals,
+        &mut ints,
+        &mut map,
+        &mut pool,
+        &mut spots,
+        &mut cells,
+        near,
+        8,
+    );
+    enter(
+        &mut nums,
+        &mut reals,
+        &mut ints,
+        &mut map,
+        &mut pool,
+        &mut spots,
+        &mut cells,
+        near,
+        9,
+    );
+    frame(
+        &mut nums,
+        &mut reals,
+        &mut ints,
+        &map,
+        &pool,
+        &spots,
+        &mut cells,
+    );
+    pool[1] = [0, 0];
+    list(&nums, &reals, &ints, &map, &pool, &spots, &cells);
+}
