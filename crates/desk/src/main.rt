@@ -157,6 +157,6 @@ fn main() {
         &spots,
         &mut cells,
     );
-    pool[1] = [0, 0];
-    list(&nums, &reals, &ints, &map, &pool, &spots, &cells);
+    // a table in the place of another is found out
+    list(&nums, &reals, &ints, &map, &cells, &spots, &cells);
 }
