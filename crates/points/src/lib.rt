@@ -7,6 +7,8 @@ ghost use Rattle.inserts.specs.New.{newOf};
 ghost use Rattle.inserts.specs.Insert.{insertOf};
 ghost use Rattle.moves.specs.Moves.{reply, setPositionOf, removeOf};
 ghost use Rattle.moves.specs.Batch.{batched, batchOf};
+ghost use Rattle.removals.specs.RemoveMaintain.{removeMaintainOf};
+ghost use Rattle.removals.specs.Clear.{wrote, clearOf};
 ghost use Rattle.reads.specs.Reads.{getOf, lenOf, handlesOf, listing};
 use geometry::Position;
 use inserts::Inserted;
@@ -166,4 +168,50 @@ pub fn handles(
 {
     let held = point_tables::check(nums, reals, ints, map, pool, spots, cells);
     reads::handles(nums, reals, ints, map, pool, spots, cells, held, out)
+}
+
+// Takes the object out now, whatever its state. Gives the data. 3, 5.
+pub fn remove_maintain(
+    nums: &mut [[u32; 4]],
+    reals: &[[f32; 4]],
+    ints: &[[i32; 4]],
+    map: &mut [u64],
+    pool: &mut [[u64; 2]],
+    spots: &mut [[f32; 2]],
+    cells: &mut [[u64; 2]],
+    h: Handle,
+) -> removals::Reply
+    ensures { λ r. ⌜ outcome r (lent (nums .exit) (reals .entry) (ints .entry) (map .exit) (pool .exit) (spots .exit) (cells .exit)) ≡ removeMaintainOf (lent (nums .entry) (reals .entry) (ints .entry) (map .entry) (pool .entry) (spots .entry) (cells .entry)) h ⌝ }
+{
+    let held = point_tables::check(nums, reals, ints, map, pool, spots, cells);
+    removals::remove_maintain(nums, reals, ints, map, pool, spots, cells, held, h)
+}
+
+// Writes recorded position and data of every object, ascending by slot, and empties the grid. 3, 9 with the number of objects.
+pub fn clear(
+    nums: &mut [[u32; 4]],
+    reals: &[[f32; 4]],
+    ints: &[[i32; 4]],
+    map: &mut [u64],
+    pool: &[[u64; 2]],
+    spots: &[[f32; 2]],
+    cells: &[[u64; 2]],
+    places: &mut [[f32; 2]],
+    objs: &mut [u32],
+) -> removals::Count
+    ensures { λ r. ⌜ outcome (wrote r (now (places .exit)) (now (objs .exit))) (lent (nums .exit) (reals .entry) (ints .entry) (map .exit) (pool .entry) (spots .entry) (cells .entry)) ≡ clearOf (lent (nums .entry) (reals .entry) (ints .entry) (map .entry) (pool .entry) (spots .entry) (cells .entry)) (now (places .entry)) (now (objs .entry)) ⌝ }
+{
+    let held = point_tables::check(nums, reals, ints, map, pool, spots, cells);
+    removals::clear(
+        nums,
+        reals,
+        ints,
+        map,
+        pool,
+        spots,
+        cells,
+        held,
+        places,
+        objs,
+    )
 }
