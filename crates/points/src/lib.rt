@@ -9,6 +9,7 @@ ghost use Rattle.moves.specs.Moves.{reply, setPositionOf, removeOf};
 ghost use Rattle.moves.specs.Batch.{batched, batchOf};
 ghost use Rattle.removals.specs.RemoveMaintain.{removeMaintainOf};
 ghost use Rattle.removals.specs.Clear.{wrote, clearOf};
+ghost use Rattle.queries.specs.Queries.{findings, queryOf, aroundOf, aabbOf};
 ghost use Rattle.reads.specs.Reads.{getOf, lenOf, handlesOf, listing};
 use geometry::Position;
 use inserts::Inserted;
@@ -213,5 +214,104 @@ pub fn clear(
         held,
         places,
         objs,
+    )
+}
+
+// All entries of the range from the cell of ll to that of ur: handles, and positions beside them. 3, 6, 7, 9 with the number found.
+pub fn query(
+    nums: &[[u32; 4]],
+    reals: &[[f32; 4]],
+    ints: &[[i32; 4]],
+    map: &[u64],
+    pool: &[[u64; 2]],
+    spots: &[[f32; 2]],
+    cells: &[[u64; 2]],
+    ll: Position,
+    ur: Position,
+    found: &mut [[u32; 2]],
+    places: &mut [[f32; 2]],
+) -> queries::Count
+    ensures { λ r. ⌜ findings r (now (found .exit)) (now (places .exit)) ≡ queryOf (lent (nums .entry) (reals .entry) (ints .entry) (map .entry) (pool .entry) (spots .entry) (cells .entry)) ll ur (now (found .entry)) (now (places .entry)) ⌝ }
+{
+    let held = point_tables::check(nums, reals, ints, map, pool, spots, cells);
+    queries::query(
+        nums,
+        reals,
+        ints,
+        map,
+        pool,
+        spots,
+        cells,
+        held,
+        ll,
+        ur,
+        found,
+        places,
+    )
+}
+
+// The entries strictly inside a circle. 3, 6, 7, 9 with the number found.
+pub fn query_around(
+    nums: &[[u32; 4]],
+    reals: &[[f32; 4]],
+    ints: &[[i32; 4]],
+    map: &[u64],
+    pool: &[[u64; 2]],
+    spots: &[[f32; 2]],
+    cells: &[[u64; 2]],
+    centre: Position,
+    radius: f32,
+    found: &mut [[u32; 2]],
+    places: &mut [[f32; 2]],
+) -> queries::Count
+    ensures { λ r. ⌜ findings r (now (found .exit)) (now (places .exit)) ≡ aroundOf (lent (nums .entry) (reals .entry) (ints .entry) (map .entry) (pool .entry) (spots .entry) (cells .entry)) centre radius (now (found .entry)) (now (places .entry)) ⌝ }
+{
+    let held = point_tables::check(nums, reals, ints, map, pool, spots, cells);
+    queries::query_around(
+        nums,
+        reals,
+        ints,
+        map,
+        pool,
+        spots,
+        cells,
+        held,
+        centre,
+        radius,
+        found,
+        places,
+    )
+}
+
+// The entries of a rectangle, whatever the order of its corners, edges included. 3, 6, 7, 9 with the number found.
+pub fn query_aabb(
+    nums: &[[u32; 4]],
+    reals: &[[f32; 4]],
+    ints: &[[i32; 4]],
+    map: &[u64],
+    pool: &[[u64; 2]],
+    spots: &[[f32; 2]],
+    cells: &[[u64; 2]],
+    a: Position,
+    b: Position,
+    found: &mut [[u32; 2]],
+    places: &mut [[f32; 2]],
+) -> queries::Count
+    ensures { λ r. ⌜ findings r (now (found .exit)) (now (places .exit)) ≡ aabbOf (lent (nums .entry) (reals .entry) (ints .entry) (map .entry) (pool .entry) (spots .entry) (cells .entry)) a b (now (found .entry)) (now (places .entry)) ⌝ }
+{
+    let held = point_tables::check(nums, reals, ints, map, pool, spots, cells);
+    queries::query_aabb(
+        nums,
+        reals,
+        ints,
+        map,
+        pool,
+        spots,
+        cells,
+        held,
+        a,
+        b,
+        found,
+        places,
     )
 }

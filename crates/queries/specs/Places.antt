@@ -1,0 +1,35 @@
+-- The places of the pool whose entries a search is for, ascending. Assumes nothing.
+use Prim.Native.Nat.{ℕ, zero, suc, _+_}
+use mathlib.Core.Bool.{Bool, _&&_}
+use mathlib.Core.List.{List, [], _∷_, _++_}
+use lib.Ieee.{Float, nan}
+use lib.ListN.{getD}
+use Rattle.basics.specs.Refusals.{pick}
+use Rattle.cells.specs.declared.Cell.{Cell}
+use Rattle.storage.specs.Entries.{Entry, entry, entryKey}
+use Rattle.storage.specs.WindowLaws.{windowOf}
+use Rattle.queries.specs.Queries.{passes, positionOf}
+use Rattle.queries.specs.declared.Test.{Test}
+
+-- of n places from `from` on, those that pass
+unfoldable pub placesIn : (ℕ → Bool) → ℕ → ℕ → List ℕ
+placesIn test from zero = []
+placesIn test from (suc n) = placesIn test from n ++ pick (test (from + n)) ((from + n) ∷ []) []
+
+abbrev pub entryAt : List (List ℕ) → List (List Float) → ℕ → Entry
+entryAt pool spots j = entry (getD pool j []) (getD spots j [])
+
+-- an entry whose cell is in the range from a to b, and whose position passes
+abbrev pub wanted : Cell → Cell → Test → Entry → Bool
+wanted a b test e = windowOf a b (entryKey e) && passes test (positionOf e)
+
+abbrev pub wantedAt : Cell → Cell → Test → List (List ℕ) → List (List Float) → ℕ → Bool
+wantedAt a b test pool spots j = wanted a b test (entryAt pool spots j)
+
+-- the spot at place j passes
+abbrev pub spotPasses : Test → List (List Float) → ℕ → Bool
+spotPasses test spots j = passes test (record { x = getD (getD spots j []) 0 nan; y = getD (getD spots j []) 1 nan })
+
+-- the places below `used` of the entries that a search is for
+unfoldable pub placesOf : Cell → Cell → Test → List (List ℕ) → List (List Float) → ℕ → List ℕ
+placesOf a b test pool spots used = placesIn (wantedAt a b test pool spots) 0 used

@@ -1,0 +1,102 @@
+-- `query`, `query_around` and `query_aabb`: the entries of a range that pass a test, in range order and then in list order; a finding is
+-- handle and position. Assumes nothing.
+use Prim.Native.Nat.{ℕ, min}
+use mathlib.Core.Bool.{Bool, true, _&&_}
+use mathlib.Core.List.{List, [], _∷_, map}
+use lib.Dec.{eqb, leb}
+use lib.Ieee.{Float, nan, binary32, add, sub}
+use lib.ListN.{length, getD}
+use Rattle.basics.specs.Refusals.{unless, firstOf, pick}
+use Rattle.geometry.specs.declared.Position.{Position}
+use Rattle.geometry.specs.Domain.{positionInDomain, radiusInDomain}
+use Rattle.geometry.specs.Circle.{inCircle}
+use Rattle.geometry.specs.Rectangle.{lowerCorner, upperCorner, inRectangle}
+use Rattle.cells.specs.CellRule.{cellAt}
+use Rattle.cells.specs.Range.{cellsIn}
+use Rattle.slots.specs.Slot.{versionAt}
+use Rattle.storage.specs.Keyed.{filter, written}
+use Rattle.storage.specs.Entries.{Entry, rowItem, entryKey}
+use Rattle.storage.specs.Walk.{walked}
+use Rattle.point_tables.specs.Tables.{Tables, sizeOf, entriesIn}
+use Rattle.point_tables.specs.Decide.{holds}
+use Rattle.queries.specs.declared.Test.{Test}
+use Rattle.queries.specs.declared.Test.the-variants.{Any, Circle, Rectangle}
+use Rattle.queries.specs.declared.Count.{Count}
+
+abbrev pub count : ℕ → ℕ → Count
+count a n = record { answer = a; count = n }
+
+-- the most cells that a range of a query may have
+abbrev pub mostCells : ℕ
+mostCells = 4096
+
+abbrev pub passes : Test → Position → Bool
+passes Any p = true
+passes (Circle c r) p = inCircle p c r
+passes (Rectangle ll ur) p = inRectangle p ll ur
+
+abbrev pub positionOf : Entry → Position
+positionOf e = record { x = getD (e .spot) 0 nan; y = getD (e .spot) 1 nan }
+
+-- the entries found in the range of the corners ll and ur: the position that an entry has is the recorded one
+unfoldable pub found : Tables → Position → Position → Test → List Entry
+found t ll ur test = filter (λ e. passes test (positionOf e)) (walked entryKey (cellAt (sizeOf t) ll) (cellAt (sizeOf t) ur) (entriesIn t))
+
+-- ---- a finding in the outputs: a row (slot, version) and a row (x, y)
+abbrev pub handleRow : Tables → Entry → List ℕ
+handleRow t e = rowItem (e .row) ∷ versionAt (t .nums) (rowItem (e .row)) ∷ []
+
+abbrev pub placeRow : Entry → List Float
+placeRow e = positionOf e .x ∷ positionOf e .y ∷ []
+
+-- what a query returns, and its outputs after it
+pub record Findings : Type 0 where
+  pub returned : Count
+  pub handles : List (List ℕ)
+  pub places : List (List Float)
+
+abbrev pub findings : Count → List (List ℕ) → List (List Float) → Findings
+findings c h p = record { returned = c; handles = h; places = p }
+
+-- ---- the search that the three queries are. `ok` says whether their numbers are in the domain
+unfoldable pub searchAnswer : Tables → Bool → Position → Position → Test → ℕ → ℕ
+unfolding found
+searchAnswer t ok ll ur test room =
+    firstOf (
+    unless (holds t) 3
+    ∷ unless ok 6
+    ∷ unless (leb (cellsIn (cellAt (sizeOf t) ll) (cellAt (sizeOf t) ur)) mostCells) 7
+    ∷ unless (leb (length (found t ll ur test)) room) 9
+    ∷ []
+    )
+
+unfoldable pub searchOf : Tables → Bool → Position → Position → Test → List (List ℕ) → List (List Float) → Findings
+unfolding searchAnswer found
+searchOf t ok ll ur test handles places =
+    let a = searchAnswer t ok ll ur test (min (length handles) (length places)) in
+    let es = found t ll ur test in
+    pick (eqb a 0)
+    (findings (count 0 (length es)) (written (map (handleRow t) es) handles) (written (map placeRow es) places))
+    (findings (count a (pick (eqb a 9) (length es) 0)) handles places)
+
+-- corners not swapped: a reversed range is empty
+unfoldable pub queryOf : Tables → Position → Position → List (List ℕ) → List (List Float) → Findings
+unfolding searchOf
+queryOf t ll ur = searchOf t (positionInDomain ll && positionInDomain ur) ll ur Any
+
+-- from x-r, y-r to x+r, y+r, in binary32; these corners may leave the domain
+abbrev pub cornerBelow : Position → Float → Position
+cornerBelow c r = record { x = sub binary32 (c .x) r; y = sub binary32 (c .y) r }
+
+abbrev pub cornerAbove : Position → Float → Position
+cornerAbove c r = record { x = add binary32 (c .x) r; y = add binary32 (c .y) r }
+
+unfoldable pub aroundOf : Tables → Position → Float → List (List ℕ) → List (List Float) → Findings
+unfolding searchOf
+aroundOf t c r = searchOf t (positionInDomain c && radiusInDomain r) (cornerBelow c r) (cornerAbove c r) (Circle c r)
+
+-- corners sorted on each axis, then edges included
+unfoldable pub aabbOf : Tables → Position → Position → List (List ℕ) → List (List Float) → Findings
+unfolding searchOf
+aabbOf t a b =
+    searchOf t (positionInDomain a && positionInDomain b) (lowerCorner a b) (upperCorner a b) (Rectangle (lowerCorner a b) (upperCorner a b))

@@ -1,0 +1,77 @@
+// Writing what a search found into the outputs.
+ghost use mathlib.Core.Path.{_≡_};
+ghost use mathlib.Core.List.{map};
+ghost use Prim.Native.Nat.{ℕ, _≤_, _<_};
+ghost use lib.ListN.{length, getD, take};
+ghost use Rattle.cells.specs.Numbers.{Near};
+ghost use Rattle.storage.specs.Keyed.{written};
+ghost use Rattle.queries.specs.Queries.{findings};
+ghost use Rattle.queries.specs.Places.{placesOf};
+ghost use Rattle.queries.specs.Fill.{handleAt, placeAt, filled, Stocked, Findable};
+use crate::Count;
+use crate::Test;
+use crate::gather::gather;
+use cells::Cell;
+
+// Writes the first r places' handles and positions, from place 0 of the outputs on.
+fn put_findings(
+    nums: &[[u32; 4]],
+    pool: &[[u64; 2]],
+    spots: &[[f32; 2]],
+    found: &[u32],
+    r: usize,
+    handles: &mut [[u32; 2]],
+    places: &mut [[f32; 2]],
+)
+    requires { ⌜ (r ≤ length (now found)) × (r ≤ length (now handles)) × (r ≤ length (now places)) × (length (now nums) ≤ 4096) × ((k : ℕ) → k < r → Findable (now nums) (now pool) (now spots) (getD (now found) k 0)) ⌝ }
+    ensures { λ _. ⌜ (now (handles .exit) ≡ written (map (handleAt (now (nums .entry)) (now (pool .entry))) (take r (now (found .entry)))) (now (handles .entry))) × (now (places .exit) ≡ written (map (placeAt (now (spots .entry))) (take r (now (found .entry)))) (now (places .entry))) ⌝ }
+{
+    let mut k = 0;
+    while k < r {
+        let j = basics::wide(found[k]);
+        let row = pool[j];
+        let s = basics::index_of(row[1]);
+        let n = nums[s];
+        let spot = spots[j];
+        handles[k] = [s as u32, n[0]];
+        places[k] = [spot[0], spot[1]];
+        k += 1;
+    }
+}
+
+// Collects the places in one pass, and writes the findings unless an output is too short: nothing is written before that is known.
+pub fn fill(
+    nums: &[[u32; 4]],
+    pool: &[[u64; 2]],
+    spots: &[[f32; 2]],
+    used: usize,
+    a: Cell,
+    b: Cell,
+    test: Test,
+    handles: &mut [[u32; 2]],
+    places: &mut [[f32; 2]],
+) -> Count
+    requires { ⌜ Stocked (now pool) (now spots) used × Near a × Near b × (length (now nums) ≤ 4096) × ((j : ℕ) → j < used → Findable (now nums) (now pool) (now spots) j) ⌝ }
+    ensures { λ r. ⌜ findings r (now (handles .exit)) (now (places .exit)) ≡ filled (now (nums .entry)) (now (pool .entry)) (now (spots .entry)) (placesOf a b test (now (pool .entry)) (now (spots .entry)) used) (now (handles .entry)) (now (places .entry)) ⌝ }
+{
+    let mut found: [u32; 4096] = [0; 4096];
+    let r = gather(pool, spots, used, a, b, test, &mut found);
+    let number = r as u32;
+    if handles.len() < r {
+        return Count {
+            answer: 9,
+            count: number,
+        };
+    }
+    if places.len() < r {
+        return Count {
+            answer: 9,
+            count: number,
+        };
+    }
+    put_findings(nums, pool, spots, &found, r, handles, places);
+    Count {
+        answer: 0,
+        count: number,
+    }
+}

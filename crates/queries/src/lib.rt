@@ -1,0 +1,199 @@
+// The queries of a point grid: `query`, `query_around`, `query_aabb`. Each takes the verdict of the check on the tables, `held`.
+ghost use mathlib.Core.Path.{_≡_};
+ghost use mathlib.Core.Bool.{true};
+ghost use Rattle.cells.specs.CellRule.{Reached};
+ghost use Rattle.point_tables.specs.Tables.{tables};
+ghost use Rattle.point_tables.specs.Decide.{holds};
+ghost use Rattle.queries.specs.Queries.{count, findings, searchOf, queryOf, aroundOf, aabbOf};
+
+mod fill;
+mod gather;
+
+use cells::cell_at;
+use cells::cells_in;
+use fill::fill;
+use geometry::Position;
+use geometry::lower_corner;
+use geometry::position_in_domain;
+use geometry::radius_in_domain;
+use geometry::upper_corner;
+
+// What a found position must pass, besides standing in the range: nothing, a circle of a centre and a radius, or a rectangle of two corners.
+pub enum Test {
+    Any,
+    Circle(Position, f32),
+    Rectangle(Position, Position),
+}
+
+// A number beside the answer.
+pub struct Count {
+    pub answer: u32,
+    pub count: u32,
+}
+
+fn refused(answer: u32) -> Count
+    ensures { λ r. ⌜ r ≡ count answer 0 ⌝ }
+{
+    Count {
+        answer: answer,
+        count: 0,
+    }
+}
+
+// What the three queries are: the range from the cell of `ll` to that of `ur`, and a test. `ok` says whether the numbers that were given are in the domain.
+fn search(
+    nums: &[[u32; 4]],
+    reals: &[[f32; 4]],
+    ints: &[[i32; 4]],
+    map: &[u64],
+    pool: &[[u64; 2]],
+    spots: &[[f32; 2]],
+    cells: &[[u64; 2]],
+    held: bool,
+    ok: bool,
+    ll: Position,
+    ur: Position,
+    test: Test,
+    handles: &mut [[u32; 2]],
+    places: &mut [[f32; 2]],
+) -> Count
+    requires { ⌜ held ≡ holds (tables (now nums) (now reals) (now ints) (now map) (now pool) (now spots) (now cells)) ⌝ }
+    requires { ⌜ (ok ≡ true → Reached ll × Reached ur) ⌝ }
+    ensures { λ r. ⌜ findings r (now (handles .exit)) (now (places .exit)) ≡ searchOf (tables (now (nums .entry)) (now (reals .entry)) (now (ints .entry)) (now (map .entry)) (now (pool .entry)) (now (spots .entry)) (now (cells .entry))) ok ll ur test (now (handles .entry)) (now (places .entry)) ⌝ }
+{
+    if !held {
+        return refused(3);
+    }
+    if !ok {
+        return refused(6);
+    }
+    let size = map[0];
+    let a = cell_at(size, ll);
+    let b = cell_at(size, ur);
+    if 4096 < cells_in(a, b) {
+        return refused(7);
+    }
+    let used = basics::index_of(map[1]);
+    fill(nums, pool, spots, used, a, b, test, handles, places)
+}
+
+// All entries of the range. The corners are not swapped: a reversed range is empty.
+pub fn query(
+    nums: &[[u32; 4]],
+    reals: &[[f32; 4]],
+    ints: &[[i32; 4]],
+    map: &[u64],
+    pool: &[[u64; 2]],
+    spots: &[[f32; 2]],
+    cells: &[[u64; 2]],
+    held: bool,
+    ll: Position,
+    ur: Position,
+    handles: &mut [[u32; 2]],
+    places: &mut [[f32; 2]],
+) -> Count
+    requires { ⌜ held ≡ holds (tables (now nums) (now reals) (now ints) (now map) (now pool) (now spots) (now cells)) ⌝ }
+    ensures { λ r. ⌜ findings r (now (handles .exit)) (now (places .exit)) ≡ queryOf (tables (now (nums .entry)) (now (reals .entry)) (now (ints .entry)) (now (map .entry)) (now (pool .entry)) (now (spots .entry)) (now (cells .entry))) ll ur (now (handles .entry)) (now (places .entry)) ⌝ }
+{
+    let ok = position_in_domain(ll) & position_in_domain(ur);
+    search(
+        nums,
+        reals,
+        ints,
+        map,
+        pool,
+        spots,
+        cells,
+        held,
+        ok,
+        ll,
+        ur,
+        Test::Any,
+        handles,
+        places,
+    )
+}
+
+// The entries nearer to the centre than the radius. The corners of the range may leave the domain.
+pub fn query_around(
+    nums: &[[u32; 4]],
+    reals: &[[f32; 4]],
+    ints: &[[i32; 4]],
+    map: &[u64],
+    pool: &[[u64; 2]],
+    spots: &[[f32; 2]],
+    cells: &[[u64; 2]],
+    held: bool,
+    centre: Position,
+    radius: f32,
+    handles: &mut [[u32; 2]],
+    places: &mut [[f32; 2]],
+) -> Count
+    requires { ⌜ held ≡ holds (tables (now nums) (now reals) (now ints) (now map) (now pool) (now spots) (now cells)) ⌝ }
+    ensures { λ r. ⌜ findings r (now (handles .exit)) (now (places .exit)) ≡ aroundOf (tables (now (nums .entry)) (now (reals .entry)) (now (ints .entry)) (now (map .entry)) (now (pool .entry)) (now (spots .entry)) (now (cells .entry))) centre radius (now (handles .entry)) (now (places .entry)) ⌝ }
+{
+    let ok = position_in_domain(centre) & radius_in_domain(radius);
+    let ll = Position {
+        x: centre.x - radius,
+        y: centre.y - radius,
+    };
+    let ur = Position {
+        x: centre.x + radius,
+        y: centre.y + radius,
+    };
+    search(
+        nums,
+        reals,
+        ints,
+        map,
+        pool,
+        spots,
+        cells,
+        held,
+        ok,
+        ll,
+        ur,
+        Test::Circle(centre, radius),
+        handles,
+        places,
+    )
+}
+
+// The entries of the rectangle that has a and b as opposite corners, edges included.
+pub fn query_aabb(
+    nums: &[[u32; 4]],
+    reals: &[[f32; 4]],
+    ints: &[[i32; 4]],
+    map: &[u64],
+    pool: &[[u64; 2]],
+    spots: &[[f32; 2]],
+    cells: &[[u64; 2]],
+    held: bool,
+    a: Position,
+    b: Position,
+    handles: &mut [[u32; 2]],
+    places: &mut [[f32; 2]],
+) -> Count
+    requires { ⌜ held ≡ holds (tables (now nums) (now reals) (now ints) (now map) (now pool) (now spots) (now cells)) ⌝ }
+    ensures { λ r. ⌜ findings r (now (handles .exit)) (now (places .exit)) ≡ aabbOf (tables (now (nums .entry)) (now (reals .entry)) (now (ints .entry)) (now (map .entry)) (now (pool .entry)) (now (spots .entry)) (now (cells .entry))) a b (now (handles .entry)) (now (places .entry)) ⌝ }
+{
+    let ok = position_in_domain(a) & position_in_domain(b);
+    let ll = lower_corner(a, b);
+    let ur = upper_corner(a, b);
+    search(
+        nums,
+        reals,
+        ints,
+        map,
+        pool,
+        spots,
+        cells,
+        held,
+        ok,
+        ll,
+        ur,
+        Test::Rectangle(ll, ur),
+        handles,
+        places,
+    )
+}
