@@ -50,6 +50,36 @@ fn list(
     line(b"handles ", r.answer, r.count, kept[0]);
 }
 
+// A circle of radius 8 round the origin: answer, how many it finds, the slot of the last.
+fn circle(
+    nums: &[[u32; 4]],
+    reals: &[[f32; 4]],
+    ints: &[[i32; 4]],
+    map: &[u64],
+    pool: &[[u64; 2]],
+    spots: &[[f32; 2]],
+    cells: &[[u64; 2]],
+) {
+    let mut found = [[7u32; 2]; 2];
+    let mut places = [[0.0f32; 2]; 2];
+    let centre = Position { x: 0.0, y: 0.0 };
+    let r = points::query_around(
+        nums,
+        reals,
+        ints,
+        map,
+        pool,
+        spots,
+        cells,
+        centre,
+        8.0,
+        &mut found,
+        &mut places,
+    );
+    let last = found[1];
+    line(b"circle ", r.answer, r.count, last[0]);
+}
+
 // Five deferred calls with one check: far moves, two removals of one object, a move of what is removed, a handle that is not good.
 fn frame(
     nums: &mut [[u32; 4]],
@@ -91,6 +121,7 @@ fn frame(
     line(b"batch ", r.answer, a[0], b[0]);
     line(b"removed ", b[1], c[0], c[1]);
     line(b"refused ", d[0], e[0], e[1]);
+    circle(nums, reals, ints, map, pool, spots, cells);
     list(nums, reals, ints, map, pool, spots, cells);
 }
 
