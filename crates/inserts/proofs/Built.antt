@@ -1,14 +1,13 @@
 -- The answer of building, test by test, and its outcome by the answer. Assumes nothing.
 use Prim.Native.Nat.{ℕ}
-use mathlib.Core.Path.{_≡_, refl, sym, _∙_, ap}
+use mathlib.Core.Path.{_≡_, refl, sym, _∙_}
 use mathlib.Core.Bool.{Bool, true, false}
 use mathlib.Core.List.{List, [], _∷_}
 use native.Mathlib.Omega.{arith}
-use lib.Dec.{eqb}
 use lib.ListN.{replicate}
 use borrow.Author.Tests.{ne-eqb}
 use Rattle.basics.specs.Says.{Says, says-same}
-use Rattle.basics.specs.Refusals.{orElse, pick}
+use Rattle.basics.specs.Refusals.{orElse}
 use Rattle.cells.specs.Size.{SizeInDomain}
 use Rattle.slots.specs.Map.{wordsFor}
 use Rattle.slots.specs.Slot.{free}

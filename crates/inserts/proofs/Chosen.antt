@@ -1,26 +1,23 @@
 -- An insert by its answer: what holds where it is 0, and its outcome either way. Assumes nothing.
 use Prim.Native.Nat.{ℕ, _+_, _≤_}
-use mathlib.Core.Path.{_≡_, refl, sym, _∙_, ap}
+use mathlib.Core.Path.{_≡_, refl, sym, _∙_}
 use mathlib.Core.Bool.{Bool, true, false}
 use mathlib.Core.List.{List}
 use native.Mathlib.Omega.{arith}
 use lib.ListN.{length}
 use borrow.Author.Tests.{ne-eqb}
 use Rattle.basics.specs.Says.{says-t}
-use Rattle.basics.specs.Refusals.{pick}
 use Rattle.geometry.specs.Domain.{positionInDomain}
 use Rattle.geometry.specs.declared.Position.{Position}
-use Rattle.slots.specs.declared.Handle.{Handle}
 use Rattle.slots.specs.declared.Usable.{Usable}
 use Rattle.slots.specs.declared.Usable.the-variants.{At, Nothing}
 use Rattle.slots.specs.Map.{wordsFor, lowestUsable, NonePast}
 use Rattle.slots.specs.Slot.{versionAt}
 use Rattle.slots.specs.SlotLaws.{lowest-free}
-use Rattle.objects.specs.Occupied.{InDomain}
 use Rattle.point_tables.specs.Tables.{Tables, slotsOf}
-use Rattle.point_tables.specs.Holds.{Holds}
 use Rattle.point_tables.specs.Decide.{holds, holds-says}
 use Rattle.point_tables.specs.Outcome.{outcome}
+use Rattle.inserts.specs.declared.Inserted.{Inserted}
 use Rattle.inserts.specs.Insert.{inserted, usableSlot, put, insertAnswer, insertOf}
 use Rattle.inserts.specs.Fresh.{Fresh, answerBy}
 use Rattle.inserts.specs.InsertLaws.{insert-done}
@@ -59,9 +56,9 @@ module _ (t : Tables) (p : Position) (d : ℕ) (held : Bool) (eh : held ≡ hold
     unfolding insertAnswer
     answer-is = rw (ea, eh)
 
-    pub refused : (a ≡ 0 → ⊥) → outcome (inserted a 0 0) t ≡ insertOf t p d
+    pub refused : (a ≡ 0 → ⊥) → (r : Inserted) → r ≡ inserted a 0 0 → outcome r t ≡ insertOf t p d
     unfolding insertOf
-    refused n = rw (← answer-is, ne-eqb a 0 n)
+    refused n r q = rw (q, ← answer-is, ne-eqb a 0 n)
 
     module _ (z : a ≡ 0) (s : ℕ) (u : usableSlot t ≡ At s) where
       pub chosen : Fresh t s p
@@ -71,5 +68,5 @@ module _ (t : Tables) (p : Position) (d : ℕ) (held : Bool) (eh : held ≡ hold
           let f = lowest-free (t .nums) (t .map) (h .slots) s u in
           record { holds = h; in-domain = says-t (positionInDomain p) .yes (k .1); inside = f .0; is-free = f .1 }
 
-      pub done : (h : Handle) (w : Tables) → (h .slot ≡ s) × (h .version ≡ versionAt (t .nums) s) → w ≡ put t s p d → outcome (inserted 0 (h .slot) (h .version)) w ≡ insertOf t p d
-      done h w e q = rw (e .0, e .1, q) (sym (insert-done t p d s (chosen .holds) (chosen .in-domain) u))
+      pub done : (r : Inserted) (w : Tables) → r ≡ inserted 0 s (versionAt (t .nums) s) → w ≡ put t s p d → outcome r w ≡ insertOf t p d
+      done r w e q = rw (e, q) (sym (insert-done t p d s (chosen .holds) (chosen .in-domain) u))

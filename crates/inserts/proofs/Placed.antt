@@ -1,6 +1,6 @@
 -- What the work of an insert asks of its calls, and what they leave, put together. Assumes nothing.
-use Prim.Native.Nat.{ℕ, _+_, _/_, _<_, _≤_}
-use mathlib.Core.Path.{_≡_, refl, sym, _∙_, ap, subst}
+use Prim.Native.Nat.{ℕ, _+_, _/_, _<_}
+use mathlib.Core.Path.{_≡_, sym, _∙_, ap, subst}
 use mathlib.Core.List.{List, [], _∷_, map}
 use native.Mathlib.Omega.{arith}
 use lib.Ieee.{Float}
@@ -10,7 +10,6 @@ use Rattle.geometry.specs.declared.Position.{Position}
 use Rattle.cells.specs.declared.Cell.{Cell}
 use Rattle.cells.specs.CellRule.{cellAt}
 use Rattle.cells.specs.Key.{keyOf}
-use Rattle.cells.specs.ReachLaws.{position-reached}
 use Rattle.slots.specs.Map.{taken}
 use Rattle.slots.specs.Slot.{versionAt}
 use Rattle.storage.specs.Keyed.{Sorted, written}
@@ -19,12 +18,12 @@ use Rattle.storage.specs.CellTable.{entered}
 use Rattle.storage.specs.Pooled as Pooled
 use Rattle.storage.specs.Pooled.{Columns}
 use Rattle.objects.specs.Columns.{numsOf, realsOf, intsOf}
-use Rattle.point_tables.specs.Tables.{Tables, tables, counting, sizeOf, usedOf, rowsOf, slotsOf}
-use Rattle.point_tables.specs.Holds.{Holds}
+use Rattle.point_tables.specs.Tables.{Tables, tables, sizeOf, usedOf, rowsOf, counting, slotsOf}
 use Rattle.inserts.specs.Insert.{entriesWith, rowsWith, put}
 use Rattle.inserts.specs.Fresh.{Fresh, freshRecord}
 use Rattle.inserts.specs.EnterLaws.{rows-least}
-use Rattle.inserts.specs.ListedLaws.{rows-in, room}
+use Rattle.inserts.specs.ListedLaws.{rows-in}
+use Rattle.inserts.specs.RoomLaws.{room}
 use Rattle.inserts.specs.PutLaws.{more}
 
 module _ (t : Tables) (s : ℕ) (p : Position) (f : Fresh t s p) where

@@ -1,21 +1,19 @@
 -- A cell that is entered has a row: its own, or a new one with no mark. So the rows stay a storage when an entry is appended and its cell
 -- entered, and there are never more rows than entries. Assumes nothing.
 use Prim.Native.Nat.{ℕ, zero, suc, _<_, _≤_}
-use mathlib.Core.Path.{_≡_, refl, sym, _∙_, ap}
-use mathlib.Core.Bool.{true, false}
+use mathlib.Core.Path.{_≡_, refl, sym}
 use mathlib.Core.List.{List, [], _∷_, _++_, cons≢nil}
-use mathlib.Core.Logic.{_⊎_, inl, inr, ⊎-elim}
+use mathlib.Core.Logic.{inl, inr}
 use native.Mathlib.Omega.{arith}
 use lib.Dec.{eqb}
-use lib.ListN.{length}
-use borrow.Author.Tests.{eqb-true, eqb-false, eq-eqb, ne-eqb}
+use borrow.Author.Tests.{eqb-false}
 use Rattle.basics.specs.Says.{d-le}
 use Rattle.storage.specs.Keyed.{All, Sorted, under, onList, append1}
-use Rattle.storage.specs.Entries.{rowKey, rowItem}
+use Rattle.storage.specs.Entries.{rowKey}
 use Rattle.storage.specs.CellTable.{rowOr, entered}
 use Rattle.storage.specs.Packed.{first, Packed}
 use Rattle.storage.specs.FilterLaws.{by-test, all-map}
-use Rattle.storage.specs.KeyedLaws.{none-under, onList-same}
+use Rattle.storage.specs.KeyedLaws.{onList-same}
 use Rattle.storage.specs.AppendLaws.{sorted-append1, under-append1, all-append1}
 use Rattle.storage.specs.StorageLaws.{own-filled}
 use Rattle.storage.specs.Store.{Filled}

@@ -6,7 +6,7 @@ use native.Mathlib.Omega.{arith}
 use native.Mathlib.Nat.{not-suc-le-zero, le-of-suc-le-suc}
 use lib.Ieee.{Float}
 use lib.ListN.{length, getD, take, drop, length-map}
-use lib.Seq.{length-take-le, getD-take, take-append-seam, length-front}
+use lib.Seq.{length-take-le, getD-take, take-append-seam}
 use Rattle.storage.specs.Keyed.{All, written}
 use Rattle.storage.specs.Entries.{Entry, entry, rowOf, spotOf, zipped, entriesOf}
 use Rattle.storage.specs.FilterLaws.{all-at, all-of}
@@ -44,9 +44,6 @@ module _ (pool : List (List ℕ)) (spots : List (List Float)) (used : ℕ) (u : 
   entries-all P a j h = rw (entries-at j h) at (all-at P (entry [] []) (entriesOf pool spots used) j (rw entries-length h) a)
 
 -- ---- entries that are written are the entries in use
-pub written-length : {A : Type 0} (new old : List A) → length new ≤ length old → length (written new old) ≡ length old
-written-length new old h = length-front old new (length new) (sym (length-take-le (length new) old h))
-
 pub written-entries : (es : List Entry) (pool : List (List ℕ)) (spots : List (List Float)) → entriesOf (written (map rowOf es) pool) (written (map spotOf es) spots) (length es) ≡ es
 written-entries es pool spots =
     ap₂ {C = List Entry} zipped (in-front (map rowOf es) (drop (length (map rowOf es)) pool) (length-map es rowOf)) (in-front (map spotOf es) (drop (length (map spotOf es)) spots) (length-map es spotOf)) ∙ zipped-whole es

@@ -9,7 +9,6 @@ use Rattle.geometry.specs.Domain.{positionInDomain}
 use Rattle.geometry.specs.declared.Position.{Position}
 use Rattle.cells.specs.CellRule.{cellAt}
 use Rattle.cells.specs.Key.{keyOf}
-use Rattle.slots.specs.declared.Handle.{Handle}
 use Rattle.slots.specs.declared.Usable.{Usable}
 use Rattle.slots.specs.declared.Usable.the-variants.{At, Nothing}
 use Rattle.slots.specs.Map.{taken, lowestUsable}
@@ -20,7 +19,7 @@ use Rattle.storage.specs.CellTable.{entered}
 use Rattle.objects.specs.declared.State.the-variants.{Unchanged}
 use Rattle.objects.specs.declared.Record.{Record}
 use Rattle.objects.specs.Columns.{numsOf, realsOf, intsOf}
-use Rattle.point_tables.specs.Tables.{Tables, tables, counting, sizeOf, slotsOf, entriesIn, cellRows}
+use Rattle.point_tables.specs.Tables.{Tables, tables, sizeOf, counting, slotsOf, entriesIn, cellRows}
 use Rattle.point_tables.specs.Decide.{holds}
 use Rattle.point_tables.specs.Outcome.{Outcome, outcome}
 use Rattle.inserts.specs.declared.Inserted.{Inserted}

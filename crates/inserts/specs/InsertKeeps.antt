@@ -1,36 +1,34 @@
 -- An accepted insert leaves tables that hold a grid. Assumes nothing.
-use Prim.Native.Nat.{ℕ, _+_, _<_, _≤_}
+use Prim.Native.Nat.{ℕ, _<_}
 use mathlib.Core.Path.{_≡_, refl, sym, _∙_, ap}
-use mathlib.Core.Bool.{Bool, true, false}
-use mathlib.Core.List.{List, [], _∷_, map}
+use mathlib.Core.List.{[]}
 use mathlib.Core.Logic.{inl, inr}
 use native.Mathlib.Omega.{arith}
-use lib.Ieee.{nan}
-use lib.ListN.{length, getD, set, drop, length-set, List·getD-append}
+use lib.ListN.{length, getD, drop, List·getD-append}
 use lib.Seq.{getD-set-same, getD-set-other}
 use Rattle.basics.specs.Says.{d-eq}
 use Rattle.geometry.specs.declared.Position.{Position}
 use Rattle.cells.specs.CellRule.{cellAt}
 use Rattle.cells.specs.Key.{keyOf}
 use Rattle.slots.specs.Slot.{free, live, phaseAt}
-use Rattle.storage.specs.Keyed.{All, Sorted, under, append1, written}
-use Rattle.storage.specs.Entries.{Entry, rowKey, rowItem, rowOf, entryKey}
-use Rattle.storage.specs.CellTable.{entered}
+use Rattle.storage.specs.Keyed.{All, under}
+use Rattle.storage.specs.Entries.{Entry, rowKey, rowItem, entryKey}
 use Rattle.storage.specs.Packed.{first, second}
 use Rattle.storage.specs.Store.{Filled}
-use Rattle.storage.specs.FilterLaws.{all-map, all-at, all-both}
+use Rattle.storage.specs.FilterLaws.{all-at, all-both}
 use Rattle.storage.specs.AppendLaws.{all-append1}
 use Rattle.storage.specs.PackedLaws.{all-first, place-filled}
 use Rattle.objects.specs.declared.Record.{Record}
 use Rattle.objects.specs.Columns.{tagOf, numsOf}
 use Rattle.objects.specs.Occupied.{InDomain}
-use Rattle.point_tables.specs.Tables.{Tables, sizeOf, usedOf, rowsOf, slotsOf, recordOn, entriesIn, cellRows}
+use Rattle.point_tables.specs.Tables.{Tables, sizeOf, rowsOf, slotsOf, recordOn, entriesIn, cellRows}
 use Rattle.point_tables.specs.Holds.{RecordHolds, ListsHold, Pending, Holds}
+use Rattle.point_tables.specs.HoldsLaws.{rows-in-cells, entries-sorted}
 use Rattle.inserts.specs.Insert.{newRecord, newEntry, entriesWith, rowsWith, put}
 use Rattle.inserts.specs.Members.{some-append1, new-append1, pairs-append1}
 use Rattle.inserts.specs.EnterLaws.{all-entered}
-use Rattle.inserts.specs.ListedLaws.{slotOf, Named, Listing, from-listing, listing, unnamed, in-cells, rows-in, entries-sorted}
-use Rattle.inserts.specs.PutLaws.{put-used, put-rows, put-size, put-length, put-slots, put-same, put-other, put-entries, put-packed, put-sized, put-counted}
+use Rattle.inserts.specs.ListedLaws.{slotOf, Named, Listing, from-listing, listing, unnamed, rows-in}
+use Rattle.inserts.specs.PutLaws.{put-rows, put-size, put-length, put-slots, put-same, put-other, put-entries, put-packed, put-sized, put-counted}
 
 module _ (t : Tables) (h : Holds t) (s : ℕ) (inside : s < slotsOf t) (is-free : phaseAt (t .nums) s ≡ free) (p : Position) (d : ℕ) (in-domain : InDomain p) where
   abbrev after : Tables
@@ -85,7 +83,7 @@ module _ (t : Tables) (h : Holds t) (s : ℕ) (inside : s < slotsOf t) (is-free 
       }
 
   apart-from : All (λ e. slotOf e ≡ s → ⊥) (entriesIn t)
-  apart-from = unnamed t h s inside (λ e. omega arith)
+  apart-from = unnamed t h s (λ e. omega arith)
 
   new-listing : Listing after (entriesWith t s p)
   new-listing =
@@ -110,11 +108,11 @@ module _ (t : Tables) (h : Holds t) (s : ℕ) (inside : s < slotsOf t) (is-free 
   has-row i l e =
       let w = h .lists .every i l e in
       let r = h .packed .has-row (w .0) (w .1) in
-      place-filled (rowsOf t) (t .cells) (in-cells t h) _ (r .0) (r .1) (r .2 ∙ h .lists .each (w .0) (w .1) .key ∙ ap (λ (k : ℕ). keyOf (recordOn t k .cell)) (w .2))
+      place-filled (rowsOf t) (t .cells) (rows-in-cells t h) _ (r .0) (r .1) (r .2 ∙ h .lists .each (w .0) (w .1) .key ∙ ap (λ (k : ℕ). keyOf (recordOn t k .cell)) (w .2))
 
   marked-rows : (i : ℕ) → i < slotsOf t → Pending t i → All (λ r. rowKey r ≡ keyOf (recordOn t i .cell) → rowItem r ≡ 1) (rowsWith t p)
   marked-rows i l q =
-      all-entered (keyOf (cellAt (sizeOf t) p)) (cellRows t) (rows-in t h .in-order) _ (all-first (rowsOf t) (t .cells) (in-cells t h) _ (h .dirty i l q))
+      all-entered (keyOf (cellAt (sizeOf t) p)) (cellRows t) (rows-in t h .in-order) _ (all-first (rowsOf t) (t .cells) (rows-in-cells t h) _ (h .dirty i l q))
       (λ n e. absurd (rw (← e, n) at (has-row i l (q .occupied))))
 
   row-at : (r : ℕ) → r < length (rowsWith t p) → getD (after .cells) r [] ≡ getD (rowsWith t p) r []

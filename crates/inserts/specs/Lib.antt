@@ -8,8 +8,9 @@ pub mod Members
 pub mod RowLaws
 pub mod EnterLaws
 pub mod EntryLaws
-pub mod Pigeons
 pub mod ListedLaws
+pub mod RoomLaws
+pub mod HeadLaws
 pub mod PutLaws
 pub mod InsertKeeps
 pub mod InsertLaws

@@ -1,23 +1,22 @@
 -- The lists of tables that hold a grid, as facts of the list of their entries: each names an object, no two the same one, and every
--- object is named. And that a usable slot leaves room for one entry more. Assumes nothing.
-use Prim.Native.Nat.{ℕ, suc, _<_, _≤_}
-use mathlib.Core.Path.{_≡_, refl, sym, _∙_, ap}
-use mathlib.Core.List.{List, [], _∷_, map}
+-- object is named. Assumes nothing.
+use Prim.Native.Nat.{ℕ, _<_, _≤_}
+use mathlib.Core.Path.{_≡_}
+use mathlib.Core.List.{List, []}
 use native.Mathlib.Omega.{arith}
 use lib.Ieee.{nan}
-use lib.ListN.{length, getD, take, length-map}
+use lib.ListN.{length, getD, take}
 use Rattle.cells.specs.Key.{keyOf}
-use Rattle.slots.specs.Slot.{free, live, phaseAt}
-use Rattle.storage.specs.Keyed.{All, Sorted}
-use Rattle.storage.specs.Entries.{Entry, entry, rowKey, rowItem, entryKey, entriesOf}
-use Rattle.storage.specs.FilterLaws.{all-map, all-over}
-use Rattle.storage.specs.PoolLaws.{sorted-entries}
+use Rattle.slots.specs.Slot.{live, phaseAt}
+use Rattle.storage.specs.Keyed.{All}
+use Rattle.storage.specs.Entries.{Entry, entry, rowKey, rowItem}
+use Rattle.storage.specs.FilterLaws.{all-map}
 use Rattle.point_tables.specs.Tables.{Tables, usedOf, rowsOf, slotsOf, recordOn, entriesIn, cellRows}
-use Rattle.point_tables.specs.Holds.{EntryHolds, ListsHold, Holds}
-use Rattle.inserts.specs.Members.{Some, Pairs, some-at, some-of, pairs-at, pairs-of, pairs-over}
+use Rattle.point_tables.specs.Holds.{ListsHold, Holds}
+use Rattle.point_tables.specs.HoldsLaws.{used-in-pool, used-in-spots, rows-in-cells}
+use Rattle.inserts.specs.Members.{Some, Pairs, some-at, some-of, pairs-at, pairs-of}
 use Rattle.inserts.specs.EntryLaws.{entryAt, entries-length, entries-at, all-entries, entries-all}
 use Rattle.inserts.specs.RowLaws.{PackedRows, to-rows}
-use Rattle.inserts.specs.Pigeons.{pigeons}
 
 abbrev pub slotOf : Entry → ℕ
 slotOf e = rowItem (e .row)
@@ -69,35 +68,12 @@ module _ (t : Tables) (u : usedOf t ≤ length (t .pool)) (v : usedOf t ≤ leng
 
 -- ---- tables that hold a grid
 module _ (t : Tables) (h : Holds t) where
-  pub in-pool : usedOf t ≤ length (t .pool)
-  in-pool = omega (arith, h .counted .used-most, h .sized .of-pool)
-
-  pub in-spots : usedOf t ≤ length (t .spots)
-  in-spots = omega (arith, h .counted .used-most, h .sized .of-spots)
-
   pub listing : Listing t (entriesIn t)
-  listing = to-listing t in-pool in-spots (h .lists)
-
-  pub count-entries : length (entriesIn t) ≡ usedOf t
-  count-entries = entries-length (t .pool) (t .spots) (usedOf t) in-pool in-spots
-
-  pub in-cells : rowsOf t ≤ length (t .cells)
-  in-cells = omega (arith, h .counted .rows-most, h .sized .of-cells)
+  listing = to-listing t (used-in-pool t h) (used-in-spots t h) (h .lists)
 
   pub rows-in : PackedRows (take (usedOf t) (t .pool)) (cellRows t)
-  rows-in = to-rows (usedOf t) (rowsOf t) (t .pool) (t .cells) in-pool in-cells (h .packed)
+  rows-in = to-rows (usedOf t) (rowsOf t) (t .pool) (t .cells) (used-in-pool t h) (rows-in-cells t h) (h .packed)
 
-  pub entries-sorted : Sorted entryKey (entriesIn t)
-  entries-sorted = sorted-entries (t .pool) (t .spots) (usedOf t) in-pool in-spots (rows-in .ordered)
-
-  -- a slot that is not occupied is named by no entry, so that there is room for one more
-  module _ (s : ℕ) (inside : s < slotsOf t) (not-live : phaseAt (t .nums) s ≡ live → ⊥) where
-    pub unnamed : All (λ e. slotOf e ≡ s → ⊥) (entriesIn t)
-    unnamed = all-map (Named t) _ (λ e n q. not-live (rw q at (n .occupied))) (entriesIn t) (listing .each)
-
-    pub room : usedOf t < slotsOf t
-    room =
-        let l = pigeons (slotsOf t) (s ∷ map slotOf (entriesIn t))
-        (all-over (λ a. s ≡ a → ⊥) slotOf (entriesIn t) (all-map _ _ (λ e n q. n (sym q)) (entriesIn t) unnamed), pairs-over _ slotOf (entriesIn t) (listing .once))
-        (inside, all-over (λ a. a < slotsOf t) slotOf (entriesIn t) (all-map (Named t) _ (λ e n. n .inside) (entriesIn t) (listing .each))) in
-        omega (arith, l, length-map (entriesIn t) slotOf, count-entries)
+  -- a slot that is not occupied is named by no entry
+  pub unnamed : (s : ℕ) → (phaseAt (t .nums) s ≡ live → ⊥) → All (λ e. slotOf e ≡ s → ⊥) (entriesIn t)
+  unnamed s n = all-map (Named t) _ (λ e m q. n (rw q at (m .occupied))) (entriesIn t) (listing .each)

@@ -1,13 +1,12 @@
 -- Freshly built tables hold a grid; building answers 0, 2 or 3, and one that is refused leaves the tables. Assumes nothing.
-use Prim.Native.Nat.{ℕ, _+_, _≤_, _<_}
-use mathlib.Core.Path.{_≡_, refl, sym, _∙_, ap}
+use Prim.Native.Nat.{ℕ, _≤_, _<_}
+use mathlib.Core.Path.{_≡_, refl, _∙_}
 use mathlib.Core.Bool.{Bool, true, false, _&&_}
 use mathlib.Core.List.{[], _∷_}
 use mathlib.Core.Logic.{_⊎_, inl, inr}
 use native.Mathlib.Omega.{arith}
-use native.Mathlib.Nat.{le-refl}
 use lib.Dec.{eqb, leb}
-use lib.ListN.{length, getD, replicate, length-replicate, getD-replicate}
+use lib.ListN.{getD, length-replicate, getD-replicate}
 use borrow.Author.Tests.{leb-true, le-leb}
 use Rattle.basics.specs.Says.{Says, apart}
 use Rattle.basics.specs.Refusals.{orElse, pick}
@@ -15,11 +14,11 @@ use Rattle.cells.specs.Size.{SizeInDomain}
 use Rattle.slots.specs.Map.{wordsFor, usable}
 use Rattle.slots.specs.Slot.{free, live, versionAt, phaseAt, SlotHolds, SlotsHold}
 use Rattle.storage.specs.Packed.{Packed}
-use Rattle.point_tables.specs.Tables.{Tables, tables, usedOf, rowsOf, slotsOf, Sized}
-use Rattle.point_tables.specs.Holds.{Counted, RecordHolds, ListsHold, Pending, Holds}
+use Rattle.point_tables.specs.Tables.{Tables, usedOf, rowsOf, slotsOf, Sized}
+use Rattle.point_tables.specs.Holds.{Counted, ListsHold, Holds}
 use Rattle.point_tables.specs.Decide.{sized, sized-says}
 use Rattle.point_tables.specs.Outcome.{Outcome, outcome}
-use Rattle.inserts.specs.New.{freeWords, built, newAnswer, newOf}
+use Rattle.inserts.specs.New.{built, newAnswer, newOf}
 use Rattle.inserts.specs.FreeWordLaws.{free-length, free-usable, free-past}
 
 -- ---- the tables

@@ -1,54 +1,31 @@
--- The tables after an insert, part by part: the head words, the slots, the records, the entries and the rows. Assumes nothing.
-use Prim.Native.Nat.{ℕ, _+_, _/_, _<_, _≤_}
+-- The tables after an insert, part by part: the counts, the slots, the records, the entries and the rows. Assumes nothing.
+use Prim.Native.Nat.{ℕ, _+_, _<_, _≤_}
 use mathlib.Core.Path.{_≡_, refl, _∙_, ap, subst}
-use mathlib.Core.List.{List, [], _∷_, map}
+use mathlib.Core.List.{map}
 use native.Mathlib.Omega.{arith}
-use lib.ListN.{length, getD, set, length-set, length-map}
-use lib.Seq.{getD-set-same, getD-set-other}
+use lib.ListN.{length, set, length-set, length-map}
 use Rattle.geometry.specs.declared.Position.{Position}
-use Rattle.cells.specs.CellRule.{cellAt}
-use Rattle.cells.specs.Key.{keyOf}
-use Rattle.slots.specs.Map.{head, usable, taken}
+use Rattle.slots.specs.Map.{head, taken}
 use Rattle.slots.specs.MapLaws.{taken-length, taken-head}
-use Rattle.slots.specs.Slot.{free, live, phaseAt, versionAt, SlotsHold}
+use Rattle.slots.specs.Slot.{free, live, phaseAt, SlotsHold}
 use Rattle.slots.specs.SlotLaws.{taken-holds}
-use Rattle.storage.specs.Keyed.{append1, written}
-use Rattle.storage.specs.Entries.{rowKey, rowOf, spotOf, entryKey, entriesOf}
-use Rattle.storage.specs.CellTable.{entered}
+use Rattle.storage.specs.Entries.{rowOf, spotOf, entryKey, entriesOf}
 use Rattle.storage.specs.Packed.{Packed}
 use Rattle.storage.specs.AppendLaws.{length-append1}
 use Rattle.storage.specs.ColumnLaws.{rows-append1}
-use Rattle.storage.specs.PoolLaws.{rows-column}
-use Rattle.objects.specs.Columns.{numsOf, realsOf, intsOf}
+use Rattle.storage.specs.WrittenLaws.{length-written}
+use Rattle.objects.specs.Columns.{numsOf}
 use Rattle.objects.specs.ColumnLaws.{stored-same, stored-other}
-use Rattle.point_tables.specs.Tables.{Tables, sizeOf, usedOf, rowsOf, slotsOf, recordOn, entriesIn, cellRows, Sized, counting}
+use Rattle.point_tables.specs.Tables.{Tables, sizeOf, usedOf, rowsOf, slotsOf, recordOn, entriesIn, cellRows, Sized}
 use Rattle.point_tables.specs.Holds.{Counted, Holds}
+use Rattle.point_tables.specs.HoldsLaws.{entry-rows, entries-length}
 use Rattle.inserts.specs.Insert.{newRecord, newEntry, entriesWith, rowsWith, put}
-use Rattle.inserts.specs.EntryLaws.{written-length, written-entries}
+use Rattle.inserts.specs.HeadLaws.{counted-used, counted-rows, counted-size, counted-length, counted-slots}
+use Rattle.inserts.specs.EntryLaws.{written-entries}
 use Rattle.inserts.specs.RowLaws.{PackedRows, from-rows}
 use Rattle.inserts.specs.EnterLaws.{packed-append, rows-least}
-use Rattle.inserts.specs.ListedLaws.{in-pool, in-spots, count-entries, rows-in, room}
-
--- ---- the head words
-module _ (m : List ℕ) (used rows : ℕ) (h : head ≤ length m) where
-  pub counted-used : getD (counting m used rows) 1 0 ≡ used
-  counted-used = getD-set-other (set m 1 used) 2 1 rows 0 (λ e. omega arith) ∙ getD-set-same m 1 used 0 (omega arith)
-
-  pub counted-rows : getD (counting m used rows) 2 0 ≡ rows
-  counted-rows = getD-set-same (set m 1 used) 2 rows 0 (rw length-set (omega arith))
-
-  pub counted-size : getD (counting m used rows) 0 0 ≡ getD m 0 0
-  counted-size = getD-set-other (set m 1 used) 2 0 rows 0 (λ e. omega arith) ∙ getD-set-other m 1 0 used 0 (λ e. omega arith)
-
-  pub counted-usable : (s : ℕ) → usable (counting m used rows) s ≡ usable m s
-  counted-usable s = rw (getD-set-other (set m 1 used) 2 (head + s / 64) rows 0 (λ e. omega arith), getD-set-other m 1 (head + s / 64) used 0 (λ e. omega arith))
-
-  pub counted-length : length (counting m used rows) ≡ length m
-  counted-length = simp length-set
-
--- a map with the same bits
-same-slots : (nums : List (List ℕ)) (m k : List ℕ) → ((s : ℕ) → usable k s ≡ usable m s) → SlotsHold nums m → SlotsHold nums k
-same-slots nums m k same h = record { each = λ s l. rw (same s) (h .each s l); past = λ s l g. same s ∙ h .past s l g }
+use Rattle.inserts.specs.ListedLaws.{rows-in}
+use Rattle.inserts.specs.RoomLaws.{room}
 
 -- ---- a free slot s of tables that hold a grid takes an object at p
 module _ (t : Tables) (h : Holds t) (s : ℕ) (inside : s < slotsOf t) (is-free : phaseAt (t .nums) s ≡ free) (p : Position) (d : ℕ) where
@@ -66,7 +43,7 @@ module _ (t : Tables) (h : Holds t) (s : ℕ) (inside : s < slotsOf t) (is-free 
 
   -- ---- the counts
   pub more : length (entriesWith t s p) ≡ usedOf t + 1
-  more = length-append1 entryKey (entriesIn t) (newEntry t s p) ∙ ap (λ (k : ℕ). k + 1) (count-entries t h)
+  more = length-append1 entryKey (entriesIn t) (newEntry t s p) ∙ ap (λ (k : ℕ). k + 1) (entries-length t h)
 
   pub fits : length (entriesWith t s p) ≤ slotsOf t
   fits = omega (arith, more, room t h s inside not-live)
@@ -87,7 +64,7 @@ module _ (t : Tables) (h : Holds t) (s : ℕ) (inside : s < slotsOf t) (is-free 
   pub put-slots : SlotsHold (put t s p d .nums) (put t s p d .map)
   unfolding put
   put-slots =
-      same-slots (set (t .nums) s (numsOf (newRecord t s p d))) (taken (t .map) s) _ (counted-usable (taken (t .map) s) _ _ heads)
+      counted-slots (taken (t .map) s) _ _ heads (set (t .nums) s (numsOf (newRecord t s p d)))
       (taken-holds (t .nums) (t .map) (h .slots) s inside (h .sized .of-map) is-free (numsOf (newRecord t s p d)) refl refl)
 
   pub put-same : recordOn (put t s p d) s ≡ newRecord t s p d
@@ -106,7 +83,7 @@ module _ (t : Tables) (h : Holds t) (s : ℕ) (inside : s < slotsOf t) (is-free 
       as-written = unfold put in written-entries (entriesWith t s p) (t .pool) (t .spots)
 
   old-rows : PackedRows (map rowOf (entriesIn t)) (cellRows t)
-  old-rows = rw (rows-column (t .pool) (t .spots) (usedOf t) (in-pool t h) (in-spots t h)) (rows-in t h)
+  old-rows = rw (entry-rows t h) (rows-in t h)
 
   new-rows : PackedRows (map rowOf (entriesWith t s p)) (rowsWith t p)
   new-rows = rw (rows-append1 (entriesIn t) (newEntry t s p)) (packed-append (map rowOf (entriesIn t)) (cellRows t) old-rows (rowOf (newEntry t s p)))
@@ -134,9 +111,9 @@ module _ (t : Tables) (h : Holds t) (s : ℕ) (inside : s < slotsOf t) (is-free 
         of-reals = length-set (t .reals) s _ ∙ h .sized .of-reals;
         of-ints = length-set (t .ints) s _ ∙ h .sized .of-ints;
         of-map = counted-length (taken (t .map) s) _ _ heads ∙ taken-length (t .map) s ∙ h .sized .of-map;
-        of-pool = written-length (map rowOf (entriesWith t s p)) (t .pool) (omega (arith, length-map (entriesWith t s p) rowOf, fits, h .sized .of-pool)) ∙ h .sized .of-pool;
-        of-spots = written-length (map spotOf (entriesWith t s p)) (t .spots) (omega (arith, length-map (entriesWith t s p) spotOf, fits, h .sized .of-spots)) ∙ h .sized .of-spots;
-        of-cells = written-length (rowsWith t p) (t .cells) (omega (arith, rows-fit, h .sized .of-cells)) ∙ h .sized .of-cells;
+        of-pool = length-written (map rowOf (entriesWith t s p)) (t .pool) (omega (arith, length-map (entriesWith t s p) rowOf, fits, h .sized .of-pool)) ∙ h .sized .of-pool;
+        of-spots = length-written (map spotOf (entriesWith t s p)) (t .spots) (omega (arith, length-map (entriesWith t s p) spotOf, fits, h .sized .of-spots)) ∙ h .sized .of-spots;
+        of-cells = length-written (rowsWith t p) (t .cells) (omega (arith, rows-fit, h .sized .of-cells)) ∙ h .sized .of-cells;
       })
 
   pub put-length : slotsOf (put t s p d) ≡ slotsOf t

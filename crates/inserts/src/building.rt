@@ -5,7 +5,7 @@ ghost use Prim.Native.Nat.{_+_, _≤_};
 ghost use lib.ListN.{length, replicate, take, drop};
 ghost use Rattle.slots.specs.Map.{wordsFor};
 ghost use Rattle.slots.specs.Slot.{free};
-ghost use Rattle.point_tables.specs.Tables.{tables};
+ghost use Rattle.point_tables.specs.Lent.{lent};
 ghost use Rattle.point_tables.specs.Outcome.{outcome};
 ghost use Rattle.inserts.specs.New.{freeWord, freeWords, newAnswer, newOf};
 
@@ -73,7 +73,7 @@ fn answer(
     cells: &[[u64; 2]],
     size: u32,
 ) -> u32
-    ensures { λ r. ⌜ r ≡ newAnswer (tables (now (nums .entry)) (now (reals .entry)) (now (ints .entry)) (now (map .entry)) (now (pool .entry)) (now (spots .entry)) (now (cells .entry))) size ⌝ }
+    ensures { λ r. ⌜ r ≡ newAnswer (lent (nums .entry) (reals .entry) (ints .entry) (map .entry) (pool .entry) (spots .entry) (cells .entry)) size ⌝ }
 {
     if !point_tables::lengths_ok(
         nums.len(),
@@ -103,7 +103,7 @@ pub fn new(
     cells: &[[u64; 2]],
     size: u32,
 ) -> u32
-    ensures { λ r. ⌜ outcome r (tables (now (nums .exit)) (now (reals .entry)) (now (ints .entry)) (now (map .exit)) (now (pool .entry)) (now (spots .entry)) (now (cells .entry))) ≡ newOf (tables (now (nums .entry)) (now (reals .entry)) (now (ints .entry)) (now (map .entry)) (now (pool .entry)) (now (spots .entry)) (now (cells .entry))) size ⌝ }
+    ensures { λ r. ⌜ outcome r (lent (nums .exit) (reals .entry) (ints .entry) (map .exit) (pool .entry) (spots .entry) (cells .entry)) ≡ newOf (lent (nums .entry) (reals .entry) (ints .entry) (map .entry) (pool .entry) (spots .entry) (cells .entry)) size ⌝ }
 {
     let a = answer(nums, reals, ints, map, pool, spots, cells, size);
     if a != 0 {

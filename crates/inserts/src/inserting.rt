@@ -1,18 +1,19 @@
 // `insert`: the lowest usable slot takes the object, and (handle, position) goes to the end of its cell's list.
 ghost use mathlib.Core.Path.{_≡_};
 ghost use mathlib.Core.Bool.{true};
-ghost use Prim.Native.Nat.{ℕ, _+_, _/_, _≤_, _<_};
+ghost use Prim.Native.Nat.{_+_, _/_, _≤_, _<_};
 ghost use lib.ListN.{length, set};
 ghost use Rattle.geometry.specs.Domain.{positionInDomain};
 ghost use Rattle.slots.specs.declared.Usable.the-variants.{At};
 ghost use Rattle.slots.specs.Map.{wordsFor, taken, lowestUsable, NonePast};
 ghost use Rattle.slots.specs.Slot.{versionAt};
 ghost use Rattle.objects.specs.Columns.{numsOf, realsOf, intsOf};
-ghost use Rattle.point_tables.specs.Tables.{tables, counting};
+ghost use Rattle.point_tables.specs.Tables.{counting};
 ghost use Rattle.point_tables.specs.Decide.{holds};
+ghost use Rattle.point_tables.specs.Lent.{lent};
 ghost use Rattle.point_tables.specs.Outcome.{outcome};
 ghost use Rattle.inserts.specs.Insert as Insert;
-ghost use Rattle.inserts.specs.Insert.{insertOf};
+ghost use Rattle.inserts.specs.Insert.{inserted, insertOf};
 ghost use Rattle.inserts.specs.Fresh.{Fresh, freshRecord, answerBy};
 use crate::Inserted;
 use cells::Cell;
@@ -46,16 +47,46 @@ fn choose(nums: &[[u32; 4]], map: &[u64], held: bool, at: Position) -> Choice
     }
 }
 
-// The handle that slot s has at its version.
-fn handle_at(nums: &[[u32; 4]], s: usize) -> Handle
+// A refusal returns zeros.
+fn refused(answer: u32) -> Inserted
+    ensures { λ r. ⌜ r ≡ inserted answer 0 0 ⌝ }
+{
+    Inserted {
+        answer,
+        handle: Handle {
+            slot: 0,
+            version: 0,
+        },
+    }
+}
+
+// The object is in slot s, at the version that the slot has.
+fn accepted(nums: &[[u32; 4]], s: usize) -> Inserted
     requires { ⌜ (s < length (now nums)) × (length (now nums) ≤ 4096) ⌝ }
-    ensures { λ r. ⌜ (r .slot ≡ s) × (r .version ≡ versionAt (now (nums .entry)) s) ⌝ }
+    ensures { λ r. ⌜ r ≡ inserted 0 s (versionAt (now (nums .entry)) s) ⌝ }
 {
     let row = nums[s];
     let version = row[0];
-    Handle {
-        slot: s as u32,
+    Inserted {
+        answer: 0,
+        handle: Handle {
+            slot: s as u32,
+            version,
+        },
+    }
+}
+
+// The record of a new object: nothing is pending.
+fn fresh_record(version: u32, at: Position, cell: Cell, obj: u32) -> Record
+    ensures { λ r. ⌜ r ≡ freshRecord version at cell obj ⌝ }
+{
+    Record {
         version,
+        phase: 1,
+        obj,
+        position: at,
+        cell,
+        state: State::Unchanged,
     }
 }
 
@@ -73,14 +104,7 @@ fn occupy(
     ensures { λ _. ⌜ (now (nums .exit) ≡ set (now (nums .entry)) s (numsOf (freshRecord (versionAt (now (nums .entry)) s) at cell obj))) × (now (reals .exit) ≡ set (now (reals .entry)) s (realsOf (freshRecord (versionAt (now (nums .entry)) s) at cell obj))) × (now (ints .exit) ≡ set (now (ints .entry)) s (intsOf (freshRecord (versionAt (now (nums .entry)) s) at cell obj))) ⌝ }
 {
     let row = nums[s];
-    let r = Record {
-        version: row[0],
-        phase: 1,
-        obj: obj,
-        position: at,
-        cell: cell,
-        state: State::Unchanged,
-    };
+    let r = fresh_record(row[0], at, cell, obj);
     objects::store(nums, reals, ints, s, r);
 }
 
@@ -107,8 +131,8 @@ fn put(
     at: Position,
     obj: u32,
 )
-    requires { ⌜ Fresh (tables (now nums) (now reals) (now ints) (now map) (now pool) (now spots) (now cells)) s at ⌝ }
-    ensures { λ _. ⌜ tables (now (nums .exit)) (now (reals .exit)) (now (ints .exit)) (now (map .exit)) (now (pool .exit)) (now (spots .exit)) (now (cells .exit)) ≡ Insert.put (tables (now (nums .entry)) (now (reals .entry)) (now (ints .entry)) (now (map .entry)) (now (pool .entry)) (now (spots .entry)) (now (cells .entry))) s at obj ⌝ }
+    requires { ⌜ Fresh (lent nums reals ints map pool spots cells) s at ⌝ }
+    ensures { λ _. ⌜ lent (nums .exit) (reals .exit) (ints .exit) (map .exit) (pool .exit) (spots .exit) (cells .exit) ≡ Insert.put (lent (nums .entry) (reals .entry) (ints .entry) (map .entry) (pool .entry) (spots .entry) (cells .entry)) s at obj ⌝ }
 {
     let used = basics::index_of(map[1]);
     let rows = basics::index_of(map[2]);
@@ -134,24 +158,16 @@ pub fn insert(
     at: Position,
     obj: u32,
 ) -> Inserted
-    requires { ⌜ held ≡ holds (tables (now nums) (now reals) (now ints) (now map) (now pool) (now spots) (now cells)) ⌝ }
-    ensures { λ r. ⌜ outcome r (tables (now (nums .exit)) (now (reals .exit)) (now (ints .exit)) (now (map .exit)) (now (pool .exit)) (now (spots .exit)) (now (cells .exit))) ≡ insertOf (tables (now (nums .entry)) (now (reals .entry)) (now (ints .entry)) (now (map .entry)) (now (pool .entry)) (now (spots .entry)) (now (cells .entry))) at obj ⌝ }
+    requires { ⌜ held ≡ holds (lent nums reals ints map pool spots cells) ⌝ }
+    ensures { λ r. ⌜ outcome r (lent (nums .exit) (reals .exit) (ints .exit) (map .exit) (pool .exit) (spots .exit) (cells .exit)) ≡ insertOf (lent (nums .entry) (reals .entry) (ints .entry) (map .entry) (pool .entry) (spots .entry) (cells .entry)) at obj ⌝ }
 {
     let c = choose(nums, map, held, at);
-    if c.answer != 0 {
-        return Inserted {
-            answer: c.answer,
-            handle: Handle {
-                slot: 0,
-                version: 0,
-            },
-        };
+    let a = c.answer;
+    if a != 0 {
+        return refused(a);
     }
     let s = c.slot;
-    let h = handle_at(nums, s);
+    let r = accepted(nums, s);
     put(nums, reals, ints, map, pool, spots, cells, s, at, obj);
-    Inserted {
-        answer: 0,
-        handle: h,
-    }
+    r
 }

@@ -1,13 +1,12 @@
 -- `inserts::building::free_word` meets its contract: a shift of 1 by less than 64 loses no bit. Assumes nothing.
-use Prim.Native.Nat.{ℕ, _%_, _*_, _^_, _<_, _≤_, _-_}
-use mathlib.Core.Path.{_≡_, refl, sym, _∙_, ap}
+use Prim.Native.Nat.{ℕ, _%_, _*_, _^_, _<_, _-_}
+use mathlib.Core.Path.{_≡_, _∙_, ap}
 use native.Mathlib.Omega.{arith}
 use native.Mathlib.Nat.{one-mul}
 use lib.Dec.{lit<}
 use lib.Pow.{shl-exact, pow-pos}
 use borrow.Author.Tests.{le-leb, lt-leb}
 use borrow.Author.Needs.{needs}
-use Rattle.inserts.specs.New.{freeWord}
 use Rattle.inserts.proofs.building.free_word.Statement.{statement}
 use Rattle.inserts.proofs.building.free_word.Tie as tie
 

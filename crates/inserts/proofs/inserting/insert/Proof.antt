@@ -18,37 +18,38 @@ returns : tie.Need-returns
 returns c =
     let s = c .before .before .before .before .before .before in
     let k = c .before .before .choose in
-    refused (at-entry s) (s .args .at) (s .args .obj) (s .args .held) (s .pre) (k .result .answer) (k .ensures .0) (c .if1 .taken)
+    refused (at-entry s) (s .args .at) (s .args .obj) (s .args .held) (s .pre) (k .result .answer) (k .ensures .0) (c .before .if1 .taken) (c .refused .result) (c .refused .ensures)
 
-handle-at-requires : tie.Need-handle-at-requires
-handle-at-requires c κs =
-    let s = c .before .before .before .before .before .before .before in
-    let k = c .before .before .before .choose in
+accepted-requires : tie.Need-accepted-requires
+accepted-requires c κs =
+    let s = c .before .before .before .before .before .before in
+    let k = c .before .before .choose in
     let f = chosen (at-entry s) (s .args .at) (s .args .obj) (s .args .held) (s .pre) (k .result .answer) (k .ensures .0) (c .before .if1 .left) (k .result .slot) (k .ensures .1 (c .before .if1 .left)) in
     (f .inside, f .holds .sized .most)
 
 put-requires : tie.Need-put-requires
 put-requires c κs =
-    let s = c .before .before .before .before .before .before .before .before .before .before .before .before .before .before .before in
-    let k = c .before .before .before .before .before .before .before .before .before .before .before .choose in
+    let s = c .before .before .before .before .before .before .before .before .before .before .before .before .before .before in
+    let k = c .before .before .before .before .before .before .before .before .before .before .choose in
     chosen (at-entry s) (s .args .at) (s .args .obj) (s .args .held) (s .pre) (k .result .answer) (k .ensures .0) (c .before .before .before .before .before .before .before .before .before .if1 .left) (k .result .slot) (k .ensures .1 (c .before .before .before .before .before .before .before .before .before .if1 .left))
 
 returns-2 : tie.Need-returns-2
 returns-2 c =
-    let s = c .before .before .before .before .before .before .before .before .before .before .before .before .before .before .before .before .before .before .before .before .before .before .before .before in
-    let k = c .before .before .before .before .before .before .before .before .before .before .before .before .before .before .before .before .before .before .before .before .choose in
+    let s = c .before .before .before .before .before .before .before .before .before .before .before .before .before .before .before .before .before .before .before .before .before .before .before in
+    let k = c .before .before .before .before .before .before .before .before .before .before .before .before .before .before .before .before .before .before .before .choose in
     done (at-entry s) (s .args .at) (s .args .obj) (s .args .held) (s .pre) (k .result .answer) (k .ensures .0) (c .before .before .before .before .before .before .before .before .before .before .before .before .before .before .before .before .before .before .if1 .left) (k .result .slot) (k .ensures .1 (c .before .before .before .before .before .before .before .before .before .before .before .before .before .before .before .before .before .before .if1 .left))
-    (c .before .before .before .before .before .before .before .before .before .before .before .before .before .before .before .before .handle-at .result) _ (c .before .before .before .before .before .before .before .before .before .before .before .before .before .before .before .before .handle-at .ensures) (c .before .before .before .before .before .before .before .before .put .ensures)
+    (c .before .before .before .before .before .before .before .before .before .before .before .before .before .before .before .before .accepted .result) _ (c .before .before .before .before .before .before .before .before .before .before .before .before .before .before .before .before .accepted .ensures) (c .before .before .before .before .before .before .before .before .put .ensures)
 
 pub insert-spec : {M : Type 1} → statement M
 insert-spec =
     tie.close
     (tie.spec
     choose-requires
+    (λ c κs. search needs)
     (λ c. search needs)
     (λ c. search needs)
     returns
-    handle-at-requires
+    accepted-requires
     put-requires
     (λ c. search needs)
     (λ c. search needs)

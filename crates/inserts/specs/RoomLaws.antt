@@ -1,0 +1,36 @@
+-- A slot that is not occupied leaves room: the entries in use are as many as the objects, so fewer than the slots. Assumes nothing.
+use Prim.Native.Nat.{ℕ, zero, suc, _≤_, _<_}
+use mathlib.Core.Path.{_≡_, sym, _∙_, ap}
+use mathlib.Core.Bool.{Bool, true, false}
+use mathlib.Core.Logic.{inl, inr}
+use native.Mathlib.Omega.{arith}
+use borrow.Author.Tests.{ne-eqb}
+use Rattle.basics.specs.Says.{d-eq}
+use Rattle.basics.specs.Counting.{one, countBelow}
+use Rattle.slots.specs.Slot.{live, phaseAt}
+use Rattle.point_tables.specs.Tables.{Tables, usedOf, slotsOf}
+use Rattle.point_tables.specs.Holds.{Holds}
+use Rattle.point_tables.specs.CountLaws.{isLive, live-count}
+
+module _ (test : ℕ → Bool) where
+  one-most : (b : Bool) → one b ≤ 1
+  one-most true = omega arith
+  one-most false = omega arith
+
+  count-most : (n : ℕ) → countBelow test n ≤ n
+  unfolding countBelow
+  count-most zero = omega arith
+  count-most (suc n) = omega (arith, count-most n, one-most (test n))
+
+  -- a number that fails the test is not counted
+  count-less : (a n : ℕ) → a < n → test a ≡ false → countBelow test n < n
+  unfolding countBelow
+  count-less a zero h e = absurd (omega arith)
+  count-less a (suc n) h e =
+      elim (d-eq a n) [
+        | inl q ↦ omega (arith, count-most n, ap one (ap test (sym q) ∙ e))
+        | inr q ↦ omega (arith, count-less a n (omega (arith, q)) e, one-most (test n))
+      ]
+
+pub room : (t : Tables) → Holds t → (s : ℕ) → s < slotsOf t → (phaseAt (t .nums) s ≡ live → ⊥) → usedOf t < slotsOf t
+room t h s l n = omega (arith, live-count t h, count-less (isLive t) s (slotsOf t) l (ne-eqb (phaseAt (t .nums) s) live n))

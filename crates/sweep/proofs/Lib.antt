@@ -1,0 +1,2 @@
+-- What the proofs of the code share.
+pub mod Turns

@@ -1,0 +1,14 @@
+-- `sweep::spot_after` meets its contract. Assumes nothing.
+use borrow.Author.Needs.{needs}
+use borrow.Author.Tests.{eq-eqb, ne-eqb}
+use Rattle.sweep.proofs.spot_after.Statement.{statement}
+use Rattle.sweep.proofs.spot_after.Tie as tie
+
+returns : tie.Need-returns
+returns c = rw (eq-eqb _ _ (c .if1 .taken))
+
+returns-2 : tie.Need-returns-2
+returns-2 c = rw (ne-eqb _ _ (c .if1 .left))
+
+pub spot-after-spec : {M : Type 1} → statement M
+spot-after-spec = tie.close (tie.spec (λ c. search needs) (λ c. search needs) returns returns-2)

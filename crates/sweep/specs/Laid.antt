@@ -1,0 +1,40 @@
+-- What the functions of the pass are asked for and give. Assumes nothing.
+use Prim.Native.Nat.{ℕ, _+_, _-_, _<_, _≤_}
+use mathlib.Core.Path.{_≡_}
+use mathlib.Core.Bool.{Bool}
+use mathlib.Core.List.{List, _++_}
+use lib.Ieee.{Float}
+use lib.ListN.{length}
+use Rattle.basics.specs.Refusals.{pick}
+use Rattle.storage.specs.Entries.{Entry, entriesOf}
+use Rattle.storage.specs.Packed.{second}
+use Rattle.storage.specs.Pooled.{Columns}
+use Rattle.maintain.specs.Kept.{kept}
+use Rattle.sweep.specs.Runs.{entryIn, run}
+use Rattle.sweep.specs.Tags.{fateIn}
+
+-- the list at the places from..to is in both columns, and what it keeps is laid at place w or later, not behind where the list begins
+pub record Room (pool : List (List ℕ)) (spots : List (List Float)) (from to w : ℕ) : Type 0 where
+  pub low : w ≤ from
+  pub ends : from ≤ to
+  pub in-pool : to ≤ length pool
+  pub in-spots : to ≤ length spots
+
+-- each entry of that list names a slot
+pub record Slotted (nums : List (List ℕ)) (reals : List (List Float)) (pool : List (List ℕ)) (from to : ℕ) : Type 0 where
+  pub inside : (j : ℕ) → from ≤ j → j < to → second pool j < length nums
+  pub as-many : length reals ≡ length nums
+
+-- the entries of es are laid from place w on, and r is the place behind them; every other place is as it was
+pub record Laid (es : List Entry) (pool : List (List ℕ)) (spots : List (List Float)) (w to r : ℕ) (pool′ : List (List ℕ)) (spots′ : List (List Float)) : Type 0 where
+  pub count : r ≡ w + length es
+  pub low : r ≤ to
+  pub columns : Columns (entriesOf pool spots w ++ es) pool spots pool′ spots′
+
+-- the list at the places from..to
+abbrev pub listAt : List (List ℕ) → List (List Float) → ℕ → ℕ → List Entry
+listAt pool spots from to = run (entryIn pool spots) from (to - from)
+
+-- what a list keeps: it is walked if its cell is dirty
+abbrev pub keptIf : Bool → List (List ℕ) → List (List Float) → List Entry → List Entry
+keptIf dirty nums reals es = pick dirty (kept (fateIn nums reals) es) es

@@ -1,0 +1,149 @@
+// The pass of `maintain` over the lists: each dirty cell's list is walked, and what a list keeps is laid behind what was kept before.
+// What is laid never comes past the entry that is looked at, so the places behind it stay as they were and no copy is made.
+ghost use mathlib.Core.Path.{_≡_};
+ghost use Prim.Native.Nat.{_+_, _-_, _≤_, _<_};
+ghost use lib.ListN.{length};
+ghost use Rattle.storage.specs.Pooled.{Columns};
+ghost use Rattle.point_tables.specs.Lent.{lent};
+ghost use Rattle.point_tables.specs.Holds.{Holds};
+ghost use Rattle.maintain.specs.Kept.{kept};
+ghost use Rattle.maintain.specs.Closed.{keptEntries};
+ghost use Rattle.sweep.specs.Runs.{Stretch};
+ghost use Rattle.sweep.specs.Tags.{spotBy, fateIn};
+ghost use Rattle.sweep.specs.Laid.{Room, Slotted, Laid, listAt, keptIf};
+
+// The position of an entry that stays: with tag 1 it is the pending one, which is in its slot's row.
+fn spot_after(tag: u32, q: [f32; 4], spot: [f32; 2]) -> [f32; 2]
+    ensures { λ r. ⌜ r ≡ spotBy tag q spot ⌝ }
+{
+    if tag == 1 {
+        return [q[2], q[3]];
+    }
+    spot
+}
+
+// Walks the list at the places from..to and lays what it keeps from place `start` on; returns the place behind that.
+// The entry at `at` is looked at, in the place of the one at `i`: if it leaves, the last of the list comes there.
+pub fn walk_run(
+    nums: &[[u32; 4]],
+    reals: &[[f32; 4]],
+    pool: &mut [[u64; 2]],
+    spots: &mut [[f32; 2]],
+    from: usize,
+    to: usize,
+    start: usize,
+) -> usize
+    requires { ⌜ Room (now pool) (now spots) from to start × Slotted (now nums) (now reals) (now pool) from to ⌝ }
+    ensures { λ r. ⌜ Laid (kept (fateIn (now (nums .entry)) (now (reals .entry))) (listAt (now (pool .entry)) (now (spots .entry)) from to)) (now (pool .entry)) (now (spots .entry)) start to r (now (pool .exit)) (now (spots .exit)) ⌝ }
+{
+    let mut at = from;
+    let mut i = from;
+    let mut end = to;
+    let mut w = start;
+    while i < end {
+        let row = pool[at];
+        let s = basics::index_of(row[1]);
+        let n = nums[s];
+        let tag = n[3];
+        if tag < 2 {
+            let spot = spot_after(tag, reals[s], spots[at]);
+            pool[w] = row;
+            spots[w] = spot;
+            w += 1;
+            i += 1;
+            at = i;
+        } else {
+            end -= 1;
+            at = end;
+        }
+    }
+    w
+}
+
+// Lays the list at the places from..to as it is.
+fn move_run(
+    pool: &mut [[u64; 2]],
+    spots: &mut [[f32; 2]],
+    from: usize,
+    to: usize,
+    start: usize,
+) -> usize
+    requires { ⌜ Room (now pool) (now spots) from to start ⌝ }
+    ensures { λ r. ⌜ Laid (listAt (now (pool .entry)) (now (spots .entry)) from to) (now (pool .entry)) (now (spots .entry)) start to r (now (pool .exit)) (now (spots .exit)) ⌝ }
+{
+    let mut i = from;
+    let mut w = start;
+    while i < to {
+        pool[w] = pool[i];
+        spots[w] = spots[i];
+        w += 1;
+        i += 1;
+    }
+    w
+}
+
+// The list at the places from..to: walked if its cell is dirty, else left as it is.
+fn sweep_run(
+    nums: &[[u32; 4]],
+    reals: &[[f32; 4]],
+    pool: &mut [[u64; 2]],
+    spots: &mut [[f32; 2]],
+    from: usize,
+    to: usize,
+    start: usize,
+    dirty: bool,
+) -> usize
+    requires { ⌜ Room (now pool) (now spots) from to start × Slotted (now nums) (now reals) (now pool) from to ⌝ }
+    ensures { λ r. ⌜ Laid (keptIf dirty (now (nums .entry)) (now (reals .entry)) (listAt (now (pool .entry)) (now (spots .entry)) from to)) (now (pool .entry)) (now (spots .entry)) start to r (now (pool .exit)) (now (spots .exit)) ⌝ }
+{
+    if dirty {
+        return walk_run(nums, reals, pool, spots, from, to, start);
+    }
+    if start == from {
+        return to;
+    }
+    move_run(pool, spots, from, to, start)
+}
+
+// The end of the entries of the key that stand from `from` on.
+fn run_end(pool: &[[u64; 2]], from: usize, used: usize, key: u64) -> usize
+    requires { ⌜ (from ≤ used) × (used ≤ length (now pool)) ⌝ }
+    ensures { λ r. ⌜ Stretch (now (pool .entry)) from used key r ⌝ }
+{
+    let mut to = from;
+    while to < used {
+        if storage::key_at(pool, to) != key {
+            return to;
+        }
+        to += 1;
+    }
+    to
+}
+
+// The lists in the order of the cell table: what they keep is laid from place 0 on. Returns how many entries that is.
+pub fn sweep_lists(
+    nums: &[[u32; 4]],
+    reals: &[[f32; 4]],
+    ints: &[[i32; 4]],
+    map: &[u64],
+    pool: &mut [[u64; 2]],
+    spots: &mut [[f32; 2]],
+    cells: &[[u64; 2]],
+) -> usize
+    requires { ⌜ Holds (lent nums reals ints map pool spots cells) ⌝ }
+    ensures { λ r. ⌜ (r ≡ length (keptEntries (lent (nums .entry) (reals .entry) (ints .entry) (map .entry) (pool .entry) (spots .entry) (cells .entry)))) × Columns (keptEntries (lent (nums .entry) (reals .entry) (ints .entry) (map .entry) (pool .entry) (spots .entry) (cells .entry))) (now (pool .entry)) (now (spots .entry)) (now (pool .exit)) (now (spots .exit)) ⌝ }
+{
+    let used = basics::index_of(map[1]);
+    let rows = basics::index_of(map[2]);
+    let mut r = 0;
+    let mut from = 0;
+    let mut w = 0;
+    while r < rows {
+        let cell = cells[r];
+        let to = run_end(pool, from, used, cell[0]);
+        w = sweep_run(nums, reals, pool, spots, from, to, w, cell[1] == 1);
+        from = to;
+        r += 1;
+    }
+    w
+}
