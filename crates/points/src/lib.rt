@@ -10,9 +10,11 @@ ghost use Rattle.moves.specs.Batch.{batched, batchOf};
 ghost use Rattle.removals.specs.RemoveMaintain.{removeMaintainOf};
 ghost use Rattle.removals.specs.Clear.{wrote, clearOf};
 ghost use Rattle.queries.specs.Queries.{findings, queryOf, aroundOf, aabbOf};
+ghost use Rattle.maintain.specs.Maintain.{maintainOf};
 ghost use Rattle.reads.specs.Reads.{getOf, lenOf, handlesOf, listing};
 use geometry::Position;
 use inserts::Inserted;
+use maintain::Maintained;
 use moves::BatchReply;
 use moves::Reply;
 use reads::Count;
@@ -314,4 +316,20 @@ pub fn query_aabb(
         found,
         places,
     )
+}
+
+// Applies what is pending: moves, relocations, removals. Counts the objects that moved and those removed. 3.
+pub fn maintain(
+    nums: &mut [[u32; 4]],
+    reals: &mut [[f32; 4]],
+    ints: &mut [[i32; 4]],
+    map: &mut [u64],
+    pool: &mut [[u64; 2]],
+    spots: &mut [[f32; 2]],
+    cells: &mut [[u64; 2]],
+) -> Maintained
+    ensures { λ r. ⌜ outcome r (lent (nums .exit) (reals .exit) (ints .exit) (map .exit) (pool .exit) (spots .exit) (cells .exit)) ≡ maintainOf (lent (nums .entry) (reals .entry) (ints .entry) (map .entry) (pool .entry) (spots .entry) (cells .entry)) ⌝ }
+{
+    let held = point_tables::check(nums, reals, ints, map, pool, spots, cells);
+    upkeep::maintain(nums, reals, ints, map, pool, spots, cells, held)
 }

@@ -1,0 +1,3 @@
+-- What the proofs of the pass share.
+pub mod Turns
+pub mod Tags

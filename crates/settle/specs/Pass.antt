@@ -1,0 +1,69 @@
+-- The pass over the slots: what it is asked for, one slot's part of it, and what it leaves. Assumes nothing.
+use Prim.Native.Nat.{ℕ, _+_, _/_, _<_}
+use mathlib.Core.Path.{_≡_}
+use mathlib.Core.List.{List, [], _∷_, _++_, map}
+use lib.IntN.{ℤ}
+use lib.Ieee.{Float}
+use lib.ListN.{length, take, drop}
+use denote.Ref.{RefT, now}
+use Rattle.basics.specs.Refusals.{pick}
+use Rattle.cells.specs.Key.{keyOf}
+use Rattle.slots.specs.Map.{head}
+use Rattle.slots.specs.Slot.{live, phaseAt}
+use Rattle.storage.specs.Entries.{rowOf}
+use Rattle.objects.specs.declared.State.{State}
+use Rattle.objects.specs.declared.State.the-variants.{Unchanged, NewPos, Relocate, Removed}
+use Rattle.objects.specs.Occupied.{Agrees}
+use Rattle.point_tables.specs.Tables.{Tables, tables, sizeOf, slotsOf, recordOn}
+use Rattle.point_tables.specs.CountLaws.{isLive}
+use Rattle.maintain.specs.Walk.{settled}
+use Rattle.maintain.specs.Settle.{settledAll}
+use Rattle.maintain.specs.SettleLaws.{Shaped}
+use Rattle.maintain.specs.Closed.{relocatedBelow}
+
+-- ---- tables that have the records and the slot map alone, and the same behind four references
+abbrev pub recordsIn : List (List ℕ) → List (List Float) → List (List ℤ) → List ℕ → Tables
+recordsIn nums reals ints map = tables nums reals ints map [] [] []
+
+abbrev pub lentRecords : RefT (List (List ℕ)) → RefT (List (List Float)) → RefT (List (List ℤ)) → RefT (List ℕ) → Tables
+lentRecords nums reals ints map = recordsIn (now nums) (now reals) (now ints) (now map)
+
+abbrev pub bare : Tables → Tables
+bare t = recordsIn (t .nums) (t .reals) (t .ints) (t .map)
+
+-- slot s has its rows and its bit
+pub record Slotted (t : Tables) (s : ℕ) : Type 0 where
+  pub in-nums : s < length (t .nums)
+  pub in-reals : s < length (t .reals)
+  pub in-ints : s < length (t .ints)
+  pub in-map : head + s / 64 < length (t .map)
+
+-- every slot has, and the target cell of a relocation is that of its position
+pub record Ready (t : Tables) : Type 0 where
+  pub shaped : Shaped t
+  pub agrees : (s : ℕ) → s < slotsOf t → phaseAt (t .nums) s ≡ live → Agrees (sizeOf t) (recordOn t s .cell) (recordOn t s .state)
+
+-- ---- one slot
+-- the row of a relocated object: the key of its target cell, and its slot
+abbrev pub targetRows : ℕ → State → List (List ℕ)
+targetRows s Unchanged = []
+targetRows s (NewPos p) = []
+targetRows s (Relocate p c) = (keyOf c ∷ s ∷ []) ∷ []
+targetRows s Removed = []
+
+abbrev pub turned : Tables → ℕ → Tables
+turned t s = pick (isLive t s) (settled t s) t
+
+abbrev pub turnedRows : Tables → ℕ → List (List ℕ)
+turnedRows t s = pick (isLive t s) (targetRows s (recordOn t s .state)) []
+
+-- ---- every slot
+-- a table with rows from place w on
+abbrev pub putAt : {A : Type 0} → ℕ → List A → List A → List A
+putAt w rows l = take w l ++ (rows ++ drop (w + length rows) l)
+
+-- from the records of t to those of `after`, with k rows put from place w on
+pub record Passed (t after : Tables) (w : ℕ) (pool put : List (List ℕ)) (k : ℕ) : Type 0 where
+  pub settles : after ≡ settledAll t
+  pub counts : k ≡ length (relocatedBelow (slotsOf t) t)
+  pub puts : put ≡ putAt w (map rowOf (relocatedBelow (slotsOf t) t)) pool

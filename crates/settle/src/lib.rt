@@ -1,0 +1,184 @@
+// The pass of `maintain` over the slots: what is pending for each object is done to its record, and the rows of relocated objects are listed.
+ghost use mathlib.Core.Path.{_≡_};
+ghost use mathlib.Core.List.{[], _∷_};
+ghost use Prim.Native.Nat.{_+_, _≤_, _<_};
+ghost use lib.ListN.{length, set};
+ghost use Rattle.cells.specs.Key.{keyOf};
+ghost use Rattle.objects.specs.Columns.{numsOf, realsOf, intsOf};
+ghost use Rattle.maintain.specs.Walk.{placed, settled};
+ghost use Rattle.maintain.specs.Closed.{relocatedBelow};
+ghost use Rattle.settle.specs.Pass.{lentRecords, Slotted, Ready, targetRows, turned, turnedRows, putAt, Passed};
+ghost use Rattle.settle.specs.Counts.{counts, numbered, movedIn, removedIn, oneMoved, oneRemoved};
+use cells::Cell;
+use geometry::Position;
+use objects::Record;
+use objects::State;
+
+// How many objects had either new-position state, and how many were removed.
+pub struct Counts {
+    pub moved: u32,
+    pub removed: u32,
+}
+
+// The object of slot s, whose record is r, stands at p in cell c, and nothing is pending for it.
+fn place(
+    nums: &mut [[u32; 4]],
+    reals: &mut [[f32; 4]],
+    ints: &mut [[i32; 4]],
+    s: usize,
+    r: Record,
+    p: Position,
+    c: Cell,
+)
+    requires { ⌜ (s < length (now nums)) × (s < length (now reals)) × (s < length (now ints)) ⌝ }
+    ensures { λ _. ⌜ (now (nums .exit) ≡ set (now (nums .entry)) s (numsOf (placed r p c))) × (now (reals .exit) ≡ set (now (reals .entry)) s (realsOf (placed r p c))) × (now (ints .exit) ≡ set (now (ints .entry)) s (intsOf (placed r p c))) ⌝ }
+{
+    let q = Record {
+        version: r.version,
+        phase: r.phase,
+        obj: r.obj,
+        position: p,
+        cell: c,
+        state: State::Unchanged,
+    };
+    objects::store(nums, reals, ints, s, q);
+}
+
+// What is pending for the object of slot s is done to its record; the slot of a removed object is emptied.
+pub fn settle_slot(
+    nums: &mut [[u32; 4]],
+    reals: &mut [[f32; 4]],
+    ints: &mut [[i32; 4]],
+    map: &mut [u64],
+    s: usize,
+)
+    requires { ⌜ Slotted (lentRecords nums reals ints map) s ⌝ }
+    ensures { λ _. ⌜ lentRecords (nums .exit) (reals .exit) (ints .exit) (map .exit) ≡ settled (lentRecords (nums .entry) (reals .entry) (ints .entry) (map .entry)) s ⌝ }
+{
+    let r = objects::load(nums, reals, ints, s);
+    let c = r.cell;
+    let state = r.state;
+    match state {
+        State::Unchanged => {}
+        State::NewPos(p) => place(nums, reals, ints, s, r, p, c),
+        State::Relocate(p, d) => place(nums, reals, ints, s, r, p, d),
+        State::Removed => slots::empty(nums, map, s),
+    }
+}
+
+// The row of slot s under the key of cell c, at a place of the pool. Returns 1, the rows put.
+fn put_row(pool: &mut [[u64; 2]], at: usize, c: Cell, s: usize) -> usize
+    requires { ⌜ at < length (now pool) ⌝ }
+    ensures { λ r. ⌜ (r ≡ 1) × (now (pool .exit) ≡ set (now (pool .entry)) at (keyOf c ∷ s ∷ [])) ⌝ }
+{
+    let key = cells::key_of(c);
+    let item = basics::word_of(s);
+    pool[at] = [key, item];
+    1
+}
+
+// A relocated object of slot s has its row, under the key of its target cell, put at a place of the pool. Returns the rows put.
+fn put_target(pool: &mut [[u64; 2]], at: usize, s: usize, state: State) -> usize
+    requires { ⌜ at + length (targetRows s state) ≤ length (now pool) ⌝ }
+    ensures { λ r. ⌜ (r ≡ length (targetRows s state)) × (now (pool .exit) ≡ putAt at (targetRows s state) (now (pool .entry))) ⌝ }
+{
+    match state {
+        State::Unchanged => 0,
+        State::NewPos(_) => 0,
+        State::Relocate(_, c) => put_row(pool, at, c, s),
+        State::Removed => 0,
+    }
+}
+
+// Slot s, if it is live, is settled, and the row of a relocated object is put at a place of the pool. Returns the rows put.
+fn turn(
+    nums: &mut [[u32; 4]],
+    reals: &mut [[f32; 4]],
+    ints: &mut [[i32; 4]],
+    map: &mut [u64],
+    pool: &mut [[u64; 2]],
+    at: usize,
+    s: usize,
+) -> usize
+    requires { ⌜ Slotted (lentRecords nums reals ints map) s × (at + length (turnedRows (lentRecords nums reals ints map) s) ≤ length (now pool)) ⌝ }
+    ensures records { λ _. ⌜ lentRecords (nums .exit) (reals .exit) (ints .exit) (map .exit) ≡ turned (lentRecords (nums .entry) (reals .entry) (ints .entry) (map .entry)) s ⌝ }
+    ensures rows { λ r. ⌜ (r ≡ length (turnedRows (lentRecords (nums .entry) (reals .entry) (ints .entry) (map .entry)) s)) × (now (pool .exit) ≡ putAt at (turnedRows (lentRecords (nums .entry) (reals .entry) (ints .entry) (map .entry)) s) (now (pool .entry))) ⌝ }
+{
+    let r = objects::load(nums, reals, ints, s);
+    if r.phase != 1 {
+        return 0;
+    }
+    let state = r.state;
+    let n = put_target(pool, at, s, state);
+    settle_slot(nums, reals, ints, map, s);
+    n
+}
+
+// Every live slot is settled, in ascending order, and the rows of relocated objects are put into the pool from place w on.
+// Returns how many there are.
+pub fn settle_slots(
+    nums: &mut [[u32; 4]],
+    reals: &mut [[f32; 4]],
+    ints: &mut [[i32; 4]],
+    map: &mut [u64],
+    pool: &mut [[u64; 2]],
+    w: usize,
+) -> usize
+    requires { ⌜ Ready (lentRecords nums reals ints map) × (w + length (relocatedBelow (length (now nums)) (lentRecords nums reals ints map)) ≤ length (now pool)) ⌝ }
+    ensures { λ r. ⌜ Passed (lentRecords (nums .entry) (reals .entry) (ints .entry) (map .entry)) (lentRecords (nums .exit) (reals .exit) (ints .exit) (map .exit)) w (now (pool .entry)) (now (pool .exit)) r ⌝ }
+{
+    let mut k = 0;
+    let mut i = 0;
+    while i < nums.len() {
+        let n = turn(nums, reals, ints, map, pool, w + k, i);
+        k += n;
+        i += 1;
+    }
+    k
+}
+
+// 1 for a live row with either new-position state, else 0.
+fn one_moved(row: [u32; 4]) -> u32
+    ensures { λ r. ⌜ r ≡ oneMoved row ⌝ }
+{
+    if row[1] != 1 {
+        return 0;
+    }
+    if row[3] == 1 {
+        return 1;
+    }
+    if row[3] == 2 {
+        return 1;
+    }
+    0
+}
+
+// 1 for a live row whose object is removed, else 0.
+fn one_removed(row: [u32; 4]) -> u32
+    ensures { λ r. ⌜ r ≡ oneRemoved row ⌝ }
+{
+    if row[1] != 1 {
+        return 0;
+    }
+    if row[3] < 3 {
+        return 0;
+    }
+    1
+}
+
+// The two counts of `maintain`, from the states before it.
+pub fn count_moves(nums: &[[u32; 4]]) -> Counts
+    requires { ⌜ length (now nums) ≤ 4096 ⌝ }
+    ensures { λ r. ⌜ r ≡ counts (movedIn (numbered (now (nums .entry))) (length (now (nums .entry)))) (removedIn (numbered (now (nums .entry))) (length (now (nums .entry)))) ⌝ }
+{
+    let mut moved: u32 = 0;
+    let mut removed: u32 = 0;
+    let mut i = 0;
+    while i < nums.len() {
+        let row = nums[i];
+        moved += one_moved(row);
+        removed += one_removed(row);
+        i += 1;
+    }
+    Counts { moved, removed }
+}

@@ -1,0 +1,65 @@
+-- `upkeep::maintain` meets its contract. Assumes nothing.
+use mathlib.Core.Path.{_≡_, sym, ap, _∙_}
+use mathlib.Core.Bool.{true, false}
+use lib.ListN.{length}
+use borrow.Author.Tests.{not-true, not-false}
+use borrow.Author.Needs.{needs}
+use Rattle.basics.specs.Says.{apart}
+use Rattle.objects.specs.States.{isRemoved}
+use Rattle.point_tables.specs.Tables.{Tables, tables, slotsOf}
+use Rattle.point_tables.specs.Holds.{Holds}
+use Rattle.point_tables.specs.Decide.{holds, holds-says}
+use Rattle.point_tables.specs.Outcome.{outcome}
+use Rattle.maintain.specs.Maintain.{isMoving, countStates, maintainedCounts}
+use Rattle.maintain.specs.SettledForm.{maintained-is}
+use Rattle.maintain.specs.MaintainLaws.{maintain-done, maintain-refused}
+use Rattle.settle.specs.CountsLaws.{moved-numbered, removed-numbered}
+use Rattle.upkeep.proofs.maintain.Statement.{statement}
+use Rattle.upkeep.proofs.maintain.Tie as tie
+
+abbrev entry : tie.Start → Tables
+entry c = tables (c .args .nums .now) (c .args .reals .now) (c .args .ints .now) (c .args .map .now) (c .args .pool .now) (c .args .spots .now) (c .args .cells .now)
+
+whole : (c : tie.Else1) → Holds (entry (c .before .before))
+whole c = holds-says (entry (c .before .before)) .yes (sym (c .before .before .pre) ∙ not-false _ (c .if1 .left))
+
+returns : tie.Need-returns
+returns c =
+    let s = c .before .before in
+    let no : holds (entry s) ≡ false = sym (s .pre) ∙ not-true _ (c .if1 .taken) in
+    sym (maintain-refused (entry s) (λ h. apart (sym no ∙ holds-says (entry s) .no h)))
+
+count-moves-requires : tie.Need-count-moves-requires
+count-moves-requires c κs = whole (c .before) .sized .most
+
+settle-all-requires : tie.Need-settle-all-requires
+settle-all-requires c κs = whole (c .before .before .before .before .before .before .before .before .before)
+
+returns-2 : tie.Need-returns-2
+returns-2 c =
+    let d = c .before .before .before .before .before .before .before .before in
+    let m = d .before .before .before .before .before .before .before .before in
+    let h = whole (m .before .before) in
+    let s = m .before .before .before .before in
+    let t = entry s in
+    let n = m .count-moves .ensures in
+    (λ z.
+    outcome (maintainedCounts 0 ((ap (λ k. k .moved) n ∙ moved-numbered t (slotsOf t)) z) ((ap (λ k. k .removed) n ∙ removed-numbered t (slotsOf t)) z))
+    ((d .settle-all .ensures ∙ sym (maintained-is t h)) z))
+    ∙ sym (maintain-done t h)
+
+pub maintain-spec : {M : Type 1} → statement M
+maintain-spec =
+    tie.close
+    (tie.spec
+    returns
+    count-moves-requires
+    settle-all-requires
+    (λ c. search needs)
+    (λ c. search needs)
+    (λ c. search needs)
+    (λ c. search needs)
+    (λ c. search needs)
+    (λ c. search needs)
+    (λ c. search needs)
+    returns-2)

@@ -1,0 +1,3 @@
+-- The passes of maintain, put together.
+pub mod OverLaws
+pub mod Assembled

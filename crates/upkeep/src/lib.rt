@@ -1,0 +1,71 @@
+// `maintain` of a point grid: one sweep over the lists, one pass over the slots, one merge, and the cell table anew.
+// The caller has checked whether the tables hold a grid, and hands the verdict down as `held`.
+ghost use mathlib.Core.Path.{_≡_};
+ghost use Rattle.point_tables.specs.Lent.{lent};
+ghost use Rattle.point_tables.specs.Holds.{Holds};
+ghost use Rattle.point_tables.specs.Decide.{holds};
+ghost use Rattle.point_tables.specs.Outcome.{outcome};
+ghost use Rattle.maintain.specs.Closed.{settledTables};
+ghost use Rattle.maintain.specs.Maintain.{maintainOf};
+ghost use Prim.Native.Nat.{_<_};
+ghost use lib.ListN.{length, set};
+use maintain::Maintained;
+
+// The numbers of entries and cells in use.
+fn count(map: &mut [u64], used: usize, rows: usize)
+    requires { ⌜ 2 < length (now map) ⌝ }
+    ensures { λ _. ⌜ now (map .exit) ≡ set (set (now (map .entry)) 1 used) 2 rows ⌝ }
+{
+    map[1] = basics::word_of(used);
+    map[2] = basics::word_of(rows);
+}
+
+// What is pending is done.
+fn settle_all(
+    nums: &mut [[u32; 4]],
+    reals: &mut [[f32; 4]],
+    ints: &mut [[i32; 4]],
+    map: &mut [u64],
+    pool: &mut [[u64; 2]],
+    spots: &mut [[f32; 2]],
+    cells: &mut [[u64; 2]],
+)
+    requires { ⌜ Holds (lent nums reals ints map pool spots cells) ⌝ }
+    ensures { λ _. ⌜ lent (nums .exit) (reals .exit) (ints .exit) (map .exit) (pool .exit) (spots .exit) (cells .exit) ≡ settledTables (lent (nums .entry) (reals .entry) (ints .entry) (map .entry) (pool .entry) (spots .entry) (cells .entry)) ⌝ }
+{
+    let w = sweep::sweep_lists(nums, reals, ints, map, pool, spots, cells);
+    let k = settle::settle_slots(nums, reals, ints, map, pool, w);
+    merge::append_tail(pool, spots, w, k, reals);
+    let used = w + k;
+    let rows = storage::rebuild(cells, pool, used);
+    count(map, used, rows);
+}
+
+pub fn maintain(
+    nums: &mut [[u32; 4]],
+    reals: &mut [[f32; 4]],
+    ints: &mut [[i32; 4]],
+    map: &mut [u64],
+    pool: &mut [[u64; 2]],
+    spots: &mut [[f32; 2]],
+    cells: &mut [[u64; 2]],
+    held: bool,
+) -> Maintained
+    requires { ⌜ held ≡ holds (lent nums reals ints map pool spots cells) ⌝ }
+    ensures { λ r. ⌜ outcome r (lent (nums .exit) (reals .exit) (ints .exit) (map .exit) (pool .exit) (spots .exit) (cells .exit)) ≡ maintainOf (lent (nums .entry) (reals .entry) (ints .entry) (map .entry) (pool .entry) (spots .entry) (cells .entry)) ⌝ }
+{
+    if !held {
+        return Maintained {
+            answer: 3,
+            moved: 0,
+            removed: 0,
+        };
+    }
+    let c = settle::count_moves(nums);
+    settle_all(nums, reals, ints, map, pool, spots, cells);
+    Maintained {
+        answer: 0,
+        moved: c.moved,
+        removed: c.removed,
+    }
+}
