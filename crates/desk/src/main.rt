@@ -125,6 +125,21 @@ fn frame(
     list(nums, reals, ints, map, pool, spots, cells);
 }
 
+// The frame ends: one point moved, one was removed; then the circle finds neither near the origin.
+fn settle(
+    nums: &mut [[u32; 4]],
+    reals: &mut [[f32; 4]],
+    ints: &mut [[i32; 4]],
+    map: &mut [u64],
+    pool: &mut [[u64; 2]],
+    spots: &mut [[f32; 2]],
+    cells: &mut [[u64; 2]],
+) {
+    let r = points::maintain(nums, reals, ints, map, pool, spots, cells);
+    line(b"maintain ", r.answer, r.moved, r.removed);
+    circle(nums, reals, ints, map, pool, spots, cells);
+}
+
 fn main() {
     let mut nums = [[0u32; 4]; 2];
     let mut reals = [[0.0f32; 4]; 2];
@@ -190,4 +205,13 @@ fn main() {
     );
     // a table in the place of another is found out
     list(&nums, &reals, &ints, &map, &cells, &spots, &cells);
+    settle(
+        &mut nums,
+        &mut reals,
+        &mut ints,
+        &mut map,
+        &mut pool,
+        &mut spots,
+        &mut cells,
+    );
 }
