@@ -16,17 +16,17 @@ pub record Row : Type 0 where
 abbrev pub row : ℕ → ℕ → ℤ → Row
 row s b c = record { size = s; bits = b; cell = c }
 
-pub right : Row → Bool
+unfoldable pub right : Row → Bool
 unfolding ofBits cellOf
 right r = let z = cellOf (pos (r .size)) (ofBits binary32 (r .bits)) in leZ z (r .cell) && leZ (r .cell) z
 
-pub all : List Row → Bool
+unfoldable pub all : List Row → Bool
 unfolding right
 all [] = true
 all (r ∷ rs) = right r && all rs
 
 -- -10.0, -9.5, -0.5, -0.0, 9.5, 10.0, -1.0, 1279.0, 1048576.0
-pub table : List Row
+unfoldable pub table : List Row
 table =
     row 10 0xc1200000 (negsuc 1)
     ∷ row 10 0xc1180000 (negsuc 0)

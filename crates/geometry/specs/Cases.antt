@@ -36,7 +36,7 @@ position p = record { x = ofBits binary32 (p .x); y = ofBits binary32 (p .y) }
 abbrev box : Point → Point → Aabb
 box a b = record { ll = position a; ur = position b }
 
-pub right : Row → Bool
+unfoldable pub right : Row → Bool
 unfolding ofBits lt le eq add sub mul neg inCircle overlaps intersects
 right (coordinate x w) = Bool·beq (inDomain (ofBits binary32 x)) w
 right (radius x w) = Bool·beq (radiusInDomain (ofBits binary32 x)) w
@@ -44,12 +44,12 @@ right (circle p c r w) = Bool·beq (inCircle (position p) (position c) (ofBits b
 right (rectangle a b p w) = Bool·beq (inRectangle (position p) (lowerCorner (position a) (position b)) (upperCorner (position a) (position b))) w
 right (boxes a b c d w) = Bool·beq (intersects (box a b) (box c d)) w
 
-pub all : List Row → Bool
+unfoldable pub all : List Row → Bool
 unfolding right
 all [] = true
 all (r ∷ rs) = right r && all rs
 
-pub table : List Row
+unfoldable pub table : List Row
 table =
     -- C1: (3, 4) from (0, 0) with radius 5
     circle (at 0x40400000 0x40800000) (at 0x00000000 0x00000000) 0x40a00000 false

@@ -22,8 +22,8 @@ use Rattle.point_tables.specs.Tables.{Tables, tables, sizeOf, usedOf, rowsOf, c
 use Rattle.inserts.specs.Insert.{entriesWith, rowsWith, put}
 use Rattle.inserts.specs.Fresh.{Fresh, freshRecord}
 use Rattle.inserts.specs.EnterLaws.{rows-least}
-use Rattle.inserts.specs.ListedLaws.{rows-in}
-use Rattle.inserts.specs.RoomLaws.{room}
+use Rattle.point_tables.specs.ListedLaws.{rows-in}
+use Rattle.point_tables.specs.RoomLaws.{room}
 use Rattle.inserts.specs.PutLaws.{more}
 
 module _ (t : Tables) (s : ℕ) (p : Position) (f : Fresh t s p) where

@@ -17,8 +17,8 @@ use Rattle.storage.specs.KeyedLaws.{onList-same}
 use Rattle.storage.specs.AppendLaws.{sorted-append1, under-append1, all-append1}
 use Rattle.storage.specs.StorageLaws.{own-filled}
 use Rattle.storage.specs.Store.{Filled}
-use Rattle.inserts.specs.Members.{pairs-append1}
-use Rattle.inserts.specs.RowLaws.{Single, PackedRows}
+use Rattle.point_tables.specs.Members.{pairs-append1}
+use Rattle.point_tables.specs.RowLaws.{Single, PackedRows}
 
 -- ---- a cell has a row, or it has none
 no-test : (k : ℕ) (c : List (List ℕ)) → under rowKey k c ≡ [] → All (λ r. rowKey r ≡ k → ⊥) c

@@ -25,9 +25,9 @@ use Rattle.point_tables.specs.Tables.{Tables, sizeOf, rowsOf, slotsOf, recordOn
 use Rattle.point_tables.specs.Holds.{RecordHolds, ListsHold, Pending, Holds}
 use Rattle.point_tables.specs.HoldsLaws.{rows-in-cells, entries-sorted}
 use Rattle.inserts.specs.Insert.{newRecord, newEntry, entriesWith, rowsWith, put}
-use Rattle.inserts.specs.Members.{some-append1, new-append1, pairs-append1}
+use Rattle.point_tables.specs.Members.{some-append1, new-append1, pairs-append1}
 use Rattle.inserts.specs.EnterLaws.{all-entered}
-use Rattle.inserts.specs.ListedLaws.{slotOf, Named, Listing, from-listing, listing, unnamed, rows-in}
+use Rattle.point_tables.specs.ListedLaws.{slotOf, Named, Listing, from-listing, listing, unnamed, rows-in}
 use Rattle.inserts.specs.PutLaws.{put-rows, put-size, put-length, put-slots, put-same, put-other, put-entries, put-packed, put-sized, put-counted}
 
 module _ (t : Tables) (h : Holds t) (s : ℕ) (inside : s < slotsOf t) (is-free : phaseAt (t .nums) s ≡ free) (p : Position) (d : ℕ) (in-domain : InDomain p) where

@@ -4,13 +4,7 @@ pub mod Insert
 pub mod Fresh
 pub mod FreeWordLaws
 pub mod NewLaws
-pub mod Members
-pub mod RowLaws
 pub mod EnterLaws
-pub mod EntryLaws
-pub mod ListedLaws
-pub mod RoomLaws
-pub mod HeadLaws
 pub mod PutLaws
 pub mod InsertKeeps
 pub mod InsertLaws

@@ -20,12 +20,12 @@ use Rattle.point_tables.specs.Tables.{Tables, sizeOf, usedOf, rowsOf, slotsOf, 
 use Rattle.point_tables.specs.Holds.{Counted, Holds}
 use Rattle.point_tables.specs.HoldsLaws.{entry-rows, entries-length}
 use Rattle.inserts.specs.Insert.{newRecord, newEntry, entriesWith, rowsWith, put}
-use Rattle.inserts.specs.HeadLaws.{counted-used, counted-rows, counted-size, counted-length, counted-slots}
-use Rattle.inserts.specs.EntryLaws.{written-entries}
-use Rattle.inserts.specs.RowLaws.{PackedRows, from-rows}
+use Rattle.point_tables.specs.HeadLaws.{counted-used, counted-rows, counted-size, counted-length, counted-slots}
+use Rattle.point_tables.specs.EntryLaws.{written-entries}
+use Rattle.point_tables.specs.RowLaws.{PackedRows, from-rows}
 use Rattle.inserts.specs.EnterLaws.{packed-append, rows-least}
-use Rattle.inserts.specs.ListedLaws.{rows-in}
-use Rattle.inserts.specs.RoomLaws.{room}
+use Rattle.point_tables.specs.ListedLaws.{rows-in}
+use Rattle.point_tables.specs.RoomLaws.{room}
 
 -- ---- a free slot s of tables that hold a grid takes an object at p
 module _ (t : Tables) (h : Holds t) (s : ℕ) (inside : s < slotsOf t) (is-free : phaseAt (t .nums) s ≡ free) (p : Position) (d : ℕ) where

@@ -8,3 +8,9 @@ pub mod HoldsLaws
 pub mod Outcome
 pub mod CountLaws
 pub mod Lent
+pub mod Members
+pub mod RowLaws
+pub mod EntryLaws
+pub mod ListedLaws
+pub mod HeadLaws
+pub mod RoomLaws

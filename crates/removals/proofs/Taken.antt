@@ -24,7 +24,8 @@ use Rattle.point_tables.specs.Tables.{Tables, tables, counting, usedOf, rowsOf,
 use Rattle.point_tables.specs.Outcome.{outcome}
 use Rattle.removals.specs.RemoveMaintain.{isEmpty, entriesWithout, rowsWithout, takenOut}
 use Rattle.removals.specs.DropLaws.{rowsBy}
-use Rattle.removals.specs.ListedLaws.{in-pool, in-spots, in-cells, rows-in}
+use Rattle.point_tables.specs.ListedLaws.{rows-in}
+use Rattle.point_tables.specs.HoldsLaws.{used-in-pool, used-in-spots, rows-in-cells}
 use Rattle.removals.specs.TakenLaws.{one-less, same-empty, new-rows}
 use Rattle.removals.specs.Steps.{Object}
 
@@ -58,10 +59,10 @@ module _ (t : Tables) (s : ℕ) (o : Object t s) where
   in-map = omega (arith, o .inside, o .held .sized .of-map)
 
   pub take-asks : (used : ℕ) → used ≡ usedOf t → (used ≤ length (t .pool)) × (used ≤ length (t .spots)) × Sorted rowKey (take used (t .pool))
-  take-asks used e = rw e (in-pool t (o .held), in-spots t (o .held), rows-in t (o .held) .ordered)
+  take-asks used e = rw e (used-in-pool t (o .held), used-in-spots t (o .held), rows-in t (o .held) .ordered)
 
   pub cells-asks : (rows : ℕ) → rows ≡ rowsOf t → (rows ≤ length (t .cells)) × Rising rowKey (take rows (t .cells))
-  cells-asks rows e = rw e (in-cells t (o .held), ascending-rising (rowsOf t) (t .cells) (in-cells t (o .held)) (o .held .packed .ascending))
+  cells-asks rows e = rw e (rows-in-cells t (o .held), ascending-rising (rowsOf t) (t .cells) (rows-in-cells t (o .held)) (o .held .packed .ascending))
 
   -- ---- the entry is taken out: what is left, and the column of its rows
   module _ (r : Record) (key used item : ℕ) (er : r ≡ recordOn t s) (ek : key ≡ keyOf (r .cell)) (eu : used ≡ usedOf t) (ei : item ≡ s) where
@@ -88,8 +89,8 @@ module _ (t : Tables) (s : ℕ) (o : Object t s) where
       pool-asks =
           let n = length-map (entriesWithout t s) rowOf in
           let m = one-less t (o .held) s (o .inside) (o .occupied) in
-          let l = length-written (map rowOf (entriesWithout t s)) (t .pool) (omega (arith, n, m, in-pool t (o .held))) in
-          (omega (arith, left-is, m, in-pool t (o .held), ap length pool-is ∙ l), rw rows-are (new-rows t (o .held) s (o .inside) (o .occupied) .ordered))
+          let l = length-written (map rowOf (entriesWithout t s)) (t .pool) (omega (arith, n, m, used-in-pool t (o .held))) in
+          (omega (arith, left-is, m, used-in-pool t (o .held), ap length pool-is ∙ l), rw rows-are (new-rows t (o .held) s (o .inside) (o .occupied) .ordered))
 
       -- ---- the rows of the cells, and the whole
       module _ (rows kept : ℕ) (ew : rows ≡ rowsOf t) where

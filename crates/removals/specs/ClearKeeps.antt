@@ -17,7 +17,7 @@ use Rattle.storage.specs.Packed.{Packed}
 use Rattle.point_tables.specs.Tables.{Tables, sizeOf, usedOf, rowsOf, slotsOf, Sized}
 use Rattle.point_tables.specs.Holds.{Counted, ListsHold, Holds}
 use Rattle.removals.specs.Clear.{clearedRow, clearedMap, cleared}
-use Rattle.removals.specs.HeadLaws.{counted-used, counted-rows, counted-size, counted-length, counted-slots}
+use Rattle.point_tables.specs.HeadLaws.{counted-used, counted-rows, counted-size, counted-length, counted-slots}
 use Rattle.removals.specs.TakenLaws.{next-not-live}
 use Rattle.removals.specs.ClearedLaws.{cleared-map-length, cleared-map-head, cleared-slots}
 

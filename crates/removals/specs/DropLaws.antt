@@ -19,7 +19,7 @@ use Rattle.storage.specs.KeyedLaws.{under-other, sorted-onList, length-onList}
 use Rattle.storage.specs.TakeOutLaws.{all-takeOut, sorted-takeOut, under-takeOut-other}
 use Rattle.removals.specs.RemoveMaintain.{isEmpty}
 use Rattle.removals.specs.GoneLaws.{all-onList, all-apart, pairs-onList}
-use Rattle.removals.specs.RowLaws.{Single, PackedRows}
+use Rattle.point_tables.specs.RowLaws.{Single, PackedRows}
 
 -- ---- a cell without its row
 module _ (k : ℕ) (c : List (List ℕ)) where

@@ -1,11 +1,6 @@
 -- What `remove_maintain` and `clear` answer and leave.
 pub mod RemoveMaintain
 pub mod Clear
-pub mod Members
-pub mod EntryLaws
-pub mod RowLaws
-pub mod ListedLaws
-pub mod HeadLaws
 pub mod GoneLaws
 pub mod DropLaws
 pub mod TakenLaws

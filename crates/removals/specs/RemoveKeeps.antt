@@ -19,10 +19,11 @@ use Rattle.objects.specs.Columns.{tagOf}
 use Rattle.point_tables.specs.Tables.{Tables, usedOf, rowsOf, slotsOf, recordOn, entriesIn, cellRows}
 use Rattle.point_tables.specs.Holds.{RecordHolds, ListsHold, Pending, Holds}
 use Rattle.removals.specs.RemoveMaintain.{isEmpty, entriesWithout, rowsWithout, takenOut}
-use Rattle.removals.specs.Members.{Pairs}
+use Rattle.point_tables.specs.Members.{Pairs}
 use Rattle.removals.specs.GoneLaws.{some-takeOut, pairs-takeOut, all-onList, some-onList, pairs-onList, gone-onList}
 use Rattle.removals.specs.DropLaws.{all-rowsBy}
-use Rattle.removals.specs.ListedLaws.{slotOf, Named, Listing, from-listing, listing, in-cells, entries-sorted}
+use Rattle.point_tables.specs.ListedLaws.{slotOf, Named, Listing, from-listing, listing}
+use Rattle.point_tables.specs.HoldsLaws.{rows-in-cells, entries-sorted}
 use Rattle.removals.specs.TakenLaws.{one-less, taken-used, taken-rows, taken-size, taken-length, taken-slots, taken-gone, taken-other, taken-record, taken-entries, taken-packed, taken-sized, taken-counted}
 
 module _ (t : Tables) (h : Holds t) (s : ℕ) (inside : s < slotsOf t) (is-live : phaseAt (t .nums) s ≡ live) where
@@ -104,7 +105,7 @@ module _ (t : Tables) (h : Holds t) (s : ℕ) (inside : s < slotsOf t) (is-live 
 
   -- ---- the marks
   marked-rows : (i : ℕ) → i < slotsOf t → Pending t i → All (λ r. rowKey r ≡ keyOf (recordOn t i .cell) → rowItem r ≡ 1) (rowsWithout t s)
-  marked-rows i l q = all-rowsBy (isEmpty (under entryKey key (entriesWithout t s))) key (cellRows t) _ (all-first (rowsOf t) (t .cells) (in-cells t h) _ (h .dirty i l q))
+  marked-rows i l q = all-rowsBy (isEmpty (under entryKey key (entriesWithout t s))) key (cellRows t) _ (all-first (rowsOf t) (t .cells) (rows-in-cells t h) _ (h .dirty i l q))
 
   row-at : (r : ℕ) → r < length (rowsWithout t s) → getD (after .cells) r [] ≡ getD (rowsWithout t s) r []
   unfolding takenOut

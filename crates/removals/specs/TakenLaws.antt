@@ -26,10 +26,11 @@ use Rattle.objects.specs.Columns.{recordOf}
 use Rattle.point_tables.specs.Tables.{Tables, sizeOf, usedOf, rowsOf, slotsOf, recordOn, entriesIn, cellRows, Sized}
 use Rattle.point_tables.specs.Holds.{Counted, Holds}
 use Rattle.removals.specs.RemoveMaintain.{isEmpty, entriesWithout, rowsWithout, takenOut}
-use Rattle.removals.specs.EntryLaws.{written-entries}
-use Rattle.removals.specs.RowLaws.{PackedRows, from-rows}
-use Rattle.removals.specs.ListedLaws.{slotOf, Named, in-pool, in-spots, in-cells, listing, count-entries, rows-in}
-use Rattle.removals.specs.HeadLaws.{counted-used, counted-rows, counted-size, counted-length, counted-slots}
+use Rattle.point_tables.specs.EntryLaws.{written-entries}
+use Rattle.point_tables.specs.RowLaws.{PackedRows, from-rows}
+use Rattle.point_tables.specs.ListedLaws.{slotOf, Named, listing, rows-in}
+use Rattle.point_tables.specs.HoldsLaws.{used-in-pool, used-in-spots, rows-in-cells, entries-length}
+use Rattle.point_tables.specs.HeadLaws.{counted-used, counted-rows, counted-size, counted-length, counted-slots}
 use Rattle.removals.specs.GoneLaws.{some-both, some-filter, some-has}
 use Rattle.removals.specs.DropLaws.{rowsBy, rowsBy-length, packed-remove}
 
@@ -62,13 +63,13 @@ module _ (t : Tables) (h : Holds t) (s : ℕ) (inside : s < slotsOf t) (is-live 
 
   -- ---- the counts
   pub one-less : length (entriesWithout t s) + 1 ≡ usedOf t
-  one-less = length-onList-takeOut entryKey key _ (entriesIn t) entry-found ∙ count-entries t h
+  one-less = length-onList-takeOut entryKey key _ (entriesIn t) entry-found ∙ entries-length t h
 
   pub rows-fit : length (rowsWithout t s) ≤ rowsOf t
   rows-fit = omega (arith, rowsBy-length (isEmpty (under entryKey key (entriesWithout t s))) key (cellRows t), length-cells)
     where
       length-cells : length (cellRows t) ≡ rowsOf t
-      length-cells = length-take-le (rowsOf t) (t .cells) (in-cells t h)
+      length-cells = length-take-le (rowsOf t) (t .cells) (rows-in-cells t h)
 
   pub taken-used : usedOf (takenOut t s) ≡ length (entriesWithout t s)
   unfolding takenOut
@@ -113,7 +114,7 @@ module _ (t : Tables) (h : Holds t) (s : ℕ) (inside : s < slotsOf t) (is-live 
       as-written = unfold takenOut in written-entries (entriesWithout t s) (t .pool) (t .spots)
 
   old-rows : PackedRows (map rowOf (entriesIn t)) (cellRows t)
-  old-rows = rw (rows-column (t .pool) (t .spots) (usedOf t) (in-pool t h) (in-spots t h)) (rows-in t h)
+  old-rows = rw (rows-column (t .pool) (t .spots) (usedOf t) (used-in-pool t h) (used-in-spots t h)) (rows-in t h)
 
   same-list : under rowKey key (map rowOf (entriesWithout t s)) ≡ map rowOf (under entryKey key (entriesWithout t s))
   same-list = sym (map-under rowOf entryKey rowKey (λ e. refl) key (entriesWithout t s))

@@ -1,13 +1,14 @@
--- Some element, and every pair of elements in order, of a list: by places, and after one element more. Assumes nothing.
+-- Some element, and every pair of elements in order, of a list: by places, of a part of it, and after one element more. Assumes nothing.
 use Prim.Native.Nat.{ℕ, zero, suc, _<_}
+use mathlib.Core.Bool.{Bool}
 use mathlib.Core.List.{List, [], _∷_}
 use mathlib.Core.Logic.{_⊎_, inl, inr, ⊎-elim}
 use native.Mathlib.Omega.{arith}
 use native.Mathlib.Nat.{not-suc-le-zero, le-of-suc-le-suc}
 use lib.Dec.{ltb}
 use lib.ListN.{length, getD}
-use Rattle.storage.specs.Keyed.{All, Sorted, append1}
-use Rattle.storage.specs.FilterLaws.{by-test, all-map, all-at, all-of}
+use Rattle.storage.specs.Keyed.{All, Sorted, filter, append1}
+use Rattle.storage.specs.FilterLaws.{by-test, all-map, all-at, all-of, filter-all}
 use Rattle.storage.specs.AppendLaws.{insert1, append1-is}
 
 abbrev pub Some : {A : Type 0} → (A → Type 0) → List A → Type 0
@@ -42,6 +43,11 @@ module _ {A : Type 0} where
   pub pairs-of : (R : A → A → Type 0) (d : A) (l : List A) → ((i j : ℕ) → j < length l → i < j → R (getD l i d) (getD l j d)) → Pairs R l
   pairs-of R d [] f = tt
   pairs-of R d (x ∷ l) f = (all-of (R x) d l (λ j h. f 0 (suc j) (omega arith) (omega arith)), pairs-of R d l (λ i j h g. f (suc i) (suc j) (omega arith) (omega arith)))
+
+  pub pairs-filter : (R : A → A → Type 0) (test : A → Bool) (l : List A) → Pairs R l → Pairs R (filter test l)
+  pairs-filter R test [] p = tt
+  pairs-filter R test (x ∷ l) p =
+      by-test (test x) (λ e. rw e (filter-all test (R x) l (p .0), pairs-filter R test l (p .1))) (λ e. rw e (pairs-filter R test l (p .1)))
 
   -- ---- one element more, at the end of the list of its key
   module _ (key : A → ℕ) (e : A) where

@@ -8,14 +8,15 @@ use lib.Ieee.{nan}
 use lib.ListN.{length, getD, take}
 use Rattle.cells.specs.Key.{keyOf}
 use Rattle.slots.specs.Slot.{live, phaseAt}
-use Rattle.storage.specs.Keyed.{All, Sorted}
-use Rattle.storage.specs.Entries.{Entry, entry, rowKey, rowItem, entryKey}
-use Rattle.storage.specs.PoolLaws.{sorted-entries}
+use Rattle.storage.specs.Keyed.{All}
+use Rattle.storage.specs.Entries.{Entry, entry, rowKey, rowItem}
+use Rattle.storage.specs.FilterLaws.{all-map}
 use Rattle.point_tables.specs.Tables.{Tables, usedOf, rowsOf, slotsOf, recordOn, entriesIn, cellRows}
 use Rattle.point_tables.specs.Holds.{ListsHold, Holds}
-use Rattle.removals.specs.Members.{Some, Pairs, some-at, some-of, pairs-at, pairs-of}
-use Rattle.removals.specs.EntryLaws.{entryAt, entries-length, entries-at, all-entries, entries-all}
-use Rattle.removals.specs.RowLaws.{PackedRows, to-rows}
+use Rattle.point_tables.specs.HoldsLaws.{used-in-pool, used-in-spots, rows-in-cells}
+use Rattle.point_tables.specs.Members.{Some, Pairs, some-at, some-of, pairs-at, pairs-of}
+use Rattle.point_tables.specs.EntryLaws.{entryAt, entries-length, entries-at, all-entries, entries-all}
+use Rattle.point_tables.specs.RowLaws.{PackedRows, to-rows}
 
 abbrev pub slotOf : Entry → ℕ
 slotOf e = rowItem (e .row)
@@ -67,23 +68,12 @@ module _ (t : Tables) (u : usedOf t ≤ length (t .pool)) (v : usedOf t ≤ leng
 
 -- ---- tables that hold a grid
 module _ (t : Tables) (h : Holds t) where
-  pub in-pool : usedOf t ≤ length (t .pool)
-  in-pool = omega (arith, h .counted .used-most, h .sized .of-pool)
-
-  pub in-spots : usedOf t ≤ length (t .spots)
-  in-spots = omega (arith, h .counted .used-most, h .sized .of-spots)
-
   pub listing : Listing t (entriesIn t)
-  listing = to-listing t in-pool in-spots (h .lists)
-
-  pub count-entries : length (entriesIn t) ≡ usedOf t
-  count-entries = entries-length (t .pool) (t .spots) (usedOf t) in-pool in-spots
-
-  pub in-cells : rowsOf t ≤ length (t .cells)
-  in-cells = omega (arith, h .counted .rows-most, h .sized .of-cells)
+  listing = to-listing t (used-in-pool t h) (used-in-spots t h) (h .lists)
 
   pub rows-in : PackedRows (take (usedOf t) (t .pool)) (cellRows t)
-  rows-in = to-rows (usedOf t) (rowsOf t) (t .pool) (t .cells) in-pool in-cells (h .packed)
+  rows-in = to-rows (usedOf t) (rowsOf t) (t .pool) (t .cells) (used-in-pool t h) (rows-in-cells t h) (h .packed)
 
-  pub entries-sorted : Sorted entryKey (entriesIn t)
-  entries-sorted = sorted-entries (t .pool) (t .spots) (usedOf t) in-pool in-spots (rows-in .ordered)
+  -- a slot that is not occupied is named by no entry
+  pub unnamed : (s : ℕ) → (phaseAt (t .nums) s ≡ live → ⊥) → All (λ e. slotOf e ≡ s → ⊥) (entriesIn t)
+  unnamed s n = all-map (Named t) _ (λ e m q. n (rw q at (m .occupied))) (entriesIn t) (listing .each)

@@ -14,7 +14,7 @@ use Rattle.storage.specs.Tables.{Rising}
 use Rattle.storage.specs.FilterLaws.{all-map, all-both}
 use Rattle.storage.specs.TableLaws.{rising-sorted}
 use Rattle.storage.specs.PackedLaws.{ordered-sorted, sorted-ordered, ascending-rising, rising-ascending, all-first, first-all, place-filled, filled-first}
-use Rattle.inserts.specs.Members.{Pairs}
+use Rattle.point_tables.specs.Members.{Pairs}
 
 -- no two rows of one key
 abbrev pub Single : List (List ℕ) → Type 0
