@@ -4,6 +4,7 @@ use Prim.Native.Nat.{_+_}
 use mathlib.Core.Path.{_≡_, refl}
 use mathlib.Core.Bool.{Bool, true, _&&_}
 use mathlib.Core.List.{List, [], _∷_, _++_, map}
+use lib.Ieee.{fits}
 use lib.ListN.{length}
 use Rattle.cells.specs.CellTable as CellTable
 use Rattle.geometry.specs.Cases as Cases
@@ -27,7 +28,7 @@ unfolding CellTable.table Cases.table
 table = map cell CellTable.table ++ map case Cases.table
 
 pub table-holds : all table ≡ true
-unfolding all table
+unfolding all table fits
 table-holds = refl
 
 -- the nine rows and the cases are all there

@@ -10,7 +10,7 @@ use lib.Ieee.Fits.{and-i, and-l, and-r}
 use Rattle.geometry.specs.declared.Position.{Position}
 use Rattle.geometry.specs.Domain.{within, inDomain, positionInDomain, radiusInDomain}
 use Rattle.geometry.specs.Back.{le-ff, le-tt, le-tf}
-use Rattle.geometry.specs.DomainLaws.{position-parts, radius-in-domain, low-within, high-within}
+use Rattle.geometry.specs.DomainLaws.{domain-within, position-parts, radius-in-domain, low-within, high-within}
 use Rattle.geometry.specs.CircleLaws.{HeldPosition}
 use Rattle.cells.specs.CellRule.{Reached}
 use Rattle.cells.specs.CellRuleLaws.{le-of-tests}
@@ -19,25 +19,28 @@ use Rattle.cells.specs.CircleRange.{circleLow, circleHigh}
 wider : (a d : ℕ) → a * 1 ≤ 1 * 1048576 * d → a * 1 ≤ 1 * 2097152 * d
 wider a d h = omega arith
 
-pub domain-reached : (x : Float) → T (inDomain x) → T (within 21 x)
+within-wider : (x : Float) → T (within 20 x) → T (within 21 x)
 unfolding le lt eq
-domain-reached nan h = absurd h
-domain-reached (inf true) h = absurd h
-domain-reached (inf false) h = absurd h
-domain-reached (fin false m e) h =
+within-wider nan h = absurd h
+within-wider (inf true) h = absurd h
+within-wider (inf false) h = absurd h
+within-wider (fin false m e) h =
     let a = m * up e * 1 in
     let b = 1 * 1048576 * down e in
     let l = le-of-tests a b (eqb a b && true) (λ t. eqb→eq a b (and-l (eqb a b) true t))
     (and-r (le (fin true 1 (pos 20)) (fin false m e)) (le (fin false m e) (fin false 1 (pos 20))) h) in
     and-i (le (fin true 1 (pos 21)) (fin false m e)) (le (fin false m e) (fin false 1 (pos 21)))
     (le-tf (1 * 2097152 * down e) a) (le-ff a (1 * 2097152 * down e) (wider (m * up e) (down e) l))
-domain-reached (fin true m e) h =
+within-wider (fin true m e) h =
     let a = 1 * 1048576 * down e in
     let b = m * up e * 1 in
     let l = le-of-tests b a (eqb a b && true) (λ t. sym (eqb→eq a b (and-l (eqb a b) true t)))
     (and-l (le (fin true 1 (pos 20)) (fin true m e)) (le (fin true m e) (fin false 1 (pos 20))) h) in
     and-i (le (fin true 1 (pos 21)) (fin true m e)) (le (fin true m e) (fin false 1 (pos 21)))
     (le-tt (1 * 2097152 * down e) b (wider (m * up e) (down e) l)) (le-tf b (1 * 2097152 * down e))
+
+pub domain-reached : (x : Float) → T (inDomain x) → T (within 21 x)
+domain-reached x h = within-wider x (domain-within x h)
 
 pub position-reached : (p : Position) → T (positionInDomain p) → Reached p
 position-reached p h = let (x, y) = position-parts p h in (domain-reached (p .x) x, domain-reached (p .y) y)

@@ -19,13 +19,13 @@ fn line(what: &[u8], answer: u32, a: u32, b: u32) {
 
 // A point comes in: answer, slot, version.
 fn enter(
-    nums: &mut [[u32; 4]],
-    reals: &mut [[f32; 4]],
-    ints: &mut [[i32; 4]],
-    map: &mut [u64],
-    pool: &mut [[u64; 2]],
-    spots: &mut [[f32; 2]],
-    cells: &mut [[u64; 2]],
+    nums: &mut [[u32; 4]; 2],
+    reals: &mut [[f32; 4]; 2],
+    ints: &mut [[i32; 4]; 2],
+    map: &mut [u64; 4],
+    pool: &mut [[u64; 2]; 2],
+    spots: &mut [[f32; 2]; 2],
+    cells: &mut [[u64; 2]; 2],
     at: Position,
     obj: u32,
 ) {
@@ -36,13 +36,13 @@ fn enter(
 
 // What the grid has, told into a buffer that is one short.
 fn list(
-    nums: &[[u32; 4]],
-    reals: &[[f32; 4]],
-    ints: &[[i32; 4]],
-    map: &[u64],
-    pool: &[[u64; 2]],
-    spots: &[[f32; 2]],
-    cells: &[[u64; 2]],
+    nums: &[[u32; 4]; 2],
+    reals: &[[f32; 4]; 2],
+    ints: &[[i32; 4]; 2],
+    map: &[u64; 4],
+    pool: &[[u64; 2]; 2],
+    spots: &[[f32; 2]; 2],
+    cells: &[[u64; 2]; 2],
 ) {
     let mut one = [[7u32; 2]; 1];
     let r = points::handles(nums, reals, ints, map, pool, spots, cells, &mut one);
@@ -52,13 +52,13 @@ fn list(
 
 // A circle of radius 8 round the origin: answer, how many it finds, the slot of the last.
 fn circle(
-    nums: &[[u32; 4]],
-    reals: &[[f32; 4]],
-    ints: &[[i32; 4]],
-    map: &[u64],
-    pool: &[[u64; 2]],
-    spots: &[[f32; 2]],
-    cells: &[[u64; 2]],
+    nums: &[[u32; 4]; 2],
+    reals: &[[f32; 4]; 2],
+    ints: &[[i32; 4]; 2],
+    map: &[u64; 4],
+    pool: &[[u64; 2]; 2],
+    spots: &[[f32; 2]; 2],
+    cells: &[[u64; 2]; 2],
 ) {
     let mut found = [[7u32; 2]; 2];
     let mut places = [[0.0f32; 2]; 2];
@@ -82,13 +82,13 @@ fn circle(
 
 // Five deferred calls with one check: far moves, two removals of one object, a move of what is removed, a handle that is not good.
 fn frame(
-    nums: &mut [[u32; 4]],
-    reals: &mut [[f32; 4]],
-    ints: &mut [[i32; 4]],
-    map: &[u64],
-    pool: &[[u64; 2]],
-    spots: &[[f32; 2]],
-    cells: &mut [[u64; 2]],
+    nums: &mut [[u32; 4]; 2],
+    reals: &mut [[f32; 4]; 2],
+    ints: &mut [[i32; 4]; 2],
+    map: &[u64; 4],
+    pool: &[[u64; 2]; 2],
+    spots: &[[f32; 2]; 2],
+    cells: &mut [[u64; 2]; 2],
 ) {
     let kinds = [0u32, 1, 1, 0, 0];
     let handles = [[0u32, 1], [1, 1], [1, 1], [1, 1], [0, 2]];
@@ -127,17 +127,52 @@ fn frame(
 
 // The frame ends: one point moved, one was removed; then the circle finds neither near the origin.
 fn settle(
-    nums: &mut [[u32; 4]],
-    reals: &mut [[f32; 4]],
-    ints: &mut [[i32; 4]],
-    map: &mut [u64],
-    pool: &mut [[u64; 2]],
-    spots: &mut [[f32; 2]],
-    cells: &mut [[u64; 2]],
+    nums: &mut [[u32; 4]; 2],
+    reals: &mut [[f32; 4]; 2],
+    ints: &mut [[i32; 4]; 2],
+    map: &mut [u64; 4],
+    pool: &mut [[u64; 2]; 2],
+    spots: &mut [[f32; 2]; 2],
+    cells: &mut [[u64; 2]; 2],
 ) {
     let r = points::maintain(nums, reals, ints, map, pool, spots, cells);
     line(b"maintain ", r.answer, r.moved, r.removed);
     circle(nums, reals, ints, map, pool, spots, cells);
+}
+
+// A grid of two slots with cells of 10; three points come, and the third finds no slot.
+fn open(
+    nums: &mut [[u32; 4]; 2],
+    reals: &mut [[f32; 4]; 2],
+    ints: &mut [[i32; 4]; 2],
+    map: &mut [u64; 4],
+    pool: &mut [[u64; 2]; 2],
+    spots: &mut [[f32; 2]; 2],
+    cells: &mut [[u64; 2]; 2],
+) {
+    let made = points::new(nums, reals, ints, map, pool, spots, cells, 10);
+    line(b"new ", made, 0, 0);
+    let home = Position { x: 0.0, y: 0.0 };
+    let near = Position { x: 5.0, y: 5.0 };
+    enter(nums, reals, ints, map, pool, spots, cells, home, 7);
+    enter(nums, reals, ints, map, pool, spots, cells, near, 8);
+    enter(nums, reals, ints, map, pool, spots, cells, near, 9);
+}
+
+fn run(
+    nums: &mut [[u32; 4]; 2],
+    reals: &mut [[f32; 4]; 2],
+    ints: &mut [[i32; 4]; 2],
+    map: &mut [u64; 4],
+    pool: &mut [[u64; 2]; 2],
+    spots: &mut [[f32; 2]; 2],
+    cells: &mut [[u64; 2]; 2],
+) {
+    open(nums, reals, ints, map, pool, spots, cells);
+    frame(nums, reals, ints, map, pool, spots, cells);
+    // a table in the place of another is found out
+    list(nums, reals, ints, map, cells, spots, cells);
+    settle(nums, reals, ints, map, pool, spots, cells);
 }
 
 fn main() {
@@ -148,64 +183,7 @@ fn main() {
     let mut pool = [[0u64; 2]; 2];
     let mut spots = [[0.0f32; 2]; 2];
     let mut cells = [[0u64; 2]; 2];
-    let made = points::new(
-        &mut nums,
-        &reals,
-        &ints,
-        &mut map,
-        &pool,
-        &spots,
-        &cells,
-        10,
-    );
-    line(b"new ", made, 0, 0);
-    let home = Position { x: 0.0, y: 0.0 };
-    let near = Position { x: 5.0, y: 5.0 };
-    enter(
-        &mut nums,
-        &mut reals,
-        &mut ints,
-        &mut map,
-        &mut pool,
-        &mut spots,
-        &mut cells,
-        home,
-        7,
-    );
-    enter(
-        &mut nums,
-        &mut reals,
-        &mut ints,
-        &mut map,
-        &mut pool,
-        &mut spots,
-        &mut cells,
-        near,
-        8,
-    );
-    enter(
-        &mut nums,
-        &mut reals,
-        &mut ints,
-        &mut map,
-        &mut pool,
-        &mut spots,
-        &mut cells,
-        near,
-        9,
-    );
-    frame(
-        &mut nums,
-        &mut reals,
-        &mut ints,
-        &map,
-        &pool,
-        &spots,
-        &mut cells,
-    );
-    // a table in the place of another is found out
-    list(&nums, &reals, &ints, &map, &cells, &spots, &cells);
-    settle(
+    run(
         &mut nums,
         &mut reals,
         &mut ints,

@@ -4,7 +4,7 @@ use Prim.Native.Nat.{ℕ}
 use mathlib.Core.Path.{_≡_, refl}
 use mathlib.Core.Bool.{Bool, true, false, _&&_, Bool·beq}
 use mathlib.Core.List.{List, [], _∷_}
-use lib.Ieee.{binary32, ofBits, lt, le, eq, add, sub, mul, neg}
+use lib.Ieee.{binary32, ofBits, lt, le, eq, add, sub, mul, neg, fits}
 use Rattle.geometry.specs.declared.Position.{Position}
 use Rattle.geometry.specs.declared.Aabb.{Aabb}
 use Rattle.geometry.specs.Domain.{inDomain, radiusInDomain}
@@ -80,5 +80,5 @@ table =
     ∷ []
 
 pub cases-hold : all table ≡ true
-unfolding all table
+unfolding all table fits
 cases-hold = refl

@@ -7,7 +7,7 @@ use lib.Dec.{T}
 use lib.Ieee.{Float, fin, binary32, le, sub, fits}
 use Rattle.geometry.specs.declared.Position.{Position}
 use Rattle.geometry.specs.Domain.{positionInDomain, radiusInDomain}
-use Rattle.geometry.specs.DomainLaws.{domain-finite, position-parts, radius-forward, radius-in-domain}
+use Rattle.geometry.specs.DomainLaws.{domain-fits, domain-finite, position-parts, radius-forward, radius-in-domain}
 use Rattle.geometry.specs.Circle.{inCircle}
 use Rattle.geometry.specs.Rounding.{number}
 use Rattle.geometry.specs.Sums.{sub-num}
@@ -34,6 +34,9 @@ no-point-outside p centre r a b c d e g h =
 -- both coordinates are numbers that binary32 holds, as all of the machine's are
 abbrev pub HeldPosition : Position → Type 0
 HeldPosition p = T (fits binary32 (p .x)) × T (fits binary32 (p .y))
+
+pub position-held : (p : Position) → T (positionInDomain p) → HeldPosition p
+position-held p h = let (x, y) = position-parts p h in (domain-fits (p .x) x, domain-fits (p .y) y)
 
 -- the same in the words of the domain
 pub found-in-range : (p centre : Position) (r : Float) → HeldPosition p → HeldPosition centre → T (fits binary32 r) → T (positionInDomain p) → T (positionInDomain centre)

@@ -1,9 +1,9 @@
--- The domain: coordinates are finite with magnitude at most 2 ^ 20, which is 1,048,576; a radius is from 0 to that; no box is reversed.
--- NaN and the infinities fail every comparison here, and -0.0 counts as 0. Assumes nothing.
+-- The domain: coordinates are binary32 numbers, finite with magnitude at most 2 ^ 20, which is 1,048,576; a radius is from 0 to that; no box is reversed.
+-- NaN and the infinities fail the comparisons here, and -0.0 counts as 0. Assumes nothing.
 use Prim.Native.Nat.{ℕ}
 use mathlib.Core.Bool.{Bool, true, false, _&&_}
 use lib.IntN.{pos}
-use lib.Ieee.{Float, fin, le}
+use lib.Ieee.{Float, fin, binary32, le, fits}
 use Rattle.geometry.specs.declared.Position.{Position}
 use Rattle.geometry.specs.declared.Aabb.{Aabb}
 
@@ -16,13 +16,13 @@ abbrev pub reach : ℕ
 reach = 20
 
 abbrev pub inDomain : Float → Bool
-inDomain x = within reach x
+inDomain x = fits binary32 x && within reach x
 
 abbrev pub positionInDomain : Position → Bool
 positionInDomain p = inDomain (p .x) && inDomain (p .y)
 
 abbrev pub radiusInDomain : Float → Bool
-radiusInDomain r = le (fin false 0 (pos 0)) r && le r (fin false 1 (pos reach))
+radiusInDomain r = fits binary32 r && (le (fin false 0 (pos 0)) r && le r (fin false 1 (pos reach)))
 
 -- both corners are in the domain, and neither axis is reversed
 abbrev pub aabbInDomain : Aabb → Bool

@@ -30,7 +30,7 @@ use Rattle.inserts.specs.NewLaws.{built-holds}
 use Rattle.inserts.specs.Insert.{usableSlot, insertOf}
 use Rattle.inserts.specs.InsertLaws.{insert-done, insert-outside, insert-full, insert-holds}
 use Rattle.inserts.specs.PutLaws.{more, put-used}
-use Rattle.moves.specs.Moves.{reply, pended, setPositionAnswer, setPositionOf, removeAnswer, removeOf}
+use Rattle.moves.specs.Moves.{pended, setPositionAnswer, setPositionOf, removeAnswer, removeOf}
 use Rattle.moves.specs.Batch.{Call, callOf, callsOf, tablesAfter, replies, replyRows, batched, batchAnswer, batchOf}
 use Rattle.moves.specs.MovesKeeps.{set-position-keeps, remove-keeps}
 use Rattle.moves.specs.BatchAnswerLaws.{batch-keeps}
@@ -40,10 +40,11 @@ use Rattle.removals.specs.Clear.{clearOf}
 use Rattle.removals.specs.ClearLaws.{clear-refused, clear-holds, clear-counts, clear-empty}
 use Rattle.maintain.specs.MaintainLaws.{maintain-keeps, maintain-length}
 use Rattle.maintain.specs.Maintain.{maintainOf}
-use Rattle.reads.specs.Reads.{count, lenOf, liveHandles}
+use Rattle.reads.specs.Reads.{lenOf, liveHandles}
 use Rattle.reads.specs.ReadsLaws.{len-0}
 use Rattle.reads.specs.LenLaws.{len-used}
 use Rattle.histories.specs.History.{Op, insert, setPosition, remove, batch, maintain, removeMaintain, clear, after, afterAll, accepted, putIn, takenOut, allIn, allOut}
+use Rattle.replies.specs.Replies.{count, reply}
 
 -- ---- every call keeps the tables holding a grid
 pub after-holds : (t : Tables) (o : Op) → Holds t → Holds (after t o)

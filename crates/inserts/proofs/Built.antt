@@ -2,20 +2,18 @@
 use Prim.Native.Nat.{ℕ}
 use mathlib.Core.Path.{_≡_, refl, sym, _∙_}
 use mathlib.Core.Bool.{Bool, true, false}
-use mathlib.Core.List.{List, [], _∷_}
+use mathlib.Core.List.{List}
 use native.Mathlib.Omega.{arith}
-use lib.ListN.{replicate}
 use borrow.Author.Tests.{ne-eqb}
 use Rattle.basics.specs.Says.{Says, says-same}
 use Rattle.basics.specs.Refusals.{orElse}
 use Rattle.cells.specs.Size.{SizeInDomain}
-use Rattle.slots.specs.Map.{wordsFor}
-use Rattle.slots.specs.Slot.{free}
+use Rattle.blank.specs.Blank.{blankNums, blankMap}
+use Rattle.blank.specs.BlankLaws.{size-says}
 use Rattle.point_tables.specs.Tables.{Tables, tables, slotsOf, Sized}
 use Rattle.point_tables.specs.Decide.{sized, sized-says}
 use Rattle.point_tables.specs.Outcome.{outcome}
-use Rattle.inserts.specs.New.{freeWords, built, newAnswer, newOf}
-use Rattle.inserts.specs.NewLaws.{size-says}
+use Rattle.inserts.specs.New.{built, newAnswer, newOf}
 
 module _ (t : Tables) (size : ℕ) where
   by-two : (a b : Bool) → Says a (Sized t) → Says b (SizeInDomain size) → orElse a 3 (orElse b 2 0) ≡ newAnswer t size
@@ -49,7 +47,7 @@ module _ (t : Tables) (size : ℕ) where
     unfolding newOf
     done z u q = rw (← e, z, q)
 
-  pub built-is : (ns : List (List ℕ)) (m : List ℕ) → ns ≡ replicate (slotsOf t) (1 ∷ free ∷ 0 ∷ 0 ∷ []) → m ≡ size ∷ 0 ∷ 0 ∷ freeWords (wordsFor (slotsOf t)) (slotsOf t)
+  pub built-is : (ns : List (List ℕ)) (m : List ℕ) → ns ≡ blankNums (slotsOf t) → m ≡ blankMap (slotsOf t) size
       → tables ns (t .reals) (t .ints) m (t .pool) (t .spots) (t .cells) ≡ built t size
   unfolding built
   built-is ns m e f = rw (e, f)

@@ -17,10 +17,11 @@ use Rattle.slots.specs.SlotLaws.{lowest-free}
 use Rattle.point_tables.specs.Tables.{Tables, slotsOf}
 use Rattle.point_tables.specs.Decide.{holds, holds-says}
 use Rattle.point_tables.specs.Outcome.{outcome}
-use Rattle.inserts.specs.declared.Inserted.{Inserted}
-use Rattle.inserts.specs.Insert.{inserted, usableSlot, put, insertAnswer, insertOf}
+use Rattle.replies.specs.declared.Inserted.{Inserted}
+use Rattle.inserts.specs.Insert.{usableSlot, put, insertAnswer, insertOf}
 use Rattle.inserts.specs.Fresh.{Fresh, answerBy}
 use Rattle.inserts.specs.InsertLaws.{insert-done}
+use Rattle.replies.specs.Replies.{inserted}
 
 -- ---- the choice, test by test
 module _ (held : Bool) (p : Position) (m : List ℕ) (n : ℕ) where

@@ -6,13 +6,13 @@ use Rattle.basics.specs.Refusals.{orElse}
 use Rattle.geometry.specs.declared.Position.{Position}
 use Rattle.cells.specs.declared.Cell.{Cell}
 use Rattle.slots.specs.declared.Usable.{Usable}
+use Rattle.slots.specs.Map.{isSome}
 use Rattle.slots.specs.Slot.{free, live, phaseAt}
 use Rattle.objects.specs.declared.State.the-variants.{Unchanged}
 use Rattle.objects.specs.declared.Record.{Record}
 use Rattle.objects.specs.Occupied.{InDomain}
 use Rattle.point_tables.specs.Tables.{Tables, slotsOf}
 use Rattle.point_tables.specs.Holds.{Holds}
-use Rattle.inserts.specs.Insert.{isSome}
 
 -- tables that hold a grid, a position of the domain, and a slot that is free
 pub record Fresh (t : Tables) (s : ℕ) (p : Position) : Type 0 where

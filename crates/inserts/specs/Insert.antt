@@ -1,6 +1,5 @@
 -- `insert`: the lowest usable slot takes the object, and (handle, position) goes to the end of its cell's list. Assumes nothing.
 use Prim.Native.Nat.{ℕ}
-use mathlib.Core.Bool.{Bool, true, false}
 use mathlib.Core.List.{List, [], _∷_, map}
 use lib.Dec.{eqb}
 use lib.ListN.{length, set}
@@ -10,8 +9,7 @@ use Rattle.geometry.specs.declared.Position.{Position}
 use Rattle.cells.specs.CellRule.{cellAt}
 use Rattle.cells.specs.Key.{keyOf}
 use Rattle.slots.specs.declared.Usable.{Usable}
-use Rattle.slots.specs.declared.Usable.the-variants.{At, Nothing}
-use Rattle.slots.specs.Map.{taken, lowestUsable}
+use Rattle.slots.specs.Map.{taken, lowestUsable, isSome, slotIn}
 use Rattle.slots.specs.Slot.{live, versionAt}
 use Rattle.storage.specs.Keyed.{append1, written}
 use Rattle.storage.specs.Entries.{Entry, entry, rowOf, spotOf, entryKey}
@@ -22,19 +20,8 @@ use Rattle.objects.specs.Columns.{numsOf, realsOf, intsOf}
 use Rattle.point_tables.specs.Tables.{Tables, tables, sizeOf, counting, slotsOf, entriesIn, cellRows}
 use Rattle.point_tables.specs.Decide.{holds}
 use Rattle.point_tables.specs.Outcome.{Outcome, outcome}
-use Rattle.inserts.specs.declared.Inserted.{Inserted}
-
-abbrev pub inserted : ℕ → ℕ → ℕ → Inserted
-inserted a s v = record { answer = a; handle = record { slot = s; version = v } }
-
-abbrev pub isSome : Usable → Bool
-isSome (At s) = true
-isSome Nothing = false
-
--- the slot that there is, else 0
-abbrev pub slotIn : Usable → ℕ
-slotIn (At s) = s
-slotIn Nothing = 0
+use Rattle.replies.specs.declared.Inserted.{Inserted}
+use Rattle.replies.specs.Replies.{inserted}
 
 abbrev pub usableSlot : Tables → Usable
 usableSlot t = lowestUsable (t .map) (slotsOf t)

@@ -10,19 +10,20 @@ use Rattle.geometry.specs.Domain.{positionInDomain}
 use Rattle.geometry.specs.declared.Position.{Position}
 use Rattle.slots.specs.declared.Usable.{Usable}
 use Rattle.slots.specs.declared.Usable.the-variants.{At, Nothing}
-use Rattle.slots.specs.Map.{lowestUsable}
+use Rattle.slots.specs.Map.{lowestUsable, slotIn}
 use Rattle.slots.specs.Slot.{versionAt}
 use Rattle.slots.specs.SlotLaws.{lowest-free}
+use Rattle.blank.specs.BlankLaws.{not-said}
 use Rattle.objects.specs.Occupied.{InDomain}
 use Rattle.point_tables.specs.Tables.{Tables, slotsOf}
 use Rattle.point_tables.specs.Holds.{Holds}
 use Rattle.point_tables.specs.Decide.{holds, holds-says}
 use Rattle.point_tables.specs.Outcome.{Outcome, outcome}
-use Rattle.inserts.specs.declared.Inserted.{Inserted}
-use Rattle.inserts.specs.Insert.{inserted, slotIn, usableSlot, put, insertAnswer, insertOf}
+use Rattle.replies.specs.declared.Inserted.{Inserted}
+use Rattle.inserts.specs.Insert.{usableSlot, put, insertAnswer, insertOf}
 use Rattle.inserts.specs.Fresh.{answerBy}
-use Rattle.inserts.specs.NewLaws.{not-said}
 use Rattle.inserts.specs.InsertKeeps.{put-keeps}
+use Rattle.replies.specs.Replies.{inserted}
 
 pub insert-keeps : (t : Tables) (s : ℕ) (p : Position) (d : ℕ) → Holds t → InDomain p → lowestUsable (t .map) (slotsOf t) ≡ At s → Holds (put t s p d)
 insert-keeps t s p d h i e =

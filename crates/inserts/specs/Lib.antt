@@ -2,7 +2,6 @@
 pub mod New
 pub mod Insert
 pub mod Fresh
-pub mod FreeWordLaws
 pub mod NewLaws
 pub mod EnterLaws
 pub mod PutLaws

@@ -13,13 +13,14 @@ ghost use Rattle.point_tables.specs.Decide.{holds};
 ghost use Rattle.point_tables.specs.Lent.{lent};
 ghost use Rattle.point_tables.specs.Outcome.{outcome};
 ghost use Rattle.inserts.specs.Insert as Insert;
-ghost use Rattle.inserts.specs.Insert.{inserted, insertOf};
+ghost use Rattle.inserts.specs.Insert.{insertOf};
 ghost use Rattle.inserts.specs.Fresh.{Fresh, freshRecord, answerBy};
-use crate::Inserted;
+ghost use Rattle.replies.specs.Replies.{inserted};
 use cells::Cell;
 use geometry::Position;
 use objects::Record;
 use objects::State;
+use replies::Inserted;
 use slots::Handle;
 use slots::Usable;
 

@@ -4,10 +4,3 @@ mod inserting;
 
 pub use building::new;
 pub use inserting::insert;
-use slots::Handle;
-
-// The handle of a new object beside the answer.
-pub struct Inserted {
-    pub answer: u32,
-    pub handle: Handle,
-}

@@ -12,7 +12,7 @@ use Rattle.point_tables.specs.Tables.{Tables}
 use Rattle.point_tables.specs.Holds.{Holds}
 use Rattle.point_tables.specs.Decide.{holds, holds-says}
 use Rattle.point_tables.specs.Outcome.{outcome}
-use Rattle.moves.specs.declared.Reply.{Reply}
+use Rattle.replies.specs.declared.Reply.{Reply}
 use Rattle.moves.specs.Batch.{callsOf, replies, tablesAfter, replyRows, batchAnswer, batched, batchOf}
 use Rattle.moves.specs.Ready.{Ready}
 use Rattle.moves.specs.ReadyLaws.{holds-ready, ready-pool}

@@ -23,14 +23,15 @@ use Rattle.point_tables.specs.Tables.{rowsOf}
 use Rattle.point_tables.specs.Decide.{holds, holds-says}
 use Rattle.basics.specs.Says.{d-eq}
 use mathlib.Core.Logic.{⊎-elim}
-use Rattle.moves.specs.declared.Reply.{Reply}
-use Rattle.moves.specs.Moves.{reply, pended, setPositionAnswer, setPositionOf, removeAnswer, removeOf}
+use Rattle.replies.specs.declared.Reply.{Reply}
+use Rattle.moves.specs.Moves.{pended, setPositionAnswer, setPositionOf, removeAnswer, removeOf}
 use Rattle.moves.specs.Batch.{Call, callOf}
 use Rattle.moves.specs.MovesLaws.{set-done, set-refused}
 use Rattle.moves.specs.Ready.{Ready}
 use Rattle.moves.specs.ReadyLaws.{rows-rise}
 use Rattle.moves.specs.Held.{poolless, withPool, call, nextState, returned, worked, heldAnswer, heldOf}
 use Rattle.moves.specs.HeldLaws.{held-refused, held-done, call-worked}
+use Rattle.replies.specs.Replies.{reply}
 
 -- the record read is r, the one stored q
 pub made : (ns : List (List ℕ)) (qs : List (List Float)) (zs : List (List ℤ)) (map : List ℕ) (cells : List (List ℕ)) (s kind : ℕ) (at : Position) (r q : Record) (state : State) (key rows d : ℕ) (ns′ : List (List ℕ)) (qs′ : List (List Float)) (zs′ : List (List ℤ)) (cells′ : List (List ℕ)) → r ≡ recordAt ns qs zs s → key ≡ keyOf (r .cell) → rows ≡ getD map 2 0 → cells′ ≡ written (marked key (take rows cells)) cells → state ≡ nextState (getD map 0 0) r kind at → q ≡ withState r state → (ns′ ≡ set ns s (numsOf q)) × (qs′ ≡ set qs s (realsOf q)) × (zs′ ≡ set zs s (intsOf q)) → d ≡ returned r kind → outcome d (poolless ns′ qs′ zs′ map cells′) ≡ worked (poolless ns qs zs map cells) s kind at

@@ -15,11 +15,12 @@ use Rattle.objects.specs.States.{isRemoved}
 use Rattle.point_tables.specs.Tables.{Tables, recordOn}
 use Rattle.point_tables.specs.Holds.{Holds}
 use Rattle.point_tables.specs.Decide.{holds-says}
-use Rattle.moves.specs.Moves.{reply, pended, setPositionAnswer, removeAnswer, removeOf}
+use Rattle.moves.specs.Moves.{pended, setPositionAnswer, removeAnswer, removeOf}
 use Rattle.moves.specs.ReadyLaws.{holds-ready}
 use Rattle.moves.specs.PendedLaws.{nums-long, record-same, kept}
 use Rattle.moves.specs.MovesLaws.{remove-accepted, remove-done}
 use Rattle.moves.specs.MovesKeeps.{pended-holds}
+use Rattle.replies.specs.Replies.{reply}
 
 is-true : (b : Bool) → T b → b ≡ true
 is-true true h = refl

@@ -17,7 +17,7 @@ use Rattle.point_tables.specs.Tables.{Tables, recordOn}
 use Rattle.point_tables.specs.Holds.{Holds}
 use Rattle.point_tables.specs.Decide.{holds, holds-says}
 use Rattle.point_tables.specs.Outcome.{Outcome}
-use Rattle.moves.specs.declared.Reply.{Reply}
+use Rattle.replies.specs.declared.Reply.{Reply}
 use Rattle.moves.specs.Moves.{setPositionAnswer, setPositionOf, removeAnswer, removeOf}
 use Rattle.moves.specs.Batch.{Call, callOf}
 use Rattle.moves.specs.MovesLaws.{set-accepted, remove-accepted, set-refused, set-done, remove-refused, remove-done}

@@ -12,7 +12,7 @@ use Rattle.storage.specs.Keyed.{written}
 use Rattle.point_tables.specs.Tables.{Tables}
 use Rattle.point_tables.specs.Decide.{holds}
 use Rattle.point_tables.specs.Outcome.{Outcome, outcome}
-use Rattle.moves.specs.declared.Reply.{Reply}
+use Rattle.replies.specs.declared.Reply.{Reply}
 use Rattle.moves.specs.Moves.{setPositionOf, removeOf}
 
 pub record Call : Type 0 where

@@ -11,7 +11,7 @@ use lib.Seq.{sets, sets-eq, drop-cons}
 use Rattle.storage.specs.Keyed.{written}
 use Rattle.point_tables.specs.Tables.{Tables}
 use Rattle.point_tables.specs.Outcome.{Outcome, outcome}
-use Rattle.moves.specs.declared.Reply.{Reply}
+use Rattle.replies.specs.declared.Reply.{Reply}
 use Rattle.moves.specs.Batch.{Call, callsOf, handleOf, positionOf, replyRows}
 use Rattle.moves.specs.Ready.{Ready}
 use Rattle.moves.specs.Held.{call, heldOf, heldAfter, heldReplies}

@@ -18,9 +18,10 @@ use Rattle.objects.specs.declared.Record.{Record}
 use Rattle.objects.specs.States.{isRemoved, aimed}
 use Rattle.point_tables.specs.Tables.{Tables, tables, sizeOf, recordOn}
 use Rattle.point_tables.specs.Outcome.{Outcome, outcome}
-use Rattle.moves.specs.declared.Reply.{Reply}
-use Rattle.moves.specs.Moves.{reply, pended}
+use Rattle.replies.specs.declared.Reply.{Reply}
+use Rattle.moves.specs.Moves.{pended}
 use Rattle.moves.specs.Batch.{Call}
+use Rattle.replies.specs.Replies.{reply}
 
 -- tables without the pool, the same behind five references, and tables with a pool
 abbrev pub poolless : List (List ℕ) → List (List Float) → List (List ℤ) → List ℕ → List (List ℕ) → Tables

@@ -21,14 +21,15 @@ use Rattle.point_tables.specs.Tables.{Tables, sizeOf, recordOn}
 use Rattle.point_tables.specs.Holds.{Holds}
 use Rattle.point_tables.specs.Decide.{holds, holds-says}
 use Rattle.point_tables.specs.Outcome.{Outcome, outcome}
-use Rattle.moves.specs.declared.Reply.{Reply}
-use Rattle.moves.specs.Moves.{reply, pended, setPositionAnswer, setPositionOf, removeAnswer, removeOf}
+use Rattle.replies.specs.declared.Reply.{Reply}
+use Rattle.moves.specs.Moves.{pended, setPositionAnswer, setPositionOf, removeAnswer, removeOf}
 use Rattle.moves.specs.Batch.{Call, callOf, tablesAfter, replies}
 use Rattle.moves.specs.Ready.{Ready, Workable}
 use Rattle.moves.specs.PendedLaws.{nums-long, reals-long, ints-long, cells-long, pended-ready}
 use Rattle.moves.specs.MovesLaws.{named}
 use Rattle.moves.specs.MovesKeeps.{call-keeps}
 use Rattle.moves.specs.Held.{withPool, setRefusal, removeRefusal, heldAnswer, nextState, worked, heldOf, heldAfter, heldReplies}
+use Rattle.replies.specs.Replies.{reply}
 
 -- ---- the answers past the check
 module _ (t : Tables) (g : holds t ≡ true) where

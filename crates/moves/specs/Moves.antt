@@ -17,10 +17,8 @@ use Rattle.objects.specs.States.{isRemoved, aimed, withState}
 use Rattle.point_tables.specs.Tables.{Tables, sizeOf, recordOn, cellRows}
 use Rattle.point_tables.specs.Decide.{holds}
 use Rattle.point_tables.specs.Outcome.{Outcome, outcome, stored}
-use Rattle.moves.specs.declared.Reply.{Reply}
-
-abbrev pub reply : ℕ → ℕ → Reply
-reply a d = record { answer = a; obj = d }
+use Rattle.replies.specs.declared.Reply.{Reply}
+use Rattle.replies.specs.Replies.{reply}
 
 -- the tables with another state for slot s, and the cell of its object marked dirty
 unfoldable pub pended : Tables → ℕ → State → Tables

@@ -18,7 +18,8 @@ use Rattle.point_tables.specs.Tables.{Tables, sizeOf, slotsOf, recordOn}
 use Rattle.point_tables.specs.Holds.{Holds}
 use Rattle.point_tables.specs.Decide.{holds, holds-says}
 use Rattle.point_tables.specs.Outcome.{outcome}
-use Rattle.moves.specs.Moves.{reply, pended, setPositionAnswer, setPositionOf, removeAnswer, removeOf}
+use Rattle.moves.specs.Moves.{pended, setPositionAnswer, setPositionOf, removeAnswer, removeOf}
+use Rattle.replies.specs.Replies.{reply}
 
 -- ---- the handle is that of an object
 pub record Named (t : Tables) (h : Handle) : Type 0 where

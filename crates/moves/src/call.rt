@@ -8,10 +8,10 @@ ghost use Rattle.point_tables.specs.Outcome.{outcome};
 ghost use Rattle.moves.specs.Ready.{Ready, Workable};
 ghost use Rattle.moves.specs.Held as Held;
 ghost use Rattle.moves.specs.Held.{lentPoolless, setRefusal, removeRefusal, refusalOf, nextState, worked, heldOf};
-use crate::Reply;
 use geometry::Position;
 use objects::Record;
 use objects::State;
+use replies::Reply;
 use slots::Handle;
 
 fn set_refusal(

@@ -4,20 +4,16 @@ ghost use mathlib.Core.Path.{_≡_};
 ghost use Rattle.point_tables.specs.Lent.{lent};
 ghost use Rattle.point_tables.specs.Decide.{holds};
 ghost use Rattle.point_tables.specs.Outcome.{outcome};
-ghost use Rattle.moves.specs.Moves.{reply, setPositionOf, removeOf};
+ghost use Rattle.moves.specs.Moves.{setPositionOf, removeOf};
+ghost use Rattle.replies.specs.Replies.{reply};
 
 mod batches;
 mod call;
 
 pub use batches::batch;
 use geometry::Position;
+use replies::Reply;
 use slots::Handle;
-
-// The data of an object beside the answer.
-pub struct Reply {
-    pub answer: u32,
-    pub obj: u32,
-}
 
 // The answer of a batch, and with 0 and 9 the number of its calls.
 pub struct BatchReply {

@@ -5,20 +5,21 @@ ghost use Rattle.point_tables.specs.Lent.{lent};
 ghost use Rattle.point_tables.specs.Outcome.{outcome};
 ghost use Rattle.inserts.specs.New.{newOf};
 ghost use Rattle.inserts.specs.Insert.{insertOf};
-ghost use Rattle.moves.specs.Moves.{reply, setPositionOf, removeOf};
+ghost use Rattle.moves.specs.Moves.{setPositionOf, removeOf};
 ghost use Rattle.moves.specs.Batch.{batched, batchOf};
 ghost use Rattle.removals.specs.RemoveMaintain.{removeMaintainOf};
 ghost use Rattle.removals.specs.Clear.{wrote, clearOf};
 ghost use Rattle.queries.specs.Queries.{findings, queryOf, aroundOf, aabbOf};
 ghost use Rattle.maintain.specs.Maintain.{maintainOf};
 ghost use Rattle.reads.specs.Reads.{getOf, lenOf, handlesOf, listing};
+ghost use Rattle.replies.specs.Replies.{reply};
 use geometry::Position;
-use inserts::Inserted;
 use maintain::Maintained;
 use moves::BatchReply;
-use moves::Reply;
-use reads::Count;
 use reads::Got;
+use replies::Count;
+use replies::Inserted;
+use replies::Reply;
 use slots::Handle;
 
 // Builds an empty grid with cells of this size. 3: wrong lengths; 2: size outside its limits.
@@ -183,7 +184,7 @@ pub fn remove_maintain(
     spots: &mut [[f32; 2]],
     cells: &mut [[u64; 2]],
     h: Handle,
-) -> removals::Reply
+) -> Reply
     ensures { λ r. ⌜ outcome r (lent (nums .exit) (reals .entry) (ints .entry) (map .exit) (pool .exit) (spots .exit) (cells .exit)) ≡ removeMaintainOf (lent (nums .entry) (reals .entry) (ints .entry) (map .entry) (pool .entry) (spots .entry) (cells .entry)) h ⌝ }
 {
     let held = point_tables::check(nums, reals, ints, map, pool, spots, cells);
@@ -201,7 +202,7 @@ pub fn clear(
     cells: &[[u64; 2]],
     places: &mut [[f32; 2]],
     objs: &mut [u32],
-) -> removals::Count
+) -> Count
     ensures { λ r. ⌜ outcome (wrote r (now (places .exit)) (now (objs .exit))) (lent (nums .exit) (reals .entry) (ints .entry) (map .exit) (pool .entry) (spots .entry) (cells .entry)) ≡ clearOf (lent (nums .entry) (reals .entry) (ints .entry) (map .entry) (pool .entry) (spots .entry) (cells .entry)) (now (places .entry)) (now (objs .entry)) ⌝ }
 {
     let held = point_tables::check(nums, reals, ints, map, pool, spots, cells);
@@ -232,7 +233,7 @@ pub fn query(
     ur: Position,
     found: &mut [[u32; 2]],
     places: &mut [[f32; 2]],
-) -> queries::Count
+) -> Count
     ensures { λ r. ⌜ findings r (now (found .exit)) (now (places .exit)) ≡ queryOf (lent (nums .entry) (reals .entry) (ints .entry) (map .entry) (pool .entry) (spots .entry) (cells .entry)) ll ur (now (found .entry)) (now (places .entry)) ⌝ }
 {
     let held = point_tables::check(nums, reals, ints, map, pool, spots, cells);
@@ -265,7 +266,7 @@ pub fn query_around(
     radius: f32,
     found: &mut [[u32; 2]],
     places: &mut [[f32; 2]],
-) -> queries::Count
+) -> Count
     ensures { λ r. ⌜ findings r (now (found .exit)) (now (places .exit)) ≡ aroundOf (lent (nums .entry) (reals .entry) (ints .entry) (map .entry) (pool .entry) (spots .entry) (cells .entry)) centre radius (now (found .entry)) (now (places .entry)) ⌝ }
 {
     let held = point_tables::check(nums, reals, ints, map, pool, spots, cells);
@@ -298,7 +299,7 @@ pub fn query_aabb(
     b: Position,
     found: &mut [[u32; 2]],
     places: &mut [[f32; 2]],
-) -> queries::Count
+) -> Count
     ensures { λ r. ⌜ findings r (now (found .exit)) (now (places .exit)) ≡ aabbOf (lent (nums .entry) (reals .entry) (ints .entry) (map .entry) (pool .entry) (spots .entry) (cells .entry)) a b (now (found .entry)) (now (places .entry)) ⌝ }
 {
     let held = point_tables::check(nums, reals, ints, map, pool, spots, cells);

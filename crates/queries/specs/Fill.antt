@@ -10,7 +10,8 @@ use Rattle.slots.specs.Slot.{versionAt}
 use Rattle.storage.specs.Keyed.{Sorted, written}
 use Rattle.storage.specs.Entries.{rowKey}
 use Rattle.storage.specs.Packed.{second}
-use Rattle.queries.specs.Queries.{Findings, findings, count}
+use Rattle.queries.specs.Queries.{Findings, findings}
+use Rattle.replies.specs.Replies.{count}
 
 -- the rows that the entry at a place gives the outputs: slot and version, and the position
 abbrev pub handleAt : List (List ℕ) → List (List ℕ) → ℕ → List ℕ

@@ -13,7 +13,8 @@ use Rattle.storage.specs.Keyed.{written}
 use Rattle.point_tables.specs.Tables.{Tables, sizeOf}
 use Rattle.point_tables.specs.Decide.{holds}
 use Rattle.queries.specs.declared.Test.{Test}
-use Rattle.queries.specs.Queries.{findings, count, mostCells, handleRow, placeRow, found, searchAnswer, searchOf}
+use Rattle.queries.specs.Queries.{findings, mostCells, handleRow, placeRow, found, searchAnswer, searchOf}
+use Rattle.replies.specs.Replies.{count}
 
 module _ (t : Tables) (ok : Bool) (ll ur : Position) (test : Test) (handles : List (List ℕ)) (places : List (List Float)) where
   abbrev cellsOf : ℕ

@@ -23,7 +23,7 @@ use Rattle.storage.specs.Entries.{Entry, rowItem, rowKey, entryKey}
 use Rattle.storage.specs.Packed.{second}
 use Rattle.storage.specs.PackedLaws.{ordered-sorted}
 use Rattle.storage.specs.PoolLaws.{sorted-entries}
-use Rattle.storage.specs.FilterLaws.{by-test, all-map}
+use Rattle.storage.specs.FilterLaws.{by-test, all-map, filter-both}
 use Rattle.storage.specs.WindowLaws.{windowOf, window-cell}
 use Rattle.storage.specs.WalkLaws.{walked-window}
 use Rattle.point_tables.specs.Tables.{Tables, sizeOf, usedOf, slotsOf, recordOn, entriesIn}
@@ -32,14 +32,6 @@ use Rattle.queries.specs.declared.Test.{Test}
 use Rattle.queries.specs.Queries.{passes, positionOf, found}
 use Rattle.queries.specs.Places.{entryAt, wanted, placesOf}
 use Rattle.queries.specs.PlacesLaws.{entries-all, places-entries}
-
--- a filter behind a filter is one by both tests
-pub filter-both : {A : Type 0} (wide test : A → Bool) (l : List A) → filter test (filter wide l) ≡ filter (λ x. wide x && test x) l
-filter-both wide test [] = refl
-filter-both wide test (x ∷ l) =
-    by-test (wide x)
-    (λ w. by-test (test x) (λ e. rw (w, e) (ap (λ m. x ∷ m) (filter-both wide test l))) (λ e. rw (w, e) (filter-both wide test l)))
-    (λ w. rw w (filter-both wide test l))
 
 -- what an entry in use is: its position is in the domain, its key is that of the position's cell, and its slot is occupied
 pub record Standing (t : Tables) (e : Entry) : Type 0 where

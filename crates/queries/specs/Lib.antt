@@ -9,7 +9,6 @@ pub mod FindLaws
 pub mod FillLaws
 pub mod GatherLaws
 pub mod StretchLaws
-pub mod PutLaws
 pub mod CornerLaws
 pub mod OnceLaws
 pub mod ReversedLaws

@@ -21,10 +21,8 @@ use Rattle.point_tables.specs.Tables.{Tables, sizeOf, entriesIn}
 use Rattle.point_tables.specs.Decide.{holds}
 use Rattle.queries.specs.declared.Test.{Test}
 use Rattle.queries.specs.declared.Test.the-variants.{Any, Circle, Rectangle}
-use Rattle.queries.specs.declared.Count.{Count}
-
-abbrev pub count : ℕ → ℕ → Count
-count a n = record { answer = a; count = n }
+use Rattle.replies.specs.declared.Count.{Count}
+use Rattle.replies.specs.Replies.{count}
 
 -- the most cells that a range of a query may have
 abbrev pub mostCells : ℕ

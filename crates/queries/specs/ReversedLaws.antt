@@ -20,8 +20,9 @@ use Rattle.storage.specs.Walk.{listsOf, walked}
 use Rattle.point_tables.specs.Tables.{Tables, sizeOf, entriesIn}
 use Rattle.point_tables.specs.Decide.{holds}
 use Rattle.queries.specs.declared.Test.{Test}
-use Rattle.queries.specs.Queries.{findings, count, passes, positionOf, handleRow, placeRow, found, searchOf}
+use Rattle.queries.specs.Queries.{findings, passes, positionOf, handleRow, placeRow, found, searchOf}
 use Rattle.queries.specs.FindLaws.{search-0}
+use Rattle.replies.specs.Replies.{count}
 
 -- the range of two cells is reversed on an axis
 abbrev pub Reversed : Cell → Cell → Type 0

@@ -1,13 +1,13 @@
 -- A query finds what a scan of all entries would find, in the same order: no found point lies outside the searched range. Assumes nothing.
-use Prim.Native.Nat.{ℕ, _<_}
 use mathlib.Core.Path.{_≡_, refl, _∙_}
 use mathlib.Core.Bool.{Bool, true, false, _&&_}
 use lib.Dec.{T}
-use lib.Ieee.{Float, binary32, fits}
+use lib.Ieee.{Float}
 use Rattle.geometry.specs.declared.Position.{Position}
 use Rattle.geometry.specs.Domain.{positionInDomain, radiusInDomain}
 use Rattle.geometry.specs.Circle.{inCircle}
-use Rattle.geometry.specs.CircleLaws.{HeldPosition}
+use Rattle.geometry.specs.DomainLaws.{radius-fits}
+use Rattle.geometry.specs.CircleLaws.{position-held}
 use Rattle.geometry.specs.Rectangle.{lowerCorner, upperCorner, inRectangle}
 use Rattle.geometry.specs.RectangleLaws.{lower-in-domain, upper-in-domain}
 use Rattle.cells.specs.CellRule.{cellAt, Reached}
@@ -18,18 +18,12 @@ use Rattle.storage.specs.Keyed.{All, filter}
 use Rattle.storage.specs.Entries.{Entry, entryKey}
 use Rattle.storage.specs.FilterLaws.{all-map, all-both, filter-same}
 use Rattle.storage.specs.WindowLaws.{windowOf}
-use Rattle.point_tables.specs.Tables.{Tables, sizeOf, usedOf, entriesIn}
+use Rattle.point_tables.specs.Tables.{Tables, sizeOf, entriesIn}
 use Rattle.point_tables.specs.Holds.{Holds}
 use Rattle.queries.specs.declared.Test.{Test}
 use Rattle.queries.specs.declared.Test.the-variants.{Any, Circle, Rectangle}
 use Rattle.queries.specs.Queries.{passes, positionOf, found, cornerBelow, cornerAbove}
-use Rattle.queries.specs.Places.{entryAt}
-use Rattle.queries.specs.PlacesLaws.{entries-all}
-use Rattle.queries.specs.FoundLaws.{Standing, in-pool, in-spots, standing, window-own, found-wanted}
-
--- the positions in use are numbers that binary32 holds, as all of the machine's are
-abbrev pub Held : Tables → Type 0
-Held t = (j : ℕ) → j < usedOf t → HeldPosition (positionOf (entryAt (t .pool) (t .spots) j))
+use Rattle.queries.specs.FoundLaws.{Standing, standing, window-own, found-wanted}
 
 -- an entry whose position has its cell in the range of the corners ll and ur
 abbrev pub inRangeOf : Tables → Position → Position → Entry → Bool
@@ -70,15 +64,16 @@ module _ (t : Tables) (h : Holds t) where
         (λ e s n. implied (window e) (passes test (positionOf e)) (λ p. window-own t h ll ur rl ru e s ∙ n p)) (entriesIn t) (standing t h) near)
 
   -- `query_around`
-  pub circle-scan : (c : Position) (r : Float) → Held t → HeldPosition c → T (fits binary32 r) → T (positionInDomain c) → T (radiusInDomain r)
+  pub circle-scan : (c : Position) (r : Float) → T (positionInDomain c) → T (radiusInDomain r)
       → found t (cornerBelow c r) (cornerAbove c r) (Circle c r) ≡ filter (λ e. inCircle (positionOf e) c r) (entriesIn t)
-  circle-scan c r k fc fr dc dr =
+  circle-scan c r dc dr =
+      let fc = position-held c dc in
+      let fr = radius-fits r dr in
       let low = cornerBelow c r in
       let high = cornerAbove c r in
       scanned low high (low-reached c r fc fr dc dr) (high-reached c r fc fr dc dr) (Circle c r)
-      (all-both (Standing t) (λ e. HeldPosition (positionOf e)) (λ e. inCircle (positionOf e) c r ≡ true → inRangeOf t low high e ≡ true)
-      (λ e s f i. circle-cover (sizeOf t) (h .counted .size .0) (positionOf e) c r f fc fr (s .in-domain) dc dr i) (entriesIn t) (standing t h)
-      (entries-all (t .pool) (t .spots) (λ e. HeldPosition (positionOf e)) (usedOf t) (in-pool t h) (in-spots t h) k))
+      (all-map (Standing t) (λ e. inCircle (positionOf e) c r ≡ true → inRangeOf t low high e ≡ true)
+      (λ e s i. circle-cover (sizeOf t) (h .counted .size .0) (positionOf e) c r (position-held (positionOf e) (s .in-domain)) fc fr (s .in-domain) dc dr i) (entriesIn t) (standing t h))
 
   -- `query_aabb`
   pub rectangle-scan : (a b : Position) → T (positionInDomain a) → T (positionInDomain b)

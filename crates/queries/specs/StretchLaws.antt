@@ -70,13 +70,6 @@ module _ (a b : Cell) (test : Test) (pool : List (List ℕ)) (spots : List (List
   unfolding placesOf
   places-most n = places-length W 0 n
 
--- a run goes on from where it was asked for
-pub run-onward : (pool : List (List ℕ)) (used i x0 y0 x1 y1 : ℕ) (r : Run) → NextRun pool used i x0 y0 x1 y1 r → i < used → i < r .to
-run-onward pool used i x0 y0 x1 y1 r n h = ⊎-elim (λ l. omega (arith, n .more l, n .onward)) (λ l. omega (arith, n .ends, d-not l)) (d-lt (r .from) used)
-  where
-    d-not : (r .from < used → ⊥) → used ≤ r .from
-    d-not l = omega arith
-
 module _ (a b : Cell) (na : Near a) (nb : Near b) (test : Test) (pool : List (List ℕ)) (spots : List (List Float)) (used i low high : ℕ) (r : Run)
     (el : low ≡ keyOf a) (eh : high ≡ keyOf b) (n : NextRun pool used i (columnOf low) (lineOf low) (columnOf high) (lineOf high) r) where
   -- the window between the two keys is that of the cells

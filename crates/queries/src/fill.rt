@@ -8,10 +8,10 @@ ghost use Rattle.storage.specs.Keyed.{written};
 ghost use Rattle.queries.specs.Queries.{findings};
 ghost use Rattle.queries.specs.Places.{placesOf};
 ghost use Rattle.queries.specs.Fill.{handleAt, placeAt, filled, Stocked, Findable};
-use crate::Count;
 use crate::Test;
 use crate::gather::gather;
 use cells::Cell;
+use replies::Count;
 
 // Writes the first r places' handles and positions, from place 0 of the outputs on.
 fn put_findings(

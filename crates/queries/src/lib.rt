@@ -4,7 +4,8 @@ ghost use mathlib.Core.Bool.{true};
 ghost use Rattle.cells.specs.CellRule.{Reached};
 ghost use Rattle.point_tables.specs.Tables.{tables};
 ghost use Rattle.point_tables.specs.Decide.{holds};
-ghost use Rattle.queries.specs.Queries.{count, findings, searchOf, queryOf, aroundOf, aabbOf};
+ghost use Rattle.queries.specs.Queries.{findings, searchOf, queryOf, aroundOf, aabbOf};
+ghost use Rattle.replies.specs.Replies.{count};
 
 mod fill;
 mod gather;
@@ -17,18 +18,13 @@ use geometry::lower_corner;
 use geometry::position_in_domain;
 use geometry::radius_in_domain;
 use geometry::upper_corner;
+use replies::Count;
 
 // What a found position must pass, besides standing in the range: nothing, a circle of a centre and a radius, or a rectangle of two corners.
 pub enum Test {
     Any,
     Circle(Position, f32),
     Rectangle(Position, Position),
-}
-
-// A number beside the answer.
-pub struct Count {
-    pub answer: u32,
-    pub count: u32,
 }
 
 fn refused(answer: u32) -> Count

@@ -1,5 +1,4 @@
 -- What the reading calls answer.
 pub mod Reads
 pub mod ReadsLaws
-pub mod HandlesLaws
 pub mod LenLaws

@@ -1,30 +1,29 @@
 -- `get`, `len` and `handles`: recorded position and data; removed objects count until maintain. Assumes nothing.
-use Prim.Native.Nat.{ℕ, suc, _+_}
+use Prim.Native.Nat.{ℕ}
 use mathlib.Core.Bool.{Bool}
 use mathlib.Core.List.{List, [], _∷_}
 use lib.Dec.{eqb, leb}
 use lib.IntN.{pos}
 use lib.Ieee.{Float, fin}
 use mathlib.Core.Bool.{false}
-use lib.ListN.{length, getD}
+use lib.ListN.{length}
 use Rattle.basics.specs.Refusals.{unless, firstOf, pick}
 use Rattle.geometry.specs.declared.Position.{Position}
 use Rattle.slots.specs.declared.Handle.{Handle}
-use Rattle.slots.specs.Slot.{live, good}
+use Rattle.slots.specs.Slot.{good}
 use Rattle.storage.specs.Keyed.{written}
+use Rattle.slot_walks.specs.Live.{handlesIn}
 use Rattle.point_tables.specs.Tables.{Tables, recordOn}
 use Rattle.point_tables.specs.Decide.{holds}
 use Rattle.reads.specs.declared.Got.{Got}
-use Rattle.reads.specs.declared.Count.{Count}
+use Rattle.replies.specs.declared.Count.{Count}
+use Rattle.replies.specs.Replies.{count}
 
 abbrev pub zero-position : Position
 zero-position = record { x = fin false 0 (pos 0); y = fin false 0 (pos 0) }
 
 abbrev pub got : ℕ → Position → ℕ → Got
 got a p d = record { answer = a; position = p; obj = d }
-
-abbrev pub count : ℕ → ℕ → Count
-count a n = record { answer = a; count = n }
 
 -- ---- get
 unfoldable pub getAnswer : Tables → Handle → ℕ
@@ -35,13 +34,9 @@ unfolding getAnswer
 getOf t h =
     pick (eqb (getAnswer t h) 0) (got 0 (recordOn t (h .slot) .position) (recordOn t (h .slot) .obj)) (got (getAnswer t h) zero-position 0)
 
--- ---- the handles of the live slots, as rows (slot, version), ascending by slot; the first of the rows is that of slot s
-abbrev pub handlesFrom : ℕ → List (List ℕ) → List (List ℕ)
-handlesFrom s [] = []
-handlesFrom s (row ∷ rows) = pick (eqb (getD row 1 0) live) ((s ∷ getD row 0 0 ∷ []) ∷ handlesFrom (suc s) rows) (handlesFrom (suc s) rows)
-
+-- ---- the handles of the live slots, as rows (slot, version), ascending by slot
 unfoldable pub liveHandles : Tables → List (List ℕ)
-liveHandles t = handlesFrom 0 (t .nums)
+liveHandles t = handlesIn (t .nums)
 
 -- ---- len: the number of objects
 unfoldable pub lenOf : Tables → Count

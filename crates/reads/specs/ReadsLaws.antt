@@ -15,8 +15,9 @@ use Rattle.point_tables.specs.Tables.{Tables, slotsOf, recordOn}
 use Rattle.point_tables.specs.Decide.{holds, holds-says}
 use Rattle.point_tables.specs.Holds.{Holds}
 use Rattle.basics.specs.Refusals.{pick}
-use Rattle.reads.specs.declared.Count.{Count}
-use Rattle.reads.specs.Reads.{zero-position, got, count, listing, getAnswer, getOf, liveHandles, lenOf, handlesAnswer, handlesOf}
+use Rattle.replies.specs.declared.Count.{Count}
+use Rattle.reads.specs.Reads.{zero-position, got, listing, getAnswer, getOf, liveHandles, lenOf, handlesAnswer, handlesOf}
+use Rattle.replies.specs.Replies.{count}
 
 both : (a b : Bool) → (a && b) ≡ true → (a ≡ true) × (b ≡ true)
 both true b e = (refl, e)

@@ -1,15 +1,10 @@
 // Reading a point grid: `get`, `len`, `handles`. Each takes the verdict of the check on the tables, `held`.
 ghost use mathlib.Core.Path.{_≡_};
-ghost use mathlib.Core.Bool.{true};
-ghost use Prim.Native.Nat.{_+_, _≤_, _<_};
-ghost use lib.Dec.{eqb};
-ghost use lib.ListN.{length, getD};
-ghost use Rattle.slots.specs.Slot.{live};
-ghost use Rattle.storage.specs.Keyed.{written};
 ghost use Rattle.point_tables.specs.Tables.{tables};
 ghost use Rattle.point_tables.specs.Decide.{holds};
-ghost use Rattle.reads.specs.Reads.{getOf, lenOf, handlesOf, listing, handlesFrom};
+ghost use Rattle.reads.specs.Reads.{getOf, lenOf, handlesOf, listing};
 use geometry::Position;
+use replies::Count;
 use slots::Handle;
 
 // The recorded position and the data of an object beside the answer.
@@ -17,12 +12,6 @@ pub struct Got {
     pub answer: u32,
     pub position: Position,
     pub obj: u32,
-}
-
-// A number beside the answer.
-pub struct Count {
-    pub answer: u32,
-    pub count: u32,
 }
 
 pub fn get(
@@ -60,30 +49,6 @@ pub fn get(
         answer: 0,
         position: Position { x: q[0], y: q[1] },
         obj: n[2],
-    }
-}
-
-// Whether a slot is live.
-fn is_live(row: [u32; 4]) -> bool
-    ensures { λ r. ⌜ r ≡ eqb (getD row 1 0) live ⌝ }
-{
-    row[1] == 1
-}
-
-// The handles of the live slots, from place 0 of the output on.
-fn put_handles(nums: &[[u32; 4]], out: &mut [[u32; 2]])
-    requires { ⌜ (length (now nums) ≤ 4096) × (length (handlesFrom 0 (now nums)) ≤ length (now out)) ⌝ }
-    ensures { λ _. ⌜ now (out .exit) ≡ written (handlesFrom 0 (now (nums .entry))) (now (out .entry)) ⌝ }
-{
-    let mut k = 0;
-    let mut i = 0;
-    while i < nums.len() {
-        let row = nums[i];
-        if is_live(row) {
-            out[k] = [i as u32, row[0]];
-            k += 1;
-        }
-        i += 1;
     }
 }
 
@@ -139,6 +104,6 @@ pub fn handles(
             count: found.count,
         };
     }
-    put_handles(nums, out);
+    slot_walks::put_handles(nums, out);
     found
 }

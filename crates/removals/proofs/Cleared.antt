@@ -14,11 +14,14 @@ use Rattle.point_tables.specs.Tables.{Tables, tables, counting, usedOf}
 use Rattle.point_tables.specs.Holds.{Holds}
 use Rattle.point_tables.specs.Decide.{holds, holds-says}
 use Rattle.point_tables.specs.Outcome.{outcome}
-use Rattle.removals.specs.declared.Count.{Count}
-use Rattle.removals.specs.Clear.{count, liveFrom, liveSlots, clearedMap, cleared, wrote, clearOf}
+use Rattle.slot_walks.specs.Live.{liveFrom}
+use Rattle.slot_walks.specs.Cleared.{clearedRows, clearedMap}
+use Rattle.replies.specs.declared.Count.{Count}
+use Rattle.removals.specs.Clear.{liveSlots, cleared, wrote, clearOf}
 use Rattle.removals.specs.LiveLaws.{live-used}
 use Rattle.removals.specs.ClearLaws.{clear-unheld, clear-short, clear-done}
-use Rattle.removals.specs.Steps.{countBy, placesOf, objsOf, clearedRows}
+use Rattle.removals.specs.Steps.{countBy, placesOf, objsOf}
+use Rattle.replies.specs.Replies.{count}
 
 module _ (t : Tables) (places : List (List Float)) (objs : List ℕ) (held : Bool) (e : held ≡ holds t) where
   -- the verdict says that the tables hold a grid

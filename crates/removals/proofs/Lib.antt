@@ -1,5 +1,4 @@
 -- What the proofs of the removals share.
 pub mod Taken
 pub mod Answers
-pub mod Turns
 pub mod Cleared

@@ -1,43 +1,27 @@
 -- `clear` writes recorded position and data, ascending by slot, then empties the grid: versions rise as with any emptying. Assumes nothing.
-use Prim.Native.Nat.{ℕ, suc, min}
+use Prim.Native.Nat.{ℕ, min}
 use mathlib.Core.List.{List, [], _∷_, map}
 use lib.Dec.{eqb, leb}
 use lib.Ieee.{Float}
-use lib.ListN.{length, getD}
+use lib.ListN.{length}
 use Rattle.basics.specs.Refusals.{unless, firstOf, pick}
-use Rattle.slots.specs.Map.{givenBack}
-use Rattle.slots.specs.Slot.{live, lastVersion, emptiedRow}
 use Rattle.storage.specs.Keyed.{written}
+use Rattle.slot_walks.specs.Live.{liveFrom}
+use Rattle.slot_walks.specs.Cleared.{clearedRows, clearedMap}
 use Rattle.point_tables.specs.Tables.{Tables, tables, counting, recordOn}
 use Rattle.point_tables.specs.Decide.{holds}
 use Rattle.point_tables.specs.Outcome.{Outcome, outcome}
-use Rattle.removals.specs.declared.Count.{Count}
+use Rattle.replies.specs.declared.Count.{Count}
+use Rattle.replies.specs.Replies.{count}
 
-abbrev pub count : ℕ → ℕ → Count
-count a n = record { answer = a; count = n }
-
--- the live slots among the rows, the first of which is that of slot s, ascending
-abbrev pub liveFrom : ℕ → List (List ℕ) → List ℕ
-liveFrom s [] = []
-liveFrom s (row ∷ rows) = pick (eqb (getD row 1 0) live) (s ∷ liveFrom (suc s) rows) (liveFrom (suc s) rows)
-
+-- the live slots, ascending
 unfoldable pub liveSlots : Tables → List ℕ
 liveSlots t = liveFrom 0 (t .nums)
 
--- every live row is emptied, and its slot usable again unless it was at its last version
-abbrev pub clearedRow : List ℕ → List ℕ
-clearedRow row = pick (eqb (getD row 1 0) live) (emptiedRow row) row
-
-abbrev pub clearedBit : ℕ → List ℕ → List ℕ → List ℕ
-clearedBit s row m = pick (eqb (getD row 1 0) live) (pick (eqb (getD row 0 0) lastVersion) m (givenBack m s)) m
-
-abbrev pub clearedMap : ℕ → List (List ℕ) → List ℕ → List ℕ
-clearedMap s [] m = m
-clearedMap s (row ∷ rows) m = clearedMap (suc s) rows (clearedBit s row m)
-
+-- every live slot is emptied, and no entry and no row of a cell is in use
 unfoldable pub cleared : Tables → Tables
 cleared t =
-    tables (map clearedRow (t .nums)) (t .reals) (t .ints) (counting (clearedMap 0 (t .nums) (t .map)) 0 0) (t .pool) (t .spots) (t .cells)
+    tables (clearedRows (t .nums)) (t .reals) (t .ints) (counting (clearedMap 0 (t .nums) (t .map)) 0 0) (t .pool) (t .spots) (t .cells)
 
 -- ---- the outputs: a row (x, y) and a number for each object
 abbrev pub placeOn : Tables → ℕ → List Float

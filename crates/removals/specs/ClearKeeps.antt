@@ -1,56 +1,27 @@
 -- Clearing leaves tables that hold a grid: no slot is live, each that was is at its next version or retired, and no entry is in use.
 -- Assumes nothing.
 use Prim.Native.Nat.{ℕ, _<_, _≤_}
-use mathlib.Core.Path.{_≡_, refl, sym, _∙_, ap}
+use mathlib.Core.Path.{_≡_, refl, _∙_}
 use mathlib.Core.Bool.{Bool, true, false}
-use mathlib.Core.List.{List, [], map}
-use mathlib.Core.Logic.{_⊎_, inl, inr, ⊎-elim}
+use mathlib.Core.Logic.{_⊎_, inl, inr}
 use native.Mathlib.Omega.{arith}
 use lib.Dec.{eqb}
-use lib.ListN.{length, getD, length-map, List·getD-map}
-use borrow.Author.Tests.{eqb-true, eqb-false, eq-eqb, ne-eqb}
-use Rattle.basics.specs.Says.{d-eq}
+use lib.ListN.{length, length-map}
+use borrow.Author.Tests.{eqb-true, eqb-false}
 use Rattle.slots.specs.Map.{head}
-use Rattle.slots.specs.Slot.{free, live, retired, versionAt, phaseAt, nextVersion, nextPhase, emptiedRow, good, SlotsHold}
-use Rattle.slots.specs.HandleLaws.{good-says}
+use Rattle.slots.specs.Slot.{free, live, retired, phaseAt, SlotsHold}
 use Rattle.storage.specs.Packed.{Packed}
 use Rattle.point_tables.specs.Tables.{Tables, sizeOf, usedOf, rowsOf, slotsOf, Sized}
 use Rattle.point_tables.specs.Holds.{Counted, ListsHold, Holds}
-use Rattle.removals.specs.Clear.{clearedRow, clearedMap, cleared}
+use Rattle.slot_walks.specs.Cleared.{clearedRow, clearedRows, clearedMap}
+use Rattle.slot_walks.specs.ClearedLaws as Slots
+use Rattle.slot_walks.specs.ClearedLaws.{cleared-map-length, cleared-map-head, cleared-slots}
+use Rattle.removals.specs.Clear.{cleared}
 use Rattle.point_tables.specs.HeadLaws.{counted-used, counted-rows, counted-size, counted-length, counted-slots}
-use Rattle.removals.specs.TakenLaws.{next-not-live}
-use Rattle.removals.specs.ClearedLaws.{cleared-map-length, cleared-map-head, cleared-slots}
 
-module _ (t : Tables) where
-  -- ---- each slot
-  cleared-row : (s : ℕ) → getD (cleared t .nums) s [] ≡ clearedRow (getD (t .nums) s [])
-  unfolding cleared
-  cleared-row s = List·getD-map clearedRow (t .nums) s []
-
-  -- the version of a live slot rises, or the slot is retired at the last one
-  pub cleared-live : (s : ℕ) → phaseAt (t .nums) s ≡ live → (versionAt (cleared t .nums) s ≡ nextVersion (versionAt (t .nums) s)) × (phaseAt (cleared t .nums) s ≡ nextPhase (versionAt (t .nums) s))
-  cleared-live s e =
-      let r : getD (cleared t .nums) s [] ≡ emptiedRow (getD (t .nums) s []) = cleared-row s ∙ rw (eq-eqb (phaseAt (t .nums) s) live e) in
-      (ap (λ (l : List ℕ). getD l 0 0) r, ap (λ (l : List ℕ). getD l 1 0) r)
-
-  -- every other slot stays as it was
-  pub cleared-idle : (s : ℕ) → (phaseAt (t .nums) s ≡ live → ⊥) → getD (cleared t .nums) s [] ≡ getD (t .nums) s []
-  cleared-idle s n = cleared-row s ∙ rw (ne-eqb (phaseAt (t .nums) s) live n)
-
-  pub cleared-none : (s : ℕ) → phaseAt (cleared t .nums) s ≡ live → ⊥
-  cleared-none s e =
-      ⊎-elim
-      (λ l. next-not-live (versionAt (t .nums) s) (sym (cleared-live s l .1) ∙ e))
-      (λ n. n (sym (ap (λ (l : List ℕ). getD l 1 0) (cleared-idle s n)) ∙ e))
-      (d-eq (phaseAt (t .nums) s) live)
-
-  -- so no handle is good
-  pub cleared-not-good : (s v : ℕ) → good (cleared t .nums) s v ≡ false
-  cleared-not-good s v = go (good (cleared t .nums) s v) (good-says (cleared t .nums) s v .yes)
-    where
-      go : (b : Bool) → (b ≡ true → (s < slotsOf (cleared t)) × (phaseAt (cleared t .nums) s ≡ live) × (versionAt (cleared t .nums) s ≡ v)) → b ≡ false
-      go true f = absurd (cleared-none s (f refl .1))
-      go false f = refl
+pub cleared-none : (t : Tables) (s : ℕ) → phaseAt (cleared t .nums) s ≡ live → ⊥
+unfolding cleared
+cleared-none t = Slots.cleared-none (t .nums)
 
 -- ---- the tables
 module _ (t : Tables) (h : Holds t) where
@@ -89,7 +60,7 @@ module _ (t : Tables) (h : Holds t) where
 
   keeps-slots : SlotsHold (cleared t .nums) (cleared t .map)
   unfolding cleared
-  keeps-slots = counted-slots (clearedMap 0 (t .nums) (t .map)) 0 0 heads (map clearedRow (t .nums)) (cleared-slots (t .nums) (t .map) (h .slots) (h .sized .of-map))
+  keeps-slots = counted-slots (clearedMap 0 (t .nums) (t .map)) 0 0 heads (clearedRows (t .nums)) (cleared-slots (t .nums) (t .map) (h .slots) (h .sized .of-map))
 
   -- no entry and no row is in use
   no-entry : {G : Type 0} (j : ℕ) → j < usedOf (cleared t) → G

@@ -7,7 +7,6 @@ pub mod TakenLaws
 pub mod RemoveKeeps
 pub mod RemoveLaws
 pub mod LiveLaws
-pub mod ClearedLaws
 pub mod ClearKeeps
 pub mod ClearLaws
 pub mod Steps

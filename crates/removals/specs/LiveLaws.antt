@@ -1,93 +1,12 @@
--- The live slots, slot by slot; they are as many as the entries in use. Assumes nothing.
-use Prim.Native.Nat.{ℕ, zero, suc, _+_, _<_, _≤_}
-use mathlib.Core.Path.{_≡_, refl, sym, ap, _∙_}
-use mathlib.Core.Bool.{Bool, true, false}
-use mathlib.Core.List.{List, [], _∷_, _++_, append-nil}
-use native.Mathlib.Omega.{arith}
-use native.Mathlib.Numerals.{add-one}
-use lib.Dec.{eqb}
-use lib.ListN.{length, getD, take, drop, length-append, take-append-drop}
-use lib.Seq.{take-suc, take-all, length-take-le}
-use Rattle.basics.specs.Refusals.{pick}
-use Rattle.basics.specs.Counting.{one, countBelow}
-use Rattle.slots.specs.Slot.{live}
-use Rattle.point_tables.specs.Tables.{Tables, usedOf, slotsOf}
+-- The live slots are as many as the entries in use. Assumes nothing.
+use mathlib.Core.Path.{_≡_, _∙_}
+use lib.ListN.{length}
+use Rattle.point_tables.specs.Tables.{Tables, usedOf}
 use Rattle.point_tables.specs.Holds.{Holds}
-use Rattle.point_tables.specs.CountLaws.{isLive, live-count}
-use Rattle.removals.specs.Clear.{liveFrom, liveSlots}
-
-abbrev pub rowLive : List ℕ → Bool
-rowLive row = eqb (getD row 1 0) live
-
-live-append : (l m : List (List ℕ)) (s : ℕ) → liveFrom s (l ++ m) ≡ liveFrom s l ++ liveFrom (s + length l) m
-live-append [] m s = ap (λ (n : ℕ). liveFrom n m) (omega arith)
-live-append (row ∷ l) m s =
-    ap (λ (h : List ℕ). pick (rowLive row) (s ∷ h) h) (live-append l m (suc s) ∙ ap (λ (n : ℕ). liveFrom (suc s) l ++ liveFrom n m) (omega arith))
-    ∙ either (rowLive row) (liveFrom (suc s) l) (liveFrom (s + suc (length l)) m)
-  where
-    either : (q : Bool) (a b : List ℕ) → pick q (s ∷ (a ++ b)) (a ++ b) ≡ pick q (s ∷ a) a ++ b
-    either true a b = refl
-    either false a b = refl
-
--- no more than there are rows
-pub live-within : (l : List (List ℕ)) (s : ℕ) → length (liveFrom s l) ≤ length l
-live-within [] s = omega arith
-live-within (row ∷ l) s = go (rowLive row) (liveFrom (suc s) l) (live-within l (suc s))
-  where
-    go : (q : Bool) (m : List ℕ) → length m ≤ length l → length (pick q (s ∷ m) m) ≤ suc (length l)
-    go true m h = omega arith
-    go false m h = omega arith
-
--- the live ones of the first i slots
-abbrev pub liveTo : ℕ → List (List ℕ) → List ℕ
-liveTo i nums = liveFrom 0 (take i nums)
-
-pub live-most : (nums : List (List ℕ)) (i : ℕ) → length (liveTo i nums) ≤ length (liveFrom 0 nums)
-live-most nums i =
-    let e : length (liveFrom 0 nums) ≡ length (liveTo i nums) + length (liveFrom (0 + length (take i nums)) (drop i nums)) =
-    ap (λ (l : List (List ℕ)). length (liveFrom 0 l)) (sym (take-append-drop i nums))
-    ∙ ap length (live-append (take i nums) (drop i nums) 0)
-    ∙ length-append (liveTo i nums) (liveFrom (0 + length (take i nums)) (drop i nums)) in
-    omega arith
-
-module _ (nums : List (List ℕ)) (i : ℕ) (h : i < length nums) where
-  -- one slot more
-  live-next : liveTo (i + 1) nums ≡ liveTo i nums ++ pick (rowLive (getD nums i [])) (i ∷ []) []
-  live-next =
-      let m : length (take i nums) ≡ i = length-take-le i nums (omega arith) in
-      let n : 0 + length (take i nums) ≡ i = omega arith in
-      ap (λ (m : ℕ). liveFrom 0 (take m nums)) (add-one i)
-      ∙ ap (liveFrom 0) (take-suc nums i [] h)
-      ∙ live-append (take i nums) (getD nums i [] ∷ []) 0
-      ∙ ap (λ (m : ℕ). liveTo i nums ++ pick (rowLive (getD nums i [])) (m ∷ []) []) n
-
-  pub live-one : rowLive (getD nums i []) ≡ true → liveTo (i + 1) nums ≡ liveTo i nums ++ (i ∷ [])
-  live-one e = live-next ∙ ap (λ (q : Bool). liveTo i nums ++ pick q (i ∷ []) []) e
-
-  pub live-none : rowLive (getD nums i []) ≡ false → liveTo (i + 1) nums ≡ liveTo i nums
-  live-none e = live-next ∙ ap (λ (q : Bool). liveTo i nums ++ pick q (i ∷ []) []) e ∙ append-nil (liveTo i nums)
-
-  pub live-room : rowLive (getD nums i []) ≡ true → length (liveTo i nums) < length (liveFrom 0 nums)
-  live-room e = omega (arith, live-most nums (i + 1), ap length (live-one e) ∙ length-append (liveTo i nums) (i ∷ []))
-
-  pub live-counts : length (liveTo (i + 1) nums) ≡ length (liveTo i nums) + one (rowLive (getD nums i []))
-  live-counts = ap length live-next ∙ length-append (liveTo i nums) (pick (rowLive (getD nums i [])) (i ∷ []) []) ∙ ap (λ (n : ℕ). length (liveTo i nums) + n) (as-one (rowLive (getD nums i [])))
-    where
-      as-one : (q : Bool) → length (pick q (i ∷ []) []) ≡ one q
-      as-one true = refl
-      as-one false = refl
-
-counted : (t : Tables) (i : ℕ) → i ≤ slotsOf t → length (liveTo i (t .nums)) ≡ countBelow (isLive t) i
-unfolding countBelow
-counted t zero h = refl
-counted t (suc i) h =
-    ap (λ (n : ℕ). length (liveTo n (t .nums))) (sym (add-one i))
-    ∙ live-counts (t .nums) i (omega arith)
-    ∙ ap (λ (n : ℕ). n + one (isLive t i)) (counted t i (omega arith))
+use Rattle.point_tables.specs.CountLaws.{live-count}
+use Rattle.slot_walks.specs.LiveLaws as Live
+use Rattle.removals.specs.Clear.{liveSlots}
 
 pub live-used : (t : Tables) → Holds t → length (liveSlots t) ≡ usedOf t
 unfolding liveSlots
-live-used t h =
-    ap (λ (l : List (List ℕ)). length (liveFrom 0 l)) (sym (take-all (slotsOf t) (t .nums) (omega arith)))
-    ∙ counted t (slotsOf t) (omega arith)
-    ∙ live-count t h
+live-used t h = Live.live-count (t .nums) ∙ live-count t h

@@ -16,9 +16,10 @@ use Rattle.point_tables.specs.Tables.{Tables, usedOf, slotsOf, recordOn}
 use Rattle.point_tables.specs.Holds.{Holds}
 use Rattle.point_tables.specs.Decide.{holds, holds-says}
 use Rattle.point_tables.specs.Outcome.{Outcome, outcome}
-use Rattle.removals.specs.declared.Reply.{Reply}
-use Rattle.removals.specs.RemoveMaintain.{reply, takenOut, removeMaintainAnswer, removeMaintainOf}
+use Rattle.replies.specs.declared.Reply.{Reply}
+use Rattle.removals.specs.RemoveMaintain.{takenOut, removeMaintainAnswer, removeMaintainOf}
 use Rattle.removals.specs.RemoveKeeps.{taken-keeps, taken-count}
+use Rattle.replies.specs.Replies.{reply}
 
 -- the handle is that of an object
 abbrev pub isGood : Tables → Handle → Bool

@@ -14,10 +14,8 @@ use Rattle.storage.specs.CellTable.{dropped}
 use Rattle.point_tables.specs.Tables.{Tables, tables, counting, recordOn, entriesIn, cellRows}
 use Rattle.point_tables.specs.Decide.{holds}
 use Rattle.point_tables.specs.Outcome.{Outcome, outcome}
-use Rattle.removals.specs.declared.Reply.{Reply}
-
-abbrev pub reply : ℕ → ℕ → Reply
-reply a d = record { answer = a; obj = d }
+use Rattle.replies.specs.declared.Reply.{Reply}
+use Rattle.replies.specs.Replies.{reply}
 
 abbrev pub isEmpty : {A : Type 0} → List A → Bool
 isEmpty [] = true

@@ -10,8 +10,8 @@ use Rattle.basics.specs.Refusals.{pick}
 use Rattle.slots.specs.Slot.{live, phaseAt}
 use Rattle.point_tables.specs.Tables.{Tables, slotsOf}
 use Rattle.point_tables.specs.Holds.{Holds}
-use Rattle.removals.specs.declared.Count.{Count}
-use Rattle.removals.specs.Clear.{count, clearedRow}
+use Rattle.replies.specs.declared.Count.{Count}
+use Rattle.replies.specs.Replies.{count}
 
 -- slot s has an object, in tables that hold a grid
 pub record Object (t : Tables) (s : ℕ) : Type 0 where
@@ -38,6 +38,3 @@ placesOf reals slots = map (placeAt reals) slots
 
 abbrev pub objsOf : List (List ℕ) → List ℕ → List ℕ
 objsOf nums slots = map (objAt nums) slots
-
-abbrev pub clearedRows : List (List ℕ) → List (List ℕ)
-clearedRows nums = map clearedRow nums

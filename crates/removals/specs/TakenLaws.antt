@@ -2,17 +2,15 @@
 -- Assumes nothing.
 use Prim.Native.Nat.{ℕ, _+_, _<_, _≤_}
 use mathlib.Core.Path.{_≡_, refl, sym, _∙_, ap, subst}
-use mathlib.Core.Bool.{Bool, true, false}
+use mathlib.Core.Bool.{Bool, true}
 use mathlib.Core.List.{List, [], _∷_, map}
 use native.Mathlib.Omega.{arith}
-use lib.Dec.{eqb}
 use lib.ListN.{length, getD, length-map}
 use lib.Seq.{length-take-le}
 use borrow.Author.Tests.{eq-eqb}
-use Rattle.basics.specs.Refusals.{pick}
 use Rattle.cells.specs.Key.{keyOf}
 use Rattle.slots.specs.Map.{head}
-use Rattle.slots.specs.Slot.{free, live, retired, lastVersion, phaseAt, versionAt, nextPhase, emptiedNums, emptiedMap, SlotsHold}
+use Rattle.slots.specs.Slot.{live, phaseAt, versionAt, emptiedNums, emptiedMap, SlotsHold}
 use Rattle.slots.specs.SlotLaws.{emptied-holds}
 use Rattle.slots.specs.EmptyLaws.{emptied-length, emptied-same, emptied-other, emptied-map-length, emptied-map-head}
 use Rattle.storage.specs.Keyed.{under}
@@ -22,6 +20,7 @@ use Rattle.storage.specs.WrittenLaws.{length-written}
 use Rattle.storage.specs.ColumnLaws.{map-under, rows-takeOut}
 use Rattle.storage.specs.PoolLaws.{rows-column}
 use Rattle.storage.specs.TakeOutLaws.{has, length-onList-takeOut}
+use Rattle.slot_walks.specs.ClearedLaws.{next-not-live}
 use Rattle.objects.specs.Columns.{recordOf}
 use Rattle.point_tables.specs.Tables.{Tables, sizeOf, usedOf, rowsOf, slotsOf, recordOn, entriesIn, cellRows, Sized}
 use Rattle.point_tables.specs.Holds.{Counted, Holds}
@@ -33,14 +32,6 @@ use Rattle.point_tables.specs.HoldsLaws.{used-in-pool, used-in-spots, rows-in-c
 use Rattle.point_tables.specs.HeadLaws.{counted-used, counted-rows, counted-size, counted-length, counted-slots}
 use Rattle.removals.specs.GoneLaws.{some-both, some-filter, some-has}
 use Rattle.removals.specs.DropLaws.{rowsBy, rowsBy-length, packed-remove}
-
--- the phase of a slot that was emptied
-pub next-not-live : (v : ℕ) → nextPhase v ≡ live → ⊥
-next-not-live v e = go (eqb v lastVersion) e
-  where
-    go : (b : Bool) → pick b retired free ≡ live → ⊥
-    go true q = omega arith
-    go false q = omega arith
 
 empty-rows : (l : List Entry) → isEmpty (map rowOf l) ≡ isEmpty l
 empty-rows [] = refl

@@ -2,24 +2,17 @@
 ghost use mathlib.Core.Path.{_≡_};
 ghost use mathlib.Core.Bool.{true};
 ghost use Prim.Native.Nat.{_+_, _≤_, _<_};
-ghost use lib.Dec.{eqb};
 ghost use lib.ListN.{length, getD};
 ghost use Rattle.slots.specs.Map.{wordsFor};
-ghost use Rattle.slots.specs.Slot.{live};
 ghost use Rattle.storage.specs.Keyed.{written};
 ghost use Rattle.point_tables.specs.Tables.{tables, counting};
 ghost use Rattle.point_tables.specs.Decide.{holds};
 ghost use Rattle.point_tables.specs.Outcome.{outcome};
-ghost use Rattle.removals.specs.Clear.{liveFrom, clearedMap, wrote, clearOf};
-ghost use Rattle.removals.specs.Steps.{roomAnswer, countBy, placesOf, objsOf, clearedRows};
-use crate::Count;
-
-// Whether a slot is live.
-fn is_live(row: [u32; 4]) -> bool
-    ensures { λ r. ⌜ r ≡ eqb (getD row 1 0) live ⌝ }
-{
-    row[1] == 1
-}
+ghost use Rattle.slot_walks.specs.Live.{liveFrom};
+ghost use Rattle.slot_walks.specs.Cleared.{clearedRows, clearedMap};
+ghost use Rattle.removals.specs.Clear.{wrote, clearOf};
+ghost use Rattle.removals.specs.Steps.{roomAnswer, countBy, placesOf, objsOf};
+use replies::Count;
 
 // 9 if one of the outputs has fewer than n places, else 0.
 fn short_of(n: usize, places: usize, objs: usize) -> u32
@@ -63,27 +56,11 @@ fn put_objects(nums: &[[u32; 4]], reals: &[[f32; 4]], places: &mut [[f32; 2]], o
     let mut i = 0;
     while i < nums.len() {
         let row = nums[i];
-        if is_live(row) {
+        if slot_walks::is_live(row) {
             let q = reals[i];
             places[k] = [q[0], q[1]];
             objs[k] = row[2];
             k += 1;
-        }
-        i += 1;
-    }
-}
-
-// Every live slot is emptied.
-fn empty_slots(nums: &mut [[u32; 4]], map: &mut [u64])
-    requires { ⌜ length (now map) ≡ 3 + wordsFor (length (now nums)) ⌝ }
-    ensures nums { λ _. ⌜ now (nums .exit) ≡ clearedRows (now (nums .entry)) ⌝ }
-    ensures map { λ _. ⌜ now (map .exit) ≡ clearedMap 0 (now (nums .entry)) (now (map .entry)) ⌝ }
-{
-    let mut i = 0;
-    while i < nums.len() {
-        let row = nums[i];
-        if is_live(row) {
-            slots::empty(nums, map, i);
         }
         i += 1;
     }
@@ -95,7 +72,7 @@ fn empty_all(nums: &mut [[u32; 4]], map: &mut [u64])
     ensures nums { λ _. ⌜ now (nums .exit) ≡ clearedRows (now (nums .entry)) ⌝ }
     ensures map { λ _. ⌜ now (map .exit) ≡ counting (clearedMap 0 (now (nums .entry)) (now (map .entry))) 0 0 ⌝ }
 {
-    empty_slots(nums, map);
+    slot_walks::empty_slots(nums, map);
     map[1] = 0;
     map[2] = 0;
 }

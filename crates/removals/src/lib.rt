@@ -5,15 +5,3 @@ mod removing;
 
 pub use clearing::clear;
 pub use removing::remove_maintain;
-
-// The data of an object beside the answer.
-pub struct Reply {
-    pub answer: u32,
-    pub obj: u32,
-}
-
-// A number beside the answer.
-pub struct Count {
-    pub answer: u32,
-    pub count: u32,
-}

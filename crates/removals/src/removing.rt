@@ -14,7 +14,7 @@ ghost use Rattle.point_tables.specs.Outcome.{outcome};
 ghost use Rattle.removals.specs.RemoveMaintain.{isEmpty, takenOut, removeMaintainOf};
 ghost use Rattle.removals.specs.DropLaws.{rowsBy};
 ghost use Rattle.removals.specs.Steps.{Object};
-use crate::Reply;
+use replies::Reply;
 use slots::Handle;
 
 // The answer: the first refusal that applies, or 0. The object's state is not looked at.

@@ -2,6 +2,7 @@
 -- Assumes nothing.
 use Prim.Native.Nat.{ℕ, zero, suc, _+_, _*_, _/_, _%_, _^_, _≤_, _<_}
 use mathlib.Core.Path.{_≡_}
+use mathlib.Core.Bool.{Bool, true, false}
 use mathlib.Core.List.{List}
 use lib.Bits.{bitAnd, bitOr, bitXor}
 use lib.Count.{ones}
@@ -43,6 +44,15 @@ lowestFrom m s (suc k) = pick (eqb (usable m s) 1) (At s) (lowestFrom m (suc s) 
 unfoldable pub lowestUsable : List ℕ → ℕ → Usable
 unfolding lowestFrom
 lowestUsable m n = lowestFrom m 0 n
+
+-- whether there is one, and its number, else 0
+abbrev pub isSome : Usable → Bool
+isSome (At s) = true
+isSome Nothing = false
+
+abbrev pub slotIn : Usable → ℕ
+slotIn (At s) = s
+slotIn Nothing = 0
 
 -- how many of the first k slots are usable
 unfoldable pub usableBelow : List ℕ → ℕ → ℕ

@@ -1,7 +1,7 @@
 -- Laws of `All` and of `filter`, and cases by a test and by an order. Assumes nothing.
 use Prim.Native.Nat.{ℕ, zero, suc, _<_, _≤_}
 use mathlib.Core.Path.{_≡_, refl, sym, _∙_, ap}
-use mathlib.Core.Bool.{Bool, true, false}
+use mathlib.Core.Bool.{Bool, true, false, _&&_}
 use mathlib.Core.List.{List, [], _∷_, _++_, map}
 use native.Mathlib.Omega.{arith}
 use native.Mathlib.Nat.{not-suc-le-zero, le-of-suc-le-suc}
@@ -136,3 +136,11 @@ module _ {A : Type 0} where
       by-test (test (f x))
       (λ e. rw e (ap (λ m. f x ∷ m) (filter-map test f l)))
       (λ e. rw e (filter-map test f l))
+
+-- a filter behind a filter is one by both tests
+pub filter-both : {A : Type 0} (wide test : A → Bool) (l : List A) → filter test (filter wide l) ≡ filter (λ x. wide x && test x) l
+filter-both wide test [] = refl
+filter-both wide test (x ∷ l) =
+    by-test (wide x)
+    (λ w. by-test (test x) (λ e. rw (w, e) (ap (λ m. x ∷ m) (filter-both wide test l))) (λ e. rw (w, e) (filter-both wide test l)))
+    (λ w. rw w (filter-both wide test l))

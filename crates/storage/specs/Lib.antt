@@ -47,3 +47,4 @@ pub mod RebuildLaws
 pub mod RunStepLaws
 pub mod PackedDecide
 pub mod WrittenLaws
+pub mod PutLaws

@@ -20,6 +20,13 @@ pub record FirstIn (pool : List (List ℕ)) (used i x0 y0 x1 y1 r : ℕ) : Type 
   pub passed : (j : ℕ) → i ≤ j → j < r → inWindow x0 y0 x1 y1 (first pool j) ≡ false
   pub here : r < used → inWindow x0 y0 x1 y1 (first pool r) ≡ true
 
+-- the entries of the key from a place on end at r
+pub record ListEnd (pool : List (List ℕ)) (from used key r : ℕ) : Type 0 where
+  pub onward : from ≤ r
+  pub within : r ≤ used
+  pub same : (j : ℕ) → from ≤ j → j < r → first pool j ≡ key
+  pub stops : r < used → first pool r ≡ key → ⊥
+
 -- a place up to which every entry from a place of the window on is in it
 pub record RunEnd (pool : List (List ℕ)) (used from x0 y0 x1 y1 r : ℕ) : Type 0 where
   pub onward : from < r

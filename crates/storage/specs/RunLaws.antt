@@ -7,7 +7,7 @@ use native.Mathlib.Omega.{arith}
 use lib.Dec.{leb}
 use lib.ListN.{length, take}
 use borrow.Author.Tests.{leb-true, le-leb, lt-leb}
-use Rattle.basics.specs.Says.{apart}
+use Rattle.basics.specs.Says.{apart, d-lt}
 use Rattle.storage.specs.Keyed.{Sorted, below}
 use Rattle.storage.specs.Entries.{rowKey}
 use Rattle.storage.specs.Packed.{first}
@@ -15,7 +15,9 @@ use Rattle.storage.specs.FilterLaws.{by-order}
 use Rattle.storage.specs.PackedLaws.{sorted-ordered}
 use Rattle.storage.specs.CutLaws.{high-of, most-of}
 use Rattle.storage.specs.Window.{columnOf, lineOf, inWindow}
-use Rattle.storage.specs.Run.{NextKey}
+use Rattle.storage.specs.Run.{NextKey, NextRun}
+use mathlib.Core.Logic.{⊎-elim}
+use Rattle.storage.specs.declared.Run.{Run}
 
 no-left : (p q r s : Bool) → p ≡ false → ((p && q) && (r && s)) ≡ false
 no-left p q r s e = rw e
@@ -121,3 +123,10 @@ module _ (pool : List (List ℕ)) (used : ℕ) (room : used ≤ length pool) (s 
   -- the entries of one row of cells
   pub along : (from j : ℕ) → x1 < 4294967296 → inWindow x0 y0 x1 y1 (first pool from) ≡ true → from ≤ j → j < used → first pool j ≤ lineOf (first pool from) * 4294967296 + x1 → inWindow x0 y0 x1 y1 (first pool j) ≡ true
   along from j b h a m q = same-line x0 y0 x1 y1 (first pool from) (first pool j) b h (sorted-ordered used pool room s from j m a) q
+
+-- a run goes on from where it was asked for
+pub run-onward : (pool : List (List ℕ)) (used i x0 y0 x1 y1 : ℕ) (r : Run) → NextRun pool used i x0 y0 x1 y1 r → i < used → i < r .to
+run-onward pool used i x0 y0 x1 y1 r n h = ⊎-elim (λ l. omega (arith, n .more l, n .onward)) (λ l. omega (arith, n .ends, d-not l)) (d-lt (r .from) used)
+  where
+    d-not : (r .from < used → ⊥) → used ≤ r .from
+    d-not l = omega arith

@@ -20,6 +20,7 @@ pub use table::enter_cell;
 pub use table::has_key;
 pub use table::mark_cell;
 pub use table::rebuild;
+pub use walk::list_end;
 pub use walk::next_run;
 
 // Places of a table, from one up to another that is not counted.

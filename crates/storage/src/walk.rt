@@ -8,7 +8,7 @@ ghost use Rattle.storage.specs.Keyed.{Sorted};
 ghost use Rattle.storage.specs.Entries.{rowKey};
 ghost use Rattle.storage.specs.Packed.{first};
 ghost use Rattle.storage.specs.Window.{columnOf, lineOf, inWindow};
-ghost use Rattle.storage.specs.Run.{NextKey, FirstIn, RunEnd, NextRun};
+ghost use Rattle.storage.specs.Run.{NextKey, FirstIn, RunEnd, NextRun, ListEnd};
 use crate::Run;
 use crate::find::key_at;
 use crate::find::lower_bound_from;
@@ -83,4 +83,19 @@ pub fn next_run(pool: &[[u64; 2]], used: usize, i: usize, low: u64, high: u64) -
     }
     let to = run_end(pool, used, from, low, high);
     Run { from: from, to: to }
+}
+
+// The end of the entries of the key that stand from `from` on.
+pub fn list_end(pool: &[[u64; 2]], from: usize, used: usize, key: u64) -> usize
+    requires { ⌜ (from ≤ used) × (used ≤ length (now pool)) ⌝ }
+    ensures { λ r. ⌜ ListEnd (now (pool .entry)) from used key r ⌝ }
+{
+    let mut to = from;
+    while to < used {
+        if key_at(pool, to) != key {
+            return to;
+        }
+        to += 1;
+    }
+    to
 }

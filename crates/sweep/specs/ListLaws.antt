@@ -32,7 +32,8 @@ use Rattle.maintain.specs.CalmLaws.{calm-or-not, calm-fate}
 use Rattle.maintain.specs.SweepLaws.{listUnder, list-named}
 use Rattle.maintain.specs.CellOrderLaws.{keys-up}
 use Rattle.maintain.specs.ListsAfterLaws.{pool-joined}
-use Rattle.sweep.specs.Runs.{entryIn, run, Stretch}
+use Rattle.sweep.specs.Runs.{entryIn, run}
+use Rattle.storage.specs.Run.{ListEnd}
 use Rattle.sweep.specs.RunLaws.{entries-run}
 use Rattle.sweep.specs.TagLaws.{kept-by-tag}
 use Rattle.sweep.specs.Laid.{listAt, keptIf}
@@ -117,7 +118,7 @@ module _ (t : Tables) (h : Holds t) (r : ℕ) (l : r < rowsOf t) where
       (ap entryKey (sym (at-place (length (listOf t r)) g ∙ ap (λ (n : ℕ). getD ((listOf t r) ++ (later t r)) n noEntry) (sym p) ∙ getD-append-add (listOf t r) (later t r) 0 noEntry)) ∙ e)
 
   -- the list of cell r is the stretch of its key
-  pub list-stretch : Stretch (t .pool) (length (passed t r)) (usedOf t) (first (t .cells) r) (length (passed t r) + length (listOf t r))
+  pub list-stretch : ListEnd (t .pool) (length (passed t r)) (usedOf t) (first (t .cells) r) (length (passed t r) + length (listOf t r))
   list-stretch =
       record {
         onward = omega arith;

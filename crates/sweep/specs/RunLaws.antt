@@ -11,7 +11,8 @@ use Rattle.storage.specs.Keyed.{close, last, front}
 use Rattle.storage.specs.Entries.{entriesOf}
 use Rattle.storage.specs.FilterLaws.{by-order}
 use Rattle.maintain.specs.EntryLaws.{noEntry, entries-length, entries-at}
-use Rattle.sweep.specs.Runs.{entryIn, run, held, Stretch}
+use Rattle.sweep.specs.Runs.{entryIn, run, held}
+use Rattle.storage.specs.Run.{ListEnd}
 
 module _ {A : Type 0} (at : ℕ → A) where
   pub run-length : (i n : ℕ) → length (run at i n) ≡ n
@@ -87,7 +88,7 @@ entries-more pool spots w to h u v =
     ∙ sym (entries-whole pool spots to u v)
 
 -- ---- where a stretch ends
-pub stretch-one : (pool : List (List ℕ)) (from used key a b : ℕ) → Stretch pool from used key a → Stretch pool from used key b → a ≡ b
+pub stretch-one : (pool : List (List ℕ)) (from used key a b : ℕ) → ListEnd pool from used key a → ListEnd pool from used key b → a ≡ b
 stretch-one pool from used key a b p q =
     by-order a b
     (λ h. absurd (p .stops (omega (arith, h, q .within)) (q .same a (p .onward) h)))

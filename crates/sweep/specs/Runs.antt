@@ -21,10 +21,3 @@ module _ {A : Type 0} (at : ℕ → A) where
   abbrev pub held : ℕ → ℕ → ℕ → List A
   held p i zero = []
   held p i (suc n) = at p ∷ run (suc i) n
-
--- the entries of the key from a place on end at r
-pub record Stretch (pool : List (List ℕ)) (from used key r : ℕ) : Type 0 where
-  pub onward : from ≤ r
-  pub within : r ≤ used
-  pub same : (j : ℕ) → from ≤ j → j < r → first pool j ≡ key
-  pub stops : r < used → first pool r ≡ key → ⊥

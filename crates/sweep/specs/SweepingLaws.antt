@@ -16,7 +16,8 @@ use Rattle.maintain.specs.Maintain.{cellKeys}
 use Rattle.maintain.specs.ListedLaws.{in-pool, in-spots}
 use Rattle.maintain.specs.Closed.{joined, keptUnder, keptEntries}
 use Rattle.maintain.specs.SweepLaws.{listUnder}
-use Rattle.sweep.specs.Runs.{entryIn, Stretch}
+use Rattle.sweep.specs.Runs.{entryIn}
+use Rattle.storage.specs.Run.{ListEnd}
 use Rattle.sweep.specs.RunLaws.{run-same, stretch-one}
 use Rattle.sweep.specs.Laid.{Room, Slotted, Laid, listAt, keptIf}
 use Rattle.sweep.specs.LaidLaws.{laid-rows, laid-spots, laid-row, laid-entry, laid-entries, laid-over}
@@ -46,10 +47,10 @@ module _ (t : Tables) (h : Holds t) (r from w : ℕ) (pool : List (List ℕ)) (s
   ahead j g = laid-row (keptTo t r) (t .pool) (t .spots) pool spots (k .columns) j (omega (arith, k))
 
   -- ---- the next list, up to where its key goes
-  module _ (l : r < rowsOf t) (to : ℕ) (s : Stretch pool from (usedOf t) (first (t .cells) r) to) where
-    as-before : Stretch (t .pool) (length (passed t r)) (usedOf t) (first (t .cells) r) to
+  module _ (l : r < rowsOf t) (to : ℕ) (s : ListEnd pool from (usedOf t) (first (t .cells) r) to) where
+    as-before : ListEnd (t .pool) (length (passed t r)) (usedOf t) (first (t .cells) r) to
     as-before =
-        let here : Stretch (t .pool) from (usedOf t) (first (t .cells) r) to =
+        let here : ListEnd (t .pool) from (usedOf t) (first (t .cells) r) to =
         record {
           onward = s .onward;
           within = s .within;

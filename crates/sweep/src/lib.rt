@@ -8,7 +8,6 @@ ghost use Rattle.point_tables.specs.Lent.{lent};
 ghost use Rattle.point_tables.specs.Holds.{Holds};
 ghost use Rattle.maintain.specs.Kept.{kept};
 ghost use Rattle.maintain.specs.Closed.{keptEntries};
-ghost use Rattle.sweep.specs.Runs.{Stretch};
 ghost use Rattle.sweep.specs.Tags.{spotBy, fateIn};
 ghost use Rattle.sweep.specs.Laid.{Room, Slotted, Laid, listAt, keptIf};
 
@@ -105,21 +104,6 @@ fn sweep_run(
     move_run(pool, spots, from, to, start)
 }
 
-// The end of the entries of the key that stand from `from` on.
-fn run_end(pool: &[[u64; 2]], from: usize, used: usize, key: u64) -> usize
-    requires { ⌜ (from ≤ used) × (used ≤ length (now pool)) ⌝ }
-    ensures { λ r. ⌜ Stretch (now (pool .entry)) from used key r ⌝ }
-{
-    let mut to = from;
-    while to < used {
-        if storage::key_at(pool, to) != key {
-            return to;
-        }
-        to += 1;
-    }
-    to
-}
-
 // The lists in the order of the cell table: what they keep is laid from place 0 on. Returns how many entries that is.
 pub fn sweep_lists(
     nums: &[[u32; 4]],
@@ -140,7 +124,7 @@ pub fn sweep_lists(
     let mut w = 0;
     while r < rows {
         let cell = cells[r];
-        let to = run_end(pool, from, used, cell[0]);
+        let to = storage::list_end(pool, from, used, cell[0]);
         w = sweep_run(nums, reals, pool, spots, from, to, w, cell[1] == 1);
         from = to;
         r += 1;

@@ -12,7 +12,7 @@ use Rattle.cells.specs.Range.{cellsIn}
 use Rattle.point_tables.specs.Tables.{Tables, tables, sizeOf}
 use Rattle.point_tables.specs.Holds.{Holds}
 use Rattle.point_tables.specs.Decide.{holds, holds-says}
-use Rattle.queries.specs.declared.Count.{Count}
+use Rattle.replies.specs.declared.Count.{Count}
 use Rattle.queries.specs.Queries.{findings}
 use Rattle.queries.specs.Fill.{Stocked}
 use Rattle.queries.specs.FindLaws.{search-3, search-6, search-7}

@@ -8,11 +8,13 @@ use borrow.Author.Needs.{needs}
 use Rattle.point_tables.specs.Tables.{Tables, tables, slotsOf}
 use Rattle.point_tables.specs.Decide.{holds, holds-says}
 use Rattle.storage.specs.WrittenLaws.{length-written}
-use Rattle.reads.specs.declared.Count.{Count}
-use Rattle.reads.specs.Reads.{count, listing, liveHandles, lenOf}
+use Rattle.replies.specs.declared.Count.{Count}
+use Rattle.reads.specs.Reads.{listing, liveHandles, lenOf}
 use Rattle.reads.specs.ReadsLaws.{len-0, len-3, len-done, len-refused, handles-3, handles-9, handles-0}
+use Rattle.reads.specs.LenLaws.{len-live}
 use Rattle.reads.proofs.handles.Statement.{statement}
 use Rattle.reads.proofs.handles.Tie as tie
+use Rattle.replies.specs.Replies.{count}
 
 abbrev lent : tie.Start → Tables
 lent c = tables (c .args .nums .now) (c .args .reals .now) (c .args .ints .now) (c .args .map .now) (c .args .pool .now) (c .args .spots .now) (c .args .cells .now)
@@ -49,10 +51,9 @@ enough : (c : tie.Else2) → length (liveHandles (lent (c .before .before .befor
 enough c = omega (arith, c .before .wide .ensures, number (c .before .before), c .if2 .left)
 
 put-handles-requires : tie.Need-put-handles-requires
-unfolding liveHandles
 put-handles-requires c κs =
     let s = c .before .before .before .before .before .before .before in
-    (holds-says (lent s) .yes (held (c .before .before .before)) .sized .most, enough (c .before))
+    (holds-says (lent s) .yes (held (c .before .before .before)) .sized .most, omega (arith, enough (c .before), len-live (lent s)))
 
 same-length : tie.Need-same-length
 same-length c = search needs

@@ -9,7 +9,7 @@ use borrow.Author.Needs.{needs}
 use Rattle.storage.specs.Packed.{first, second}
 use Rattle.point_tables.specs.Tables.{Tables, tables, usedOf, rowsOf}
 use Rattle.point_tables.specs.HoldsLaws.{used-in-pool, rows-in-cells}
-use Rattle.sweep.specs.Runs.{Stretch}
+use Rattle.storage.specs.Run.{ListEnd}
 use Rattle.sweep.specs.SweepingLaws.{Sweeping, sweeping-start, sweeping-rows, sweeping-spots, sweeping-room, sweeping-slots, sweeping-turn, sweeping-done}
 use Rattle.sweep.proofs.sweep_lists.Statement.{statement}
 use Rattle.sweep.proofs.sweep_lists.Tie as tie
@@ -35,13 +35,13 @@ rows-in : (c : tie.In-loop Inv-loop μ-loop) → rowsOf (entry-tables (start (c 
 rows-in c = rows-in-cells (entry-tables (start (c .before))) (start (c .before) .pre)
 
 -- the list at hand, up to where its key goes
-stretch : (c : tie.After-run-end Inv-loop μ-loop)
-    → Stretch (c .before .before .before .before .loop .pool) (c .before .before .before .before .loop .from) (usedOf (entry-tables (start (c .before .before .before .before))))
-    (first (start (c .before .before .before .before) .args .cells .now) (c .before .before .before .before .loop .r)) (c .run-end .result)
-stretch c = rw (c .before .before .before .before .before .before .before .index-of .ensures) at (c .run-end .ensures)
+stretch : (c : tie.After-list-end Inv-loop μ-loop)
+    → ListEnd (c .before .before .before .before .loop .pool) (c .before .before .before .before .loop .from) (usedOf (entry-tables (start (c .before .before .before .before))))
+    (first (start (c .before .before .before .before) .args .cells .now) (c .before .before .before .before .loop .r)) (c .list-end .result)
+stretch c = rw (c .before .before .before .before .before .before .before .index-of .ensures) at (c .list-end .ensures)
 
-run-end-requires : tie.Need-run-end-requires Inv-loop μ-loop
-run-end-requires c κs =
+list-end-requires : tie.Need-list-end-requires Inv-loop μ-loop
+list-end-requires c κs =
     let l = c .before .before .before in
     let k = l .loop in
     let s = start l in
@@ -54,8 +54,8 @@ sweep-run-requires c κs =
     let i = e .before .before .before in
     let k = i .before .loop in
     let s = start (i .before) in (
-      sweeping-room (entry-tables s) (s .pre) (k .r) (k .from) (k .w) (k .pool) (k .spots) (k .inv) (row-in i) (e .run-end .result) (stretch e),
-      sweeping-slots (entry-tables s) (s .pre) (k .r) (k .from) (k .w) (k .pool) (k .spots) (k .inv) (row-in i) (e .run-end .result) (stretch e),
+      sweeping-room (entry-tables s) (s .pre) (k .r) (k .from) (k .w) (k .pool) (k .spots) (k .inv) (row-in i) (e .list-end .result) (stretch e),
+      sweeping-slots (entry-tables s) (s .pre) (k .r) (k .from) (k .w) (k .pool) (k .spots) (k .inv) (row-in i) (e .list-end .result) (stretch e),
     )
 
 loop-again : tie.Need-loop-again Inv-loop μ-loop
@@ -65,7 +65,7 @@ loop-again c =
     let i = e .before .before .before in
     let k = i .before .loop in
     let s = start (i .before) in
-    sweeping-turn (entry-tables s) (s .pre) (k .r) (k .from) (k .w) (k .pool) (k .spots) (k .inv) (row-in i) (e .run-end .result) (stretch e) (eqb (second (s .args .cells .now) (k .r)) 1) refl (d .sweep-run .result) _ _ (d .sweep-run .ensures)
+    sweeping-turn (entry-tables s) (s .pre) (k .r) (k .from) (k .w) (k .pool) (k .spots) (k .inv) (row-in i) (e .list-end .result) (stretch e) (eqb (second (s .args .cells .now) (k .r)) 1) refl (d .sweep-run .result) _ _ (d .sweep-run .ensures)
 
 same-length : tie.Need-same-length Inv-loop μ-loop
 same-length c =
@@ -99,7 +99,7 @@ sweep-lists-spec =
     (λ c. omega (arith, row-in c, rows-in c))
     (λ c. omega (arith, row-in c, rows-in c))
     (λ c. search needs)
-    run-end-requires
+    list-end-requires
     (λ c. search needs)
     sweep-run-requires
     (λ c. omega arith)

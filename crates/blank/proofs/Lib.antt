@@ -1,0 +1,2 @@
+-- What the proofs of blank share.
+mod Fill

@@ -1,0 +1,22 @@
+-- `blank::new_map` meets its contract. Assumes nothing.
+use Prim.Native.Nat.{ℕ}
+use mathlib.Core.Path.{_∙_, ap}
+use mathlib.Core.List.{List, _∷_}
+use native.Mathlib.Omega.{arith}
+use lib.ListN.{take, drop}
+use lib.Seq.{drop-at, length-take-le}
+use borrow.Author.Needs.{needs}
+use Rattle.slots.specs.Map.{wordsFor}
+use Rattle.blank.specs.Blank.{freeWords}
+use Rattle.blank.proofs.new_map.Statement.{statement}
+use Rattle.blank.proofs.new_map.Tie as tie
+
+returns : tie.Need-returns
+returns c =
+    let f = c .before .before .before .before .before .before in
+    let a = f .before .before .before .args in
+    c .before .before .new-head .ensures
+    ∙ ap (λ (m : List ℕ). a .size ∷ 0 ∷ 0 ∷ m) (ap (drop 3) (f .free-words .ensures) ∙ drop-at (take 3 (a .map .now)) (freeWords (wordsFor (a .n)) (a .n)) 3 (length-take-le 3 (a .map .now) (omega arith)))
+
+pub new-map-spec : {M : Type 1} → statement M
+new-map-spec = tie.close (tie.spec (λ c κs. search needs) (λ c κs. search needs) (λ c. search needs) returns)

@@ -1,0 +1,2 @@
+-- What calls return, made of its numbers.
+pub mod Replies

@@ -1,0 +1,65 @@
+// Walks over the slots of a grid, for points and boxes alike: the live slots counted, their handles written out, all of them emptied.
+ghost use mathlib.Core.Path.{_≡_};
+ghost use Prim.Native.Nat.{_+_, _≤_};
+ghost use lib.ListN.{length};
+ghost use Rattle.slots.specs.Map.{wordsFor};
+ghost use Rattle.storage.specs.Keyed.{written};
+ghost use Rattle.slot_walks.specs.Live.{rowLive, liveFrom, handlesIn};
+ghost use Rattle.slot_walks.specs.Cleared.{clearedRows, clearedMap};
+
+// Whether a slot is live.
+pub fn is_live(row: [u32; 4]) -> bool
+    ensures { λ r. ⌜ r ≡ rowLive row ⌝ }
+{
+    row[1] == 1
+}
+
+// The number of live slots.
+pub fn count_live(nums: &[[u32; 4]]) -> u32
+    requires { ⌜ length (now nums) ≤ 4096 ⌝ }
+    ensures { λ r. ⌜ r ≡ length (liveFrom 0 (now (nums .entry))) ⌝ }
+{
+    let mut k = 0u32;
+    let mut i = 0;
+    while i < nums.len() {
+        let row = nums[i];
+        if is_live(row) {
+            k += 1;
+        }
+        i += 1;
+    }
+    k
+}
+
+// The handles of the live slots, from place 0 of the output on.
+pub fn put_handles(nums: &[[u32; 4]], out: &mut [[u32; 2]])
+    requires { ⌜ (length (now nums) ≤ 4096) × (length (liveFrom 0 (now nums)) ≤ length (now out)) ⌝ }
+    ensures { λ _. ⌜ now (out .exit) ≡ written (handlesIn (now (nums .entry))) (now (out .entry)) ⌝ }
+{
+    let mut k = 0;
+    let mut i = 0;
+    while i < nums.len() {
+        let row = nums[i];
+        if is_live(row) {
+            out[k] = [i as u32, row[0]];
+            k += 1;
+        }
+        i += 1;
+    }
+}
+
+// Every live slot is emptied.
+pub fn empty_slots(nums: &mut [[u32; 4]], map: &mut [u64])
+    requires { ⌜ length (now map) ≡ 3 + wordsFor (length (now nums)) ⌝ }
+    ensures nums { λ _. ⌜ now (nums .exit) ≡ clearedRows (now (nums .entry)) ⌝ }
+    ensures map { λ _. ⌜ now (map .exit) ≡ clearedMap 0 (now (nums .entry)) (now (map .entry)) ⌝ }
+{
+    let mut i = 0;
+    while i < nums.len() {
+        let row = nums[i];
+        if is_live(row) {
+            slots::empty(nums, map, i);
+        }
+        i += 1;
+    }
+}
