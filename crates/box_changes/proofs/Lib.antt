@@ -1,0 +1,4 @@
+-- What the proofs of box_changes share.
+mod Answers
+mod Shifted
+mod Taken

@@ -1,0 +1,182 @@
+-- `box_changes::placing::answer` meets its contract. Assumes nothing.
+use mathlib.Core.Path.{sym, ap, subst, _∙_}
+use native.Mathlib.Omega.{arith}
+use lib.Dec.{T}
+use borrow.Author.Tests.{not-true, not-false}
+use borrow.Author.Needs.{needs}
+use Rattle.basics.specs.Says.{says-t}
+use Rattle.geometry.specs.declared.Aabb.{Aabb}
+use Rattle.geometry.specs.Domain.{aabbInDomain}
+use Rattle.box_tables.specs.Tables.{Tables, tables, sizeOf, aabbAt, covers}
+use Rattle.box_changes.proofs.Answers.{holding, answer-3, answer-6, answer-5, slot-inside, old-inside, answer-7, used-small, room-small, answer-8, answer-0}
+use Rattle.box_changes.proofs.placing.answer.Statement.{statement}
+use Rattle.box_changes.proofs.placing.answer.Tie as tie
+
+-- the tables at entry
+abbrev at-entry : tie.Start → Tables
+at-entry c = tables (c .args .nums .now) (c .args .reals .now) (c .args .map .now) (c .args .pool .now)
+
+returns : tie.Need-returns
+returns c = let s = c .before .before in answer-3 (at-entry s) (s .args .h) (s .args .b) (s .args .held) (s .pre) (not-true _ (c .if1 .taken))
+
+returns-2 : tie.Need-returns-2
+returns-2 c =
+    let d = c .before in
+    let i1 = d .before in
+    let s = i1 .before .before in
+    answer-6 (at-entry s) (s .args .h) (s .args .b) (s .args .held) (s .pre) (not-false _ (i1 .if1 .left)) (sym (d .aabb-in-domain .ensures) ∙ not-true _ (c .if2 .taken))
+
+returns-3 : tie.Need-returns-3
+returns-3 c =
+    let g = c .before in
+    let i2 = g .before in
+    let d = i2 .before in
+    let i1 = d .before in
+    let s = i1 .before .before in
+    answer-5 (at-entry s) (s .args .h) (s .args .b) (s .args .held) (s .pre) (not-false _ (i1 .if1 .left)) (sym (d .aabb-in-domain .ensures) ∙ not-false _ (i2 .if2 .left)) (sym (g .is-good .ensures) ∙ not-true _ (c .if3 .taken))
+
+shared-slice-read-covers : tie.Need-shared-slice-read-covers
+shared-slice-read-covers c =
+    let i1 = c .before .before .before .before .before in
+    let s = i1 .before .before in
+    omega (arith, holding (at-entry s) (s .args .h) (s .args .b) (s .args .held) (s .pre) (not-false _ (i1 .if1 .left)) .sized .of-map)
+
+covers-requires : tie.Need-covers-requires
+covers-requires c κs =
+    let i2 = c .before .before .before in
+    let d = i2 .before in
+    let i1 = d .before in
+    let s = i1 .before .before in
+    (holding (at-entry s) (s .args .h) (s .args .b) (s .args .held) (s .pre) (not-false _ (i1 .if1 .left)) .counted .size, says-t _ .yes (sym (d .aabb-in-domain .ensures) ∙ not-false _ (i2 .if2 .left)))
+
+returns-4 : tie.Need-returns-4
+returns-4 c =
+    let v = c .before in
+    let i3 = v .before .before in
+    let g = i3 .before in
+    let i2 = g .before in
+    let d = i2 .before in
+    let i1 = d .before in
+    let s = i1 .before .before in
+    answer-7 (at-entry s) (s .args .h) (s .args .b) (s .args .held) (s .pre) (not-false _ (i1 .if1 .left)) (sym (d .aabb-in-domain .ensures) ∙ not-false _ (i2 .if2 .left)) (sym (g .is-good .ensures) ∙ not-false _ (i3 .if3 .left)) (v .covers .result) (v .covers .ensures) (c .if4 .taken)
+
+load-box-requires : tie.Need-load-box-requires
+load-box-requires c κs =
+    let v = c .before .before in
+    let i3 = v .before .before in
+    let g = i3 .before in
+    let i2 = g .before in
+    let d = i2 .before in
+    let i1 = d .before in
+    let s = i1 .before .before in
+    omega (arith, c .wide .ensures, slot-inside (at-entry s) (s .args .h) (s .args .b) (s .args .held) (s .pre) (not-false _ (i1 .if1 .left)) (sym (d .aabb-in-domain .ensures) ∙ not-false _ (i2 .if2 .left)) (sym (g .is-good .ensures) ∙ not-false _ (i3 .if3 .left)) (v .covers .result) (v .covers .ensures))
+
+shared-slice-read-covers-2 : tie.Need-shared-slice-read-covers-2
+shared-slice-read-covers-2 c =
+    let i1 = c .before .before .before .before .before .before .before .before .before .before in
+    let s = i1 .before .before in
+    omega (arith, holding (at-entry s) (s .args .h) (s .args .b) (s .args .held) (s .pre) (not-false _ (i1 .if1 .left)) .sized .of-map)
+
+covers-requires-2 : tie.Need-covers-requires-2
+covers-requires-2 c κs =
+    let l = c .before in
+    let w = l .before in
+    let v = w .before .before in
+    let i3 = v .before .before in
+    let g = i3 .before in
+    let i2 = g .before in
+    let d = i2 .before in
+    let i1 = d .before in
+    let s = i1 .before .before in
+    (holding (at-entry s) (s .args .h) (s .args .b) (s .args .held) (s .pre) (not-false _ (i1 .if1 .left)) .counted .size, subst (λ (x : Aabb). T (aabbInDomain x)) (sym (l .load-box .ensures ∙ ap (aabbAt (s .args .reals .now)) (w .wide .ensures))) (old-inside (at-entry s) (s .args .h) (s .args .b) (s .args .held) (s .pre) (not-false _ (i1 .if1 .left)) (sym (d .aabb-in-domain .ensures) ∙ not-false _ (i2 .if2 .left)) (sym (g .is-good .ensures) ∙ not-false _ (i3 .if3 .left)) (v .covers .result) (v .covers .ensures)))
+
+shared-slice-read-if5 : tie.Need-shared-slice-read-if5
+shared-slice-read-if5 c =
+    let i1 = c .before .before .before .before .before .before .before .before .before .before .before .before in
+    let s = i1 .before .before in
+    omega (arith, holding (at-entry s) (s .args .h) (s .args .b) (s .args .held) (s .pre) (not-false _ (i1 .if1 .left)) .sized .of-map)
+
+add-if5 : tie.Need-add-if5
+add-if5 c =
+    let o = c .before in
+    let l = o .before .before in
+    let w = l .before in
+    let i4 = w .before in
+    let v = i4 .before in
+    let i3 = v .before .before in
+    let g = i3 .before in
+    let i2 = g .before in
+    let d = i2 .before in
+    let i1 = d .before in
+    let s = i1 .before .before in
+    omega (arith, used-small (at-entry s) (s .args .h) (s .args .b) (s .args .held) (s .pre) (not-false _ (i1 .if1 .left)) (sym (d .aabb-in-domain .ensures) ∙ not-false _ (i2 .if2 .left)) (sym (g .is-good .ensures) ∙ not-false _ (i3 .if3 .left)) (v .covers .result) (v .covers .ensures) (i4 .if4 .left) (o .covers2 .result) (o .covers2 .ensures ∙ ap (λ (x : Aabb). covers (sizeOf (at-entry s)) x) (l .load-box .ensures ∙ ap (aabbAt (s .args .reals .now)) (w .wide .ensures))))
+
+add-if5-2 : tie.Need-add-if5-2
+add-if5-2 c =
+    let o = c .before .before in
+    let l = o .before .before in
+    let w = l .before in
+    let i4 = w .before in
+    let v = i4 .before in
+    let i3 = v .before .before in
+    let g = i3 .before in
+    let i2 = g .before in
+    let d = i2 .before in
+    let i1 = d .before in
+    let s = i1 .before .before in
+    omega (arith, c .word-of .ensures, room-small (at-entry s) (s .args .h) (s .args .b) (s .args .held) (s .pre) (not-false _ (i1 .if1 .left)) (sym (d .aabb-in-domain .ensures) ∙ not-false _ (i2 .if2 .left)) (sym (g .is-good .ensures) ∙ not-false _ (i3 .if3 .left)) (v .covers .result) (v .covers .ensures) (i4 .if4 .left) (o .covers2 .result) (o .covers2 .ensures ∙ ap (λ (x : Aabb). covers (sizeOf (at-entry s)) x) (l .load-box .ensures ∙ ap (aabbAt (s .args .reals .now)) (w .wide .ensures))))
+
+returns-5 : tie.Need-returns-5
+returns-5 c =
+    let z = c .before in
+    let o = z .before .before in
+    let l = o .before .before in
+    let w = l .before in
+    let i4 = w .before in
+    let v = i4 .before in
+    let i3 = v .before .before in
+    let g = i3 .before in
+    let i2 = g .before in
+    let d = i2 .before in
+    let i1 = d .before in
+    let s = i1 .before .before in
+    answer-8 (at-entry s) (s .args .h) (s .args .b) (s .args .held) (s .pre) (not-false _ (i1 .if1 .left)) (sym (d .aabb-in-domain .ensures) ∙ not-false _ (i2 .if2 .left)) (sym (g .is-good .ensures) ∙ not-false _ (i3 .if3 .left)) (v .covers .result) (v .covers .ensures) (i4 .if4 .left) (o .covers2 .result) (o .covers2 .ensures ∙ ap (λ (x : Aabb). covers (sizeOf (at-entry s)) x) (l .load-box .ensures ∙ ap (aabbAt (s .args .reals .now)) (w .wide .ensures))) (omega (arith, z .word-of .ensures, c .if5 .taken))
+
+returns-6 : tie.Need-returns-6
+returns-6 c =
+    let z = c .before in
+    let o = z .before .before in
+    let l = o .before .before in
+    let w = l .before in
+    let i4 = w .before in
+    let v = i4 .before in
+    let i3 = v .before .before in
+    let g = i3 .before in
+    let i2 = g .before in
+    let d = i2 .before in
+    let i1 = d .before in
+    let s = i1 .before .before in
+    answer-0 (at-entry s) (s .args .h) (s .args .b) (s .args .held) (s .pre) (not-false _ (i1 .if1 .left)) (sym (d .aabb-in-domain .ensures) ∙ not-false _ (i2 .if2 .left)) (sym (g .is-good .ensures) ∙ not-false _ (i3 .if3 .left)) (v .covers .result) (v .covers .ensures) (i4 .if4 .left) (o .covers2 .result) (o .covers2 .ensures ∙ ap (λ (x : Aabb). covers (sizeOf (at-entry s)) x) (l .load-box .ensures ∙ ap (aabbAt (s .args .reals .now)) (w .wide .ensures))) (omega (arith, z .word-of .ensures, c .if5 .left))
+
+pub answer-spec : {M : Type 1} → statement M
+answer-spec =
+    tie.close
+    (tie.spec
+    returns
+    (λ c κs. search needs)
+    returns-2
+    (λ c κs. search needs)
+    returns-3
+    shared-slice-read-covers
+    covers-requires
+    returns-4
+    (λ c κs. search needs)
+    load-box-requires
+    shared-slice-read-covers-2
+    covers-requires-2
+    shared-slice-read-if5
+    add-if5
+    (λ c κs. search needs)
+    add-if5-2
+    returns-5
+    returns-6)

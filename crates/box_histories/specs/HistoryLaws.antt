@@ -1,0 +1,94 @@
+-- Tables built and changed only by these calls always hold a box grid, and the number of objects is that of the accepted inserts less the
+-- objects taken out. Assumes nothing.
+use Prim.Native.Nat.{ℕ, zero, suc, _+_, _<_}
+use mathlib.Core.Path.{_≡_, refl, sym, ap, _∙_}
+use mathlib.Core.Bool.{Bool, true, false}
+use mathlib.Core.List.{List, [], _∷_}
+use native.Mathlib.Omega.{arith}
+use lib.Dec.{eqb}
+use lib.Ieee.{Float}
+use lib.ListN.{length}
+use borrow.Author.Tests.{eqb-true, eqb-false, ne-eqb}
+use Rattle.basics.specs.Refusals.{pick}
+use Rattle.basics.specs.Counting.{one, countBelow}
+use Rattle.cells.specs.Size.{SizeInDomain}
+use Rattle.slots.specs.Slot.{live, phaseAt}
+use Rattle.slot_walks.specs.Live.{liveAt}
+use Rattle.blank.specs.Blank.{blankNums}
+use Rattle.blank.specs.BlankLaws.{blank-not-live}
+use Rattle.box_tables.specs.Tables.{Tables, slotsOf, Sized}
+use Rattle.box_tables.specs.Holds.{Holds}
+use Rattle.box_tables.specs.Decide.{holds, holds-says}
+use Rattle.box_inserts.specs.New.{built}
+use Rattle.box_inserts.specs.NewLaws.{built-holds}
+use Rattle.box_inserts.specs.InsertLaws.{insert-holds, insert-count}
+use Rattle.box_inserts.specs.LiveLaws.{liveCount}
+use Rattle.box_changes.specs.SetAabbLaws.{set-aabb-holds, set-live}
+use Rattle.box_changes.specs.RemoveLaws.{remove-holds, remove-live}
+use Rattle.box_reads.specs.Reads.{lenOf}
+use Rattle.box_reads.specs.ReadsLaws.{len-counts}
+use Rattle.box_reads.specs.Clear.{clearOf}
+use Rattle.box_reads.specs.ClearLaws.{clear-refused, clear-none, clear-holds, clear-counts}
+use Rattle.box_histories.specs.History.{Op, insert, setAabb, remove, clear, after, afterAll, accepted, putIn, takenOut, allIn, allOut}
+
+-- ---- every call keeps the tables holding a grid
+pub after-holds : (t : Tables) (o : Op) → Holds t → Holds (after t o)
+unfolding after
+after-holds t (insert b d) h = insert-holds t b d h
+after-holds t (setAabb g b) h = set-aabb-holds t g b h
+after-holds t (remove g) h = remove-holds t g h
+after-holds t (clear bs os) h = clear-holds t bs os h
+
+pub all-hold : (t : Tables) (os : List Op) → Holds t → Holds (afterAll t os)
+unfolding afterAll
+all-hold t [] h = h
+all-hold t (o ∷ os) h = all-hold (after t o) os (after-holds t o h)
+
+-- ---- no slot live, none counted
+none-live : (nums : List (List ℕ)) (k : ℕ) → ((s : ℕ) → s < k → phaseAt nums s ≡ live → ⊥) → countBelow (liveAt nums) k ≡ 0
+unfolding countBelow
+none-live nums zero n = refl
+none-live nums (suc k) n = omega (arith, none-live nums k (λ s l. n s (omega arith)), ap one (ne-eqb (phaseAt nums k) live (n k (omega arith))))
+
+module _ (t : Tables) (h : Holds t) where
+  cleared-live : (bs : List (List Float)) (os : List ℕ) → liveCount (clearOf t bs os .after) + accepted (clearOf t bs os .result .returned .answer) (clearOf t bs os .result .returned .count) ≡ liveCount t
+  cleared-live bs os = go (eqb (clearOf t bs os .result .returned .answer) 0) refl
+    where
+      go : (b : Bool) → eqb (clearOf t bs os .result .returned .answer) 0 ≡ b → liveCount (clearOf t bs os .after) + pick (eqb (clearOf t bs os .result .returned .answer) 0) (clearOf t bs os .result .returned .count) 0 ≡ liveCount t
+      go true e =
+          rw e
+          (unfold liveCount in
+          omega (arith, clear-counts t bs os h, none-live (clearOf t bs os .after .nums) (slotsOf (clearOf t bs os .after)) (λ s l. clear-none t bs os (eqb-true _ _ e) s)))
+      go false e = rw e (omega (arith, ap (λ w. liveCount (w .after)) (clear-refused t bs os (eqb-false _ _ e))))
+
+  -- ---- one call
+  pub one-length : (o : Op) → liveCount (after t o) + takenOut t o ≡ liveCount t + putIn t o
+  unfolding after takenOut putIn
+  one-length (insert b d) = omega (arith, insert-count t b d h)
+  one-length (setAabb g b) = omega (arith, set-live t g b)
+  one-length (remove g) = omega (arith, remove-live t g)
+  one-length (clear bs os) = omega (arith, cleared-live bs os)
+
+-- ---- and any history
+pub all-length : (t : Tables) (os : List Op) → Holds t → liveCount (afterAll t os) + allOut t os ≡ liveCount t + allIn t os
+unfolding afterAll allOut allIn
+all-length t [] h = omega arith
+all-length t (o ∷ os) h = omega (arith, one-length t h o, all-length (after t o) os (after-holds t o h))
+
+none-yet : (t : Tables) (size : ℕ) → liveCount (built t size) ≡ 0
+unfolding liveCount built
+none-yet t size = none-live (blankNums (slotsOf t)) (length (blankNums (slotsOf t))) (blank-not-live (slotsOf t) size)
+
+-- since building: `len` answers 0 with the accepted inserts less the objects taken out
+pub len-since-new : (t : Tables) (size : ℕ) (os : List Op) → Sized t → SizeInDomain size
+    → (lenOf (afterAll (built t size) os) .answer ≡ 0) × (lenOf (afterAll (built t size) os) .count + allOut (built t size) os ≡ allIn (built t size) os)
+unfolding liveCount
+len-since-new t size os z d =
+    let h = built-holds t size z d in
+    let k = all-hold (built t size) os h in
+    let e = len-counts (afterAll (built t size) os) k in
+    (ap (λ c. c .answer) e, omega (arith, ap (λ c. c .count) e, all-length (built t size) os h, none-yet t size))
+
+-- tables built and changed only by these calls are never refused as not holding a grid
+pub always-held : (t : Tables) (size : ℕ) (os : List Op) → Sized t → SizeInDomain size → holds (afterAll (built t size) os) ≡ true
+always-held t size os z d = holds-says (afterAll (built t size) os) .no (all-hold (built t size) os (built-holds t size z d))

@@ -1,0 +1,3 @@
+-- Histories of the calls that change a box grid, and what holds after any of them.
+pub mod History
+pub mod HistoryLaws

@@ -1,0 +1,1 @@
+// Statements over histories of the box grid's calls: they are in specs/, and no code is needed for them.

@@ -1,0 +1,84 @@
+-- An insert by its answer: what holds where it is 0, and its outcome either way. Assumes nothing.
+use Prim.Native.Nat.{ℕ, _+_, _<_, _≤_}
+use mathlib.Core.Path.{_≡_, refl, sym, _∙_, ap}
+use mathlib.Core.Bool.{Bool, true, false}
+use mathlib.Core.List.{List}
+use native.Mathlib.Omega.{arith}
+use lib.Dec.{leb}
+use lib.ListN.{getD}
+use borrow.Author.Tests.{ne-eqb, le-leb, lt-leb}
+use Rattle.basics.specs.Says.{says-t}
+use Rattle.basics.specs.Refusals.{orElse}
+use Rattle.geometry.specs.Domain.{aabbInDomain}
+use Rattle.geometry.specs.declared.Aabb.{Aabb}
+use Rattle.slots.specs.declared.Usable.{Usable}
+use Rattle.slots.specs.declared.Usable.the-variants.{At, Nothing}
+use Rattle.slots.specs.Map.{lowestUsable, isSome}
+use Rattle.slots.specs.Slot.{versionAt}
+use Rattle.slots.specs.SlotLaws.{lowest-free}
+use Rattle.box_tables.specs.Tables.{Tables, sizeOf, slotsOf, covers}
+use Rattle.box_tables.specs.Decide.{holds, holds-says}
+use Rattle.box_tables.specs.Outcome.{outcome}
+use Rattle.replies.specs.declared.Inserted.{Inserted}
+use Rattle.replies.specs.Replies.{inserted}
+use Rattle.box_inserts.specs.Insert.{usableSlot, put, fewCells, hasRoom, insertAnswer, insertOf}
+use Rattle.box_inserts.specs.Fresh.{answerBy, Ready, Fresh}
+use Rattle.box_inserts.specs.InsertLaws.{few-says, room-says, insert-done}
+
+-- ---- the choice, test by test
+module _ (held : Bool) (b : Aabb) (m : List ℕ) (n room : ℕ) where
+  abbrev pub Chose : ℕ → ℕ → Type 0
+  Chose a s = (a ≡ answerBy held (aabbInDomain b) (fewCells (getD m 0 0) b) (lowestUsable m n) (leb (getD m 1 0 + covers (getD m 0 0) b) room)) × (a ≡ 0 → lowestUsable m n ≡ At s)
+
+  pub chose-3 : held ≡ false → Chose 3 0
+  chose-3 e = (rw e, λ q. absurd (omega arith))
+
+  pub chose-6 : held ≡ true → aabbInDomain b ≡ false → Chose 6 0
+  chose-6 e f = (rw (e, f), λ q. absurd (omega arith))
+
+  module _ (e : held ≡ true) (f : aabbInDomain b ≡ true) (k : ℕ) (ek : k ≡ covers (getD m 0 0) b) where
+    pub chose-7 : 4096 < k → Chose 7 0
+    chose-7 l =
+        let w : fewCells (getD m 0 0) b ≡ false = lt-leb (covers (getD m 0 0) b) 4096 (omega arith) in
+        (rw (e, f, w), λ q. absurd (omega arith))
+
+    pub chose-slot : k ≤ 4096 → (u : Usable) (fits : Bool) → u ≡ lowestUsable m n → fits ≡ leb (getD m 1 0 + k) room → (a s : ℕ) → (a ≡ orElse (isSome u) 4 (orElse fits 8 0)) × (a ≡ 0 → u ≡ At s) → Chose a s
+    chose-slot l u fits eu ef a s h =
+        let w : fewCells (getD m 0 0) b ≡ true = le-leb (covers (getD m 0 0) b) 4096 (omega arith) in
+        let g : fits ≡ leb (getD m 1 0 + covers (getD m 0 0) b) room = ef ∙ ap (λ (j : ℕ). leb (getD m 1 0 + j) room) ek in
+        (rw (e, f, w, ← eu, ← g) (h .0), λ q. sym eu ∙ h .1 q)
+
+all-passed : (a b c : Bool) (u : Usable) (d : Bool) → answerBy a b c u d ≡ 0 → (a ≡ true) × (b ≡ true) × (c ≡ true) × (d ≡ true)
+all-passed true true true (At s) true e = (refl, refl, refl, refl)
+all-passed true true true (At s) false e = absurd (omega arith)
+all-passed true true true Nothing d e = absurd (omega arith)
+all-passed true true false u d e = absurd (omega arith)
+all-passed true false c u d e = absurd (omega arith)
+all-passed false b c u d e = absurd (omega arith)
+
+module _ (t : Tables) (b : Aabb) (d : ℕ) (held : Bool) (eh : held ≡ holds t) where
+  -- what `choose` asks
+  pub choose-asks : held ≡ true → Ready (t .nums) (t .map)
+  choose-asks e =
+      let h = holds-says t .yes (sym eh ∙ e) in
+      record { most = h .sized .most; of-map = h .sized .of-map; none-past = h .slots .past; size = h .counted .size; used = omega (arith, h .counted .used-most, h .sized .pool-most) }
+
+  module _ (a : ℕ) (ea : a ≡ answerBy held (aabbInDomain b) (fewCells (sizeOf t) b) (lowestUsable (t .map) (slotsOf t)) (hasRoom t b)) where
+    answer-is : a ≡ insertAnswer t b
+    unfolding insertAnswer
+    answer-is = rw (ea, eh)
+
+    pub refused : (a ≡ 0 → ⊥) → (r : Inserted) → r ≡ inserted a 0 0 → outcome r t ≡ insertOf t b d
+    unfolding insertOf
+    refused n r q = rw (q, ← answer-is, ne-eqb a 0 n)
+
+    module _ (z : a ≡ 0) (s : ℕ) (u : usableSlot t ≡ At s) where
+      pub chosen : Fresh t s b
+      chosen =
+          let k = all-passed held (aabbInDomain b) (fewCells (sizeOf t) b) (lowestUsable (t .map) (slotsOf t)) (hasRoom t b) (sym ea ∙ z) in
+          let h = holds-says t .yes (sym eh ∙ k .0) in
+          let f = lowest-free (t .nums) (t .map) (h .slots) s u in
+          record { holds = h; inside = f .0; is-free = f .1; in-domain = says-t (aabbInDomain b) .yes (k .1); few = few-says t b .yes (k .2); room = room-says t b .yes (k .3) }
+
+      pub done : (r : Inserted) (w : Tables) → r ≡ inserted 0 s (versionAt (t .nums) s) → w ≡ put t s b d → outcome r w ≡ insertOf t b d
+      done r w e q = rw (e, q) (sym (insert-done t b d s (chosen .holds) (chosen .in-domain) (chosen .few) u (chosen .room)))

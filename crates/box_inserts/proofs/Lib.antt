@@ -1,0 +1,4 @@
+-- What the proofs of box_inserts share.
+mod Built
+mod Placed
+mod Chosen

@@ -1,0 +1,87 @@
+-- `box_inserts::inserting::choose` meets its contract. Assumes nothing.
+use Prim.Native.Nat.{ℕ}
+use mathlib.Core.Path.{sym, _∙_, ap}
+use native.Mathlib.Omega.{arith}
+use lib.Dec.{leb}
+use lib.ListN.{length}
+use borrow.Author.Tests.{not-true, not-false}
+use borrow.Author.Needs.{needs}
+use Rattle.basics.specs.Says.{says-t}
+use Rattle.box_tables.specs.declared.Span.{Span}
+use Rattle.box_inserts.proofs.Chosen.{chose-3, chose-6, chose-7, chose-slot}
+use Rattle.box_inserts.proofs.inserting.choose.Statement.{statement}
+use Rattle.box_inserts.proofs.inserting.choose.Tie as tie
+
+returns : tie.Need-returns
+returns c =
+    let a = c .before .before .args in
+    chose-3 (a .held) (a .b) (a .map .now) (length (a .nums .now)) (a .room) (not-true _ (c .if1 .taken))
+
+returns-2 : tie.Need-returns-2
+returns-2 c =
+    let e = c .before .before in
+    let a = e .before .before .args in
+    chose-6 (a .held) (a .b) (a .map .now) (length (a .nums .now)) (a .room) (not-false _ (e .if1 .left)) (sym (c .before .aabb-in-domain .ensures) ∙ not-true _ (c .if2 .taken))
+
+shared-slice-read-span-of : tie.Need-shared-slice-read-span-of
+shared-slice-read-span-of c =
+    let e = c .before .before .before in
+    omega (arith, e .before .before .pre (not-false _ (e .if1 .left)) .of-map)
+
+span-of-requires : tie.Need-span-of-requires
+span-of-requires c κs =
+    let e = c .before .before .before in
+    (e .before .before .pre (not-false _ (e .if1 .left)) .size, says-t _ .yes (sym (c .before .before .aabb-in-domain .ensures) ∙ not-false _ (c .before .if2 .left)))
+
+returns-3 : tie.Need-returns-3
+returns-3 c =
+    let p = c .before in
+    let d = p .before .before .before in
+    let e = d .before in
+    let a = e .before .before .args in
+    chose-7 (a .held) (a .b) (a .map .now) (length (a .nums .now)) (a .room) (not-false _ (e .if1 .left)) (sym (d .aabb-in-domain .ensures) ∙ not-false _ (p .before .before .if2 .left))
+    _ (ap (λ (q : Span). q .cells) (p .span-of .ensures)) (c .if3 .taken)
+
+lowest-requires : tie.Need-lowest-requires
+lowest-requires c κs =
+    let e = c .before .before .before .before .before in
+    let r = e .before .before .pre (not-false _ (e .if1 .left)) in
+    (r .of-map, omega (arith, r .most), r .none-past)
+
+shared-slice-read-index-of : tie.Need-shared-slice-read-index-of
+shared-slice-read-index-of c =
+    let e = c .before .before .before .before .before .before .before in
+    omega (arith, e .before .before .pre (not-false _ (e .if1 .left)) .of-map)
+
+add-index-of : tie.Need-add-index-of
+add-index-of c =
+    let e = c .before .before .before .before .before .before .before in
+    omega (arith, e .before .before .pre (not-false _ (e .if1 .left)) .used)
+
+returns-4 : tie.Need-returns-4
+returns-4 c =
+    let i = c .before in
+    let l = i .before .before in
+    let p = l .before .before in
+    let d = p .before .before .before in
+    let e = d .before in
+    let a = e .before .before .args in
+    chose-slot (a .held) (a .b) (a .map .now) (length (a .nums .now)) (a .room) (not-false _ (e .if1 .left)) (sym (d .aabb-in-domain .ensures) ∙ not-false _ (p .before .before .if2 .left))
+    _ (ap (λ (q : Span). q .cells) (p .span-of .ensures)) (l .before .if3 .left) _ _ (l .lowest .ensures) (ap (λ (j : ℕ). leb j (a .room)) (i .index-of .ensures)) _ _ (c .slot-for .ensures)
+
+pub choose-spec : {M : Type 1} → statement M
+choose-spec =
+    tie.close
+    (tie.spec
+    returns
+    (λ c κs. search needs)
+    returns-2
+    shared-slice-read-span-of
+    span-of-requires
+    returns-3
+    lowest-requires
+    shared-slice-read-index-of
+    add-index-of
+    (λ c κs. search needs)
+    (λ c κs. search needs)
+    returns-4)

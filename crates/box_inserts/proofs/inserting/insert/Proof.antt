@@ -1,0 +1,63 @@
+-- `box_inserts::inserting::insert` meets its contract. Assumes nothing.
+use borrow.Author.Needs.{needs}
+use Rattle.box_tables.specs.Tables.{Tables, tables}
+use Rattle.box_inserts.proofs.Chosen.{choose-asks, refused, chosen, done}
+use Rattle.box_inserts.proofs.inserting.insert.Statement.{statement}
+use Rattle.box_inserts.proofs.inserting.insert.Tie as tie
+
+-- the tables at entry
+abbrev at-entry : tie.Start → Tables
+at-entry c = tables (c .args .nums .now) (c .args .reals .now) (c .args .map .now) (c .args .pool .now)
+
+choose-requires : tie.Need-choose-requires
+choose-requires c κs =
+    let s = c .before .before .before in
+    choose-asks (at-entry s) (s .args .b) (s .args .obj) (s .args .held) (s .pre)
+
+returns : tie.Need-returns
+returns c =
+    let k = c .before .before in
+    let s = k .before .before .before .before in
+    refused (at-entry s) (s .args .b) (s .args .obj) (s .args .held) (s .pre) (k .choose .result .answer) (k .choose .ensures .0) (c .before .if1 .taken) (c .refused .result) (c .refused .ensures)
+
+accepted-requires : tie.Need-accepted-requires
+accepted-requires c κs =
+    let l = c .before in
+    let k = l .before in
+    let s = k .before .before .before .before in
+    let f = chosen (at-entry s) (s .args .b) (s .args .obj) (s .args .held) (s .pre) (k .choose .result .answer) (k .choose .ensures .0) (l .if1 .left) (k .choose .result .slot) (k .choose .ensures .1 (l .if1 .left)) in
+    (f .inside, f .holds .sized .most)
+
+put-requires : tie.Need-put-requires
+put-requires c κs =
+    let l = c .before .before .before .before .before .before in
+    let k = l .before in
+    let s = k .before .before .before .before in
+    chosen (at-entry s) (s .args .b) (s .args .obj) (s .args .held) (s .pre) (k .choose .result .answer) (k .choose .ensures .0) (l .if1 .left) (k .choose .result .slot) (k .choose .ensures .1 (l .if1 .left))
+
+returns-2 : tie.Need-returns-2
+returns-2 c =
+    let p = c .before .before .before .before .before in
+    let w = p .before .before .before .before .before in
+    let l = w .before .before in
+    let k = l .before in
+    let s = k .before .before .before .before in
+    done (at-entry s) (s .args .b) (s .args .obj) (s .args .held) (s .pre) (k .choose .result .answer) (k .choose .ensures .0) (l .if1 .left) (k .choose .result .slot) (k .choose .ensures .1 (l .if1 .left))
+    (w .accepted .result) _ (w .accepted .ensures) (p .put .ensures)
+
+pub insert-spec : {M : Type 1} → statement M
+insert-spec =
+    tie.close
+    (tie.spec
+    choose-requires
+    (λ c κs. search needs)
+    (λ c. search needs)
+    (λ c. search needs)
+    returns
+    accepted-requires
+    put-requires
+    (λ c. search needs)
+    (λ c. search needs)
+    (λ c. search needs)
+    (λ c. search needs)
+    returns-2)

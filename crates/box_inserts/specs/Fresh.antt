@@ -1,0 +1,37 @@
+-- What the steps of an insert are asked for and give. Assumes nothing.
+use Prim.Native.Nat.{ℕ, _+_, _<_, _≤_}
+use mathlib.Core.Path.{_≡_}
+use mathlib.Core.Bool.{Bool}
+use mathlib.Core.List.{List}
+use lib.Dec.{T}
+use lib.ListN.{length, getD}
+use Rattle.basics.specs.Refusals.{orElse}
+use Rattle.geometry.specs.declared.Aabb.{Aabb}
+use Rattle.geometry.specs.Domain.{aabbInDomain}
+use Rattle.cells.specs.Size.{SizeInDomain}
+use Rattle.slots.specs.declared.Usable.{Usable}
+use Rattle.slots.specs.Map.{head, wordsFor, isSome, NonePast}
+use Rattle.slots.specs.Slot.{free, phaseAt}
+use Rattle.box_tables.specs.Tables.{Tables, sizeOf, usedOf, slotsOf, covers, mostCells}
+use Rattle.box_tables.specs.Holds.{Holds}
+
+-- the answer by the five tests
+abbrev pub answerBy : Bool → Bool → Bool → Usable → Bool → ℕ
+answerBy held inside few u room = orElse held 3 (orElse inside 6 (orElse few 7 (orElse (isSome u) 4 (orElse room 8 0))))
+
+-- what the choice of a slot reads of tables that hold a grid
+pub record Ready (nums : List (List ℕ)) (map : List ℕ) : Type 0 where
+  pub most : length nums ≤ 256
+  pub of-map : length map ≡ head + wordsFor (length nums)
+  pub none-past : NonePast map (length nums)
+  pub size : SizeInDomain (getD map 0 0)
+  pub used : getD map 1 0 ≤ 8192
+
+-- tables that hold a grid, a slot that is free, and a box that there is room for
+pub record Fresh (t : Tables) (s : ℕ) (b : Aabb) : Type 0 where
+  pub holds : Holds t
+  pub inside : s < slotsOf t
+  pub is-free : phaseAt (t .nums) s ≡ free
+  pub in-domain : T (aabbInDomain b)
+  pub few : covers (sizeOf t) b ≤ mostCells
+  pub room : usedOf t + covers (sizeOf t) b ≤ length (t .pool)

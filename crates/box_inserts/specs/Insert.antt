@@ -1,0 +1,56 @@
+-- `insert`: the lowest usable slot takes the box, which goes to the end of the list of every cell that it covers. Assumes nothing.
+use Prim.Native.Nat.{ℕ, _+_}
+use mathlib.Core.List.{List, [], _∷_}
+use mathlib.Core.Bool.{Bool}
+use lib.Dec.{eqb, leb}
+use lib.Ieee.{Float}
+use lib.ListN.{length, set}
+use Rattle.basics.specs.Refusals.{unless, firstOf, pick}
+use Rattle.geometry.specs.Domain.{aabbInDomain}
+use Rattle.geometry.specs.declared.Aabb.{Aabb}
+use Rattle.slots.specs.declared.Usable.{Usable}
+use Rattle.slots.specs.Map.{taken, lowestUsable, isSome, slotIn}
+use Rattle.slots.specs.Slot.{live, versionAt}
+use Rattle.storage.specs.Keyed.{written}
+use Rattle.coverage.specs.Coverage.{entered}
+use Rattle.box_tables.specs.Tables.{Tables, tables, sizeOf, usedOf, counting, slotsOf, entriesIn, lowCell, highCell, covers, mostCells, itemFor, cornersOf}
+use Rattle.box_tables.specs.Decide.{holds}
+use Rattle.box_tables.specs.Outcome.{Outcome, outcome}
+use Rattle.replies.specs.declared.Inserted.{Inserted}
+use Rattle.replies.specs.Replies.{inserted}
+
+abbrev pub usableSlot : Tables → Usable
+usableSlot t = lowestUsable (t .map) (slotsOf t)
+
+-- box b of slot s appended to the list of every cell that it covers
+abbrev pub enteredBy : ℕ → ℕ → Aabb → List (List ℕ) → List (List ℕ)
+enteredBy size s b rows = entered (lowCell size b) (highCell size b) (itemFor size s b) rows
+
+abbrev pub entriesWith : Tables → ℕ → Aabb → List (List ℕ)
+entriesWith t s b = enteredBy (sizeOf t) s b (entriesIn t)
+
+-- the slot keeps its version
+unfoldable pub put : Tables → ℕ → Aabb → ℕ → Tables
+put t s b d =
+    tables (set (t .nums) s (versionAt (t .nums) s ∷ live ∷ d ∷ 0 ∷ [])) (set (t .reals) s (cornersOf b))
+    (counting (taken (t .map) s) (usedOf t + covers (sizeOf t) b))
+    (written (entriesWith t s b) (t .pool))
+
+-- whether the box covers few enough cells, and whether the pool has room for its entries
+abbrev pub fewCells : ℕ → Aabb → Bool
+fewCells size b = leb (covers size b) mostCells
+
+abbrev pub hasRoom : Tables → Aabb → Bool
+hasRoom t b = leb (usedOf t + covers (sizeOf t) b) (length (t .pool))
+
+unfoldable pub insertAnswer : Tables → Aabb → ℕ
+insertAnswer t b =
+    firstOf (unless (holds t) 3 ∷ unless (aabbInDomain b) 6 ∷ unless (fewCells (sizeOf t) b) 7 ∷ unless (isSome (usableSlot t)) 4 ∷ unless (hasRoom t b) 8 ∷ [])
+
+unfoldable pub insertOf : Tables → Aabb → ℕ → Outcome Inserted
+unfolding insertAnswer put
+insertOf t b d =
+    let s = slotIn (usableSlot t) in
+    pick (eqb (insertAnswer t b) 0)
+    (outcome (inserted 0 s (versionAt (t .nums) s)) (put t s b d))
+    (outcome (inserted (insertAnswer t b) 0 0) t)

@@ -1,0 +1,173 @@
+// `insert`: the lowest usable slot takes the box, which goes to the end of the list of every cell that it covers.
+ghost use mathlib.Core.Path.{_≡_};
+ghost use mathlib.Core.Bool.{true};
+ghost use mathlib.Core.List.{[], _∷_};
+ghost use Prim.Native.Nat.{_+_, _/_, _≤_, _<_};
+ghost use lib.Dec.{leb};
+ghost use lib.ListN.{length, getD, set};
+ghost use Rattle.basics.specs.Refusals.{orElse};
+ghost use Rattle.geometry.specs.Domain.{aabbInDomain};
+ghost use Rattle.slots.specs.declared.Usable.the-variants.{At};
+ghost use Rattle.slots.specs.Map.{taken, lowestUsable, isSome};
+ghost use Rattle.slots.specs.Slot.{live, versionAt};
+ghost use Rattle.box_tables.specs.Tables.{counting, covers, cornersOf};
+ghost use Rattle.box_tables.specs.Decide.{holds};
+ghost use Rattle.box_tables.specs.Lent.{lent};
+ghost use Rattle.box_tables.specs.Outcome.{outcome};
+ghost use Rattle.box_inserts.specs.Insert as Insert;
+ghost use Rattle.box_inserts.specs.Insert.{fewCells, insertOf};
+ghost use Rattle.box_inserts.specs.Fresh.{answerBy, Ready, Fresh};
+ghost use Rattle.replies.specs.Replies.{inserted};
+use geometry::Aabb;
+use replies::Inserted;
+use slots::Handle;
+use slots::Usable;
+
+// The answer, and where it is 0 the slot.
+struct Choice {
+    answer: u32,
+    slot: usize,
+}
+
+// The slot that there is, if the pool has room.
+fn slot_for(u: Usable, fits: bool) -> Choice
+    ensures { λ r. ⌜ (r .answer ≡ orElse (isSome u) 4 (orElse fits 8 0)) × (r .answer ≡ 0 → u ≡ At (r .slot)) ⌝ }
+{
+    match u {
+        Usable::At(s) => {
+            if fits {
+                Choice { answer: 0, slot: s }
+            } else {
+                Choice { answer: 8, slot: 0 }
+            }
+        }
+        Usable::Nothing => Choice { answer: 4, slot: 0 },
+    }
+}
+
+// The first refusal that applies, or the lowest usable slot. The pool has `room` entries.
+fn choose(nums: &[[u32; 4]], map: &[u64], room: usize, held: bool, b: Aabb) -> Choice
+    requires { ⌜ (held ≡ true → Ready (now nums) (now map)) ⌝ }
+    ensures { λ r. ⌜ (r .answer ≡ answerBy held (aabbInDomain b) (fewCells (getD (now (map .entry)) 0 0) b) (lowestUsable (now (map .entry)) (length (now (nums .entry)))) (leb (getD (now (map .entry)) 1 0 + covers (getD (now (map .entry)) 0 0) b) room)) × (r .answer ≡ 0 → lowestUsable (now (map .entry)) (length (now (nums .entry))) ≡ At (r .slot)) ⌝ }
+{
+    if !held {
+        return Choice { answer: 3, slot: 0 };
+    }
+    if !geometry::aabb_in_domain(b) {
+        return Choice { answer: 6, slot: 0 };
+    }
+    let p = box_tables::span_of(map[0], b);
+    let n = p.cells;
+    if n > 4096 {
+        return Choice { answer: 7, slot: 0 };
+    }
+    let u = slots::lowest(map, nums.len());
+    let fits = basics::index_of(map[1] + n) <= room;
+    slot_for(u, fits)
+}
+
+// A refusal returns zeros.
+fn refused(answer: u32) -> Inserted
+    ensures { λ r. ⌜ r ≡ inserted answer 0 0 ⌝ }
+{
+    Inserted {
+        answer,
+        handle: Handle {
+            slot: 0,
+            version: 0,
+        },
+    }
+}
+
+// The object is in slot s, at the version that the slot has.
+fn accepted(nums: &[[u32; 4]], s: usize) -> Inserted
+    requires { ⌜ (s < length (now nums)) × (length (now nums) ≤ 256) ⌝ }
+    ensures { λ r. ⌜ r ≡ inserted 0 s (versionAt (now (nums .entry)) s) ⌝ }
+{
+    let row = nums[s];
+    let version = row[0];
+    Inserted {
+        answer: 0,
+        handle: Handle {
+            slot: s as u32,
+            version,
+        },
+    }
+}
+
+// Slot s takes the object: its version stays.
+fn occupy(nums: &mut [[u32; 4]], s: usize, obj: u32)
+    requires { ⌜ s < length (now nums) ⌝ }
+    ensures { λ _. ⌜ now (nums .exit) ≡ set (now (nums .entry)) s (versionAt (now (nums .entry)) s ∷ live ∷ obj ∷ 0 ∷ []) ⌝ }
+{
+    let row = nums[s];
+    nums[s] = [row[0], 1, obj, 0];
+}
+
+// The row of slot s has the corners of b.
+pub fn store_box(reals: &mut [[f32; 4]], s: usize, b: Aabb)
+    requires { ⌜ s < length (now reals) ⌝ }
+    ensures { λ _. ⌜ now (reals .exit) ≡ set (now (reals .entry)) s (cornersOf b) ⌝ }
+{
+    let ll = b.ll;
+    let ur = b.ur;
+    reals[s] = [ll.x, ll.y, ur.x, ur.y];
+}
+
+// The map has slot s no more, and its head word has the count.
+fn count(map: &mut [u64], s: usize, used: usize)
+    requires { ⌜ 3 + s / 64 < length (now map) ⌝ }
+    ensures { λ _. ⌜ now (map .exit) ≡ counting (taken (now (map .entry)) s) used ⌝ }
+{
+    slots::take(map, s);
+    map[1] = basics::word_of(used);
+}
+
+// Slot s, which is free, takes box b, and the lists of the cells that it covers its entries.
+fn put(
+    nums: &mut [[u32; 4]],
+    reals: &mut [[f32; 4]],
+    map: &mut [u64],
+    pool: &mut [[u64; 2]],
+    s: usize,
+    b: Aabb,
+    obj: u32,
+)
+    requires { ⌜ Fresh (lent nums reals map pool) s b ⌝ }
+    ensures { λ _. ⌜ lent (nums .exit) (reals .exit) (map .exit) (pool .exit) ≡ Insert.put (lent (nums .entry) (reals .entry) (map .entry) (pool .entry)) s b obj ⌝ }
+{
+    let used = basics::index_of(map[1]);
+    let p = box_tables::span_of(map[0], b);
+    let low = p.low;
+    let high = p.high;
+    let n = p.cells;
+    let item = box_tables::item_of(s, n == 1);
+    occupy(nums, s, obj);
+    store_box(reals, s, b);
+    coverage::enter(pool, used, low, high, item);
+    count(map, s, used + basics::index_of(n));
+}
+
+// The caller has checked whether the tables hold a grid, and hands the verdict down as `held`.
+pub fn insert(
+    nums: &mut [[u32; 4]],
+    reals: &mut [[f32; 4]],
+    map: &mut [u64],
+    pool: &mut [[u64; 2]],
+    held: bool,
+    b: Aabb,
+    obj: u32,
+) -> Inserted
+    requires { ⌜ held ≡ holds (lent nums reals map pool) ⌝ }
+    ensures { λ r. ⌜ outcome r (lent (nums .exit) (reals .exit) (map .exit) (pool .exit)) ≡ insertOf (lent (nums .entry) (reals .entry) (map .entry) (pool .entry)) b obj ⌝ }
+{
+    let c = choose(nums, map, pool.len(), held, b);
+    let a = c.answer;
+    if a != 0 {
+        return refused(a);
+    }
+    let s = c.slot;
+    let r = accepted(nums, s);
+    put(nums, reals, map, pool, s, b, obj);
+    r
+}

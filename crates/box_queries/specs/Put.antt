@@ -1,0 +1,15 @@
+-- What is asked of the slots that were found: each has a row. Assumes nothing.
+use Prim.Native.Nat.{ℕ, _<_, _≤_}
+use mathlib.Core.Path.{_≡_}
+use mathlib.Core.List.{List, []}
+use lib.ListN.{length, getD}
+
+-- the first n of an array of 256 are slots of a table of so many rows
+pub record Found (rows : ℕ) (found : List ℕ) (n : ℕ) : Type 0 where
+  pub size : length found ≡ 256
+  pub most : n ≤ 256
+  pub each : (k : ℕ) → k < n → getD found k 0 < rows
+
+-- the data of a slot
+abbrev pub objAt : List (List ℕ) → ℕ → ℕ
+objAt nums s = getD (getD nums s []) 2 0

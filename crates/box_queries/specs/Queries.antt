@@ -1,0 +1,95 @@
+-- `query_broad` and `query`: the boxes of a range of cells, each once, at its first place in the walk; of these `query` keeps those for
+-- which `intersects` holds, the query box first. Assumes nothing.
+use Prim.Native.Nat.{ℕ, min}
+use mathlib.Core.List.{List, [], _∷_, map}
+use lib.Dec.{eqb, leb}
+use lib.Ieee.{Float}
+use lib.ListN.{length}
+use Rattle.basics.specs.Refusals.{unless, firstOf, pick}
+use Rattle.geometry.specs.declared.Aabb.{Aabb}
+use Rattle.geometry.specs.Domain.{aabbInDomain}
+use Rattle.geometry.specs.Intersects.{intersects}
+use Rattle.slots.specs.Slot.{versionAt}
+use Rattle.storage.specs.Keyed.{filter, written}
+use Rattle.storage.specs.Entries.{rowKey}
+use Rattle.storage.specs.Walk.{walked}
+use Rattle.box_tables.specs.Tables.{Tables, sizeOf, entriesIn, aabbAt, aabbOn, objOn, lowCell, highCell, covers, mostCells, slotOf, cornersOf}
+use Rattle.box_tables.specs.Decide.{holds}
+use Rattle.replies.specs.declared.Count.{Count}
+use Rattle.box_queries.specs.Firsts.{firsts}
+use Rattle.replies.specs.Replies.{count}
+
+-- ---- what is found
+-- the entries of the cells of the query box, in range order and then in list order
+unfoldable pub walk : Tables → Aabb → List (List ℕ)
+walk t q = walked rowKey (lowCell (sizeOf t) q) (highCell (sizeOf t) q) (entriesIn t)
+
+-- their slots, each once, at its first place in the walk
+unfoldable pub broad : Tables → Aabb → List ℕ
+unfolding walk
+broad t q = firsts (map slotOf (walk t q))
+
+-- those whose box the query box intersects, in binary32
+unfoldable pub narrow : Tables → Aabb → List ℕ
+unfolding broad
+narrow t q = filter (λ s. intersects q (aabbOn t s)) (broad t q)
+
+-- ---- a finding in the outputs: a row (slot, version), a row of the four numbers of the box, and the data
+abbrev pub handleRow : List (List ℕ) → ℕ → List ℕ
+handleRow nums s = s ∷ versionAt nums s ∷ []
+
+abbrev pub boxRow : List (List Float) → ℕ → List Float
+boxRow reals s = cornersOf (aabbAt reals s)
+
+-- ---- the answer, where `number` are found and the outputs have `room`
+unfoldable pub answerOf : Tables → Aabb → ℕ → ℕ → ℕ
+answerOf t q number room =
+    firstOf (
+    unless (holds t) 3
+    ∷ unless (aabbInDomain q) 6
+    ∷ unless (leb (covers (sizeOf t) q) mostCells) 7
+    ∷ unless (leb number room) 9
+    ∷ []
+    )
+
+-- what a call comes to: what is done at answer 0, and else a refusal, which returns no number but for 9
+abbrev pub settled : {A : Type 0} → ℕ → ℕ → A → (Count → A) → A
+settled a number done refused = pick (eqb a 0) done (refused (count a (pick (eqb a 9) number 0)))
+
+-- ---- `query_broad`: what it returns, and its output after it
+pub record Handles : Type 0 where
+  pub returned : Count
+  pub handles : List (List ℕ)
+
+abbrev pub handlesOf : Count → List (List ℕ) → Handles
+handlesOf c h = record { returned = c; handles = h }
+
+unfoldable pub broadOf : Tables → Aabb → List (List ℕ) → Handles
+unfolding answerOf broad
+broadOf t q handles =
+    let ss = broad t q in
+    settled (answerOf t q (length ss) (length handles)) (length ss)
+    (handlesOf (count 0 (length ss)) (written (map (handleRow (t .nums)) ss) handles))
+    (λ c. handlesOf c handles)
+
+-- ---- `query`
+pub record Findings : Type 0 where
+  pub returned : Count
+  pub handles : List (List ℕ)
+  pub boxes : List (List Float)
+  pub objs : List ℕ
+
+abbrev pub findings : Count → List (List ℕ) → List (List Float) → List ℕ → Findings
+findings c h b o = record { returned = c; handles = h; boxes = b; objs = o }
+
+-- the places of the shortest output
+abbrev pub roomOf : List (List ℕ) → List (List Float) → List ℕ → ℕ
+roomOf handles boxes objs = min (length handles) (min (length boxes) (length objs))
+
+unfoldable pub queryOf : Tables → Aabb → List (List ℕ) → List (List Float) → List ℕ → Findings
+unfolding answerOf narrow
+queryOf t q handles boxes objs =
+    let ss = narrow t q in
+    settled (answerOf t q (length ss) (roomOf handles boxes objs)) (length ss)
+    (findings (count 0 (length ss)) (written (map (handleRow (t .nums)) ss) handles) (written (map (boxRow (t .reals)) ss) boxes) (written (map (objOn t) ss) objs))
+    (λ c. findings c handles boxes objs)

@@ -1,0 +1,55 @@
+// Collecting the slots that the entries of a range name, each once.
+ghost use mathlib.Core.Path.{_≡_};
+ghost use mathlib.Core.List.{map};
+ghost use Prim.Native.Nat.{_+_, _≤_};
+ghost use lib.ListN.{length, take};
+ghost use Rattle.storage.specs.Keyed.{Sorted};
+ghost use Rattle.storage.specs.Entries.{rowKey};
+ghost use Rattle.box_tables.specs.Tables.{slotOf};
+ghost use Rattle.box_queries.specs.Firsts.{firsts};
+ghost use Rattle.box_queries.specs.Marks.{unmarked};
+ghost use Rattle.box_queries.specs.Gather.{Slots, inside, slotsIn};
+ghost use Rattle.box_queries.specs.Collected.{Collected};
+
+// Collects the slots of a stretch that have no mark behind the first n of `found`, and marks them. Returns how many there are then.
+fn gather_run(
+    pool: &[[u64; 2]],
+    from: usize,
+    to: usize,
+    n: usize,
+    marks: &mut [bool; 256],
+    found: &mut [u32; 256],
+) -> usize
+    requires { ⌜ (from ≤ to) × (to ≤ length (now pool)) × Slots (now pool) to × (n + unmarked (now marks) ≤ 256) × (length (now marks) ≡ 256) × (length (now found) ≡ 256) ⌝ }
+    ensures { λ r. ⌜ Collected (now (marks .entry)) (now (found .entry)) n (slotsIn (now (pool .entry)) from to) (now (marks .exit)) (now (found .exit)) r ⌝ }
+{
+    let mut k = n;
+    let mut j = from;
+    while j < to {
+        let row = pool[j];
+        let s = basics::index_of(row[1] / 2);
+        if !marks[s] {
+            found[k] = s as u32;
+            k += 1;
+        }
+        marks[s] = true;
+        j += 1;
+    }
+    k
+}
+
+// One walk of the range from the key `low` to the key `high`: the slots that are met, each at its first place. Returns how many there are.
+pub fn gather(pool: &[[u64; 2]], used: usize, low: u64, high: u64, found: &mut [u32; 256]) -> usize
+    requires { ⌜ (used ≤ length (now pool)) × Sorted rowKey (take used (now pool)) × Slots (now pool) used × (length (now found) ≡ 256) ⌝ }
+    ensures { λ r. ⌜ (r ≤ 256) × (take r (now (found .exit)) ≡ firsts (map slotOf (inside low high (take used (now (pool .entry)))))) × (length (now (found .exit)) ≡ 256) ⌝ }
+{
+    let mut marks: [bool; 256] = [false; 256];
+    let mut n = 0;
+    let mut i = 0;
+    while i < used {
+        let run = storage::next_run(pool, used, i, low, high);
+        n = gather_run(pool, run.from, run.to, n, &mut marks, found);
+        i = run.to;
+    }
+    n
+}

@@ -1,0 +1,27 @@
+// Keeping the boxes that a query box intersects.
+ghost use mathlib.Core.Path.{_≡_};
+ghost use Prim.Native.Nat.{_≤_};
+ghost use lib.ListN.{length, take};
+ghost use Rattle.geometry.specs.Intersects.{intersects};
+ghost use Rattle.storage.specs.Keyed.{filter};
+ghost use Rattle.box_tables.specs.Tables.{aabbAt};
+ghost use Rattle.box_queries.specs.Put.{Found};
+use geometry::Aabb;
+
+// Of the first n slots of `found` those whose box q intersects go to the front, in the same order. Returns how many they are.
+pub fn keep(reals: &[[f32; 4]], q: Aabb, n: usize, found: &mut [u32; 256]) -> usize
+    requires { ⌜ Found (length (now reals)) (now found) n ⌝ }
+    ensures { λ r. ⌜ (r ≤ n) × (take r (now (found .exit)) ≡ filter (λ s. intersects q (aabbAt (now (reals .entry)) s)) (take n (now (found .entry)))) × (length (now (found .exit)) ≡ 256) ⌝ }
+{
+    let mut k = 0;
+    let mut j = 0;
+    while j < n {
+        let s = found[j];
+        if geometry::intersects(q, box_tables::load_box(reals, basics::wide(s))) {
+            found[k] = s;
+            k += 1;
+        }
+        j += 1;
+    }
+    k
+}

@@ -1,0 +1,138 @@
+// The queries of a box grid: `query_broad` and `query`. Each takes the verdict of the check on the tables, `held`.
+ghost use mathlib.Core.Path.{_≡_};
+ghost use Prim.Native.Nat.{min};
+ghost use lib.ListN.{length};
+ghost use Rattle.box_tables.specs.Tables.{tables};
+ghost use Rattle.box_tables.specs.Decide.{holds};
+ghost use Rattle.box_queries.specs.Queries.{handlesOf, broadOf, findings, queryOf};
+ghost use Rattle.box_queries.specs.Look.{Looked};
+ghost use Rattle.replies.specs.Replies.{count};
+
+mod gather;
+mod keep;
+mod put;
+
+use box_tables::span_of;
+use cells::key_of;
+use gather::gather;
+use geometry::Aabb;
+use geometry::aabb_in_domain;
+use keep::keep;
+use put::put_findings;
+use put::put_handles;
+use replies::Count;
+
+fn refused(answer: u32) -> Count
+    ensures { λ r. ⌜ r ≡ count answer 0 ⌝ }
+{
+    Count {
+        answer: answer,
+        count: 0,
+    }
+}
+
+// The slots of the boxes in the cells of q, each once, in the first places of `found`, and how many they are; or the refusal.
+fn look(
+    nums: &[[u32; 4]],
+    reals: &[[f32; 4]],
+    map: &[u64],
+    pool: &[[u64; 2]],
+    held: bool,
+    q: Aabb,
+    found: &mut [u32; 256],
+) -> Count
+    requires { ⌜ (held ≡ holds (tables (now nums) (now reals) (now map) (now pool))) × (length (now found) ≡ 256) ⌝ }
+    ensures { λ r. ⌜ Looked (tables (now (nums .entry)) (now (reals .entry)) (now (map .entry)) (now (pool .entry))) q r (now (found .exit)) ⌝ }
+{
+    if !held {
+        return refused(3);
+    }
+    if !aabb_in_domain(q) {
+        return refused(6);
+    }
+    let size = map[0];
+    let span = span_of(size, q);
+    if 4096 < span.cells {
+        return refused(7);
+    }
+    let used = basics::index_of(map[1]);
+    let low = key_of(span.low);
+    let high = key_of(span.high);
+    let n = gather(pool, used, low, high, found);
+    Count {
+        answer: 0,
+        count: n as u32,
+    }
+}
+
+// The boxes in the cells of q.
+pub fn query_broad(
+    nums: &[[u32; 4]],
+    reals: &[[f32; 4]],
+    map: &[u64],
+    pool: &[[u64; 2]],
+    held: bool,
+    q: Aabb,
+    handles: &mut [[u32; 2]],
+) -> Count
+    requires { ⌜ held ≡ holds (tables (now nums) (now reals) (now map) (now pool)) ⌝ }
+    ensures { λ r. ⌜ handlesOf r (now (handles .exit)) ≡ broadOf (tables (now (nums .entry)) (now (reals .entry)) (now (map .entry)) (now (pool .entry))) q (now (handles .entry)) ⌝ }
+{
+    let mut found: [u32; 256] = [0; 256];
+    let seen = look(nums, reals, map, pool, held, q, &mut found);
+    if seen.answer != 0 {
+        return seen;
+    }
+    let n = basics::wide(seen.count);
+    if handles.len() < n {
+        return Count {
+            answer: 9,
+            count: seen.count,
+        };
+    }
+    put_handles(nums, &found, n, handles);
+    seen
+}
+
+fn lesser(a: usize, b: usize) -> usize
+    ensures { λ r. ⌜ r ≡ min a b ⌝ }
+{
+    if a <= b { a } else { b }
+}
+
+// Those of them that q intersects: handle, box and data of each.
+pub fn query(
+    nums: &[[u32; 4]],
+    reals: &[[f32; 4]],
+    map: &[u64],
+    pool: &[[u64; 2]],
+    held: bool,
+    q: Aabb,
+    handles: &mut [[u32; 2]],
+    boxes: &mut [[f32; 4]],
+    objs: &mut [u32],
+) -> Count
+    requires { ⌜ held ≡ holds (tables (now nums) (now reals) (now map) (now pool)) ⌝ }
+    ensures { λ r. ⌜ findings r (now (handles .exit)) (now (boxes .exit)) (now (objs .exit)) ≡ queryOf (tables (now (nums .entry)) (now (reals .entry)) (now (map .entry)) (now (pool .entry))) q (now (handles .entry)) (now (boxes .entry)) (now (objs .entry)) ⌝ }
+{
+    let mut found: [u32; 256] = [0; 256];
+    let seen = look(nums, reals, map, pool, held, q, &mut found);
+    if seen.answer != 0 {
+        return seen;
+    }
+    let met = basics::wide(seen.count);
+    let n = keep(reals, q, met, &mut found);
+    let number = n as u32;
+    let room = lesser(handles.len(), lesser(boxes.len(), objs.len()));
+    if room < n {
+        return Count {
+            answer: 9,
+            count: number,
+        };
+    }
+    put_findings(nums, reals, &found, n, handles, boxes, objs);
+    Count {
+        answer: 0,
+        count: number,
+    }
+}

@@ -1,0 +1,66 @@
+// Writing what was found into the outputs.
+ghost use mathlib.Core.Path.{_≡_};
+ghost use mathlib.Core.List.{map};
+ghost use Prim.Native.Nat.{_≤_};
+ghost use lib.ListN.{length, take};
+ghost use Rattle.storage.specs.Keyed.{written};
+ghost use Rattle.box_queries.specs.Queries.{handleRow, boxRow};
+ghost use Rattle.box_queries.specs.Put.{Found, objAt};
+
+// Slot and version.
+pub fn put_handles(nums: &[[u32; 4]], found: &[u32; 256], n: usize, handles: &mut [[u32; 2]])
+    requires { ⌜ Found (length (now nums)) (now found) n × (n ≤ length (now handles)) ⌝ }
+    ensures { λ _. ⌜ now (handles .exit) ≡ written (map (handleRow (now (nums .entry))) (take n (now (found .entry)))) (now (handles .entry)) ⌝ }
+{
+    let mut k = 0;
+    while k < n {
+        let s = found[k];
+        let row = nums[basics::wide(s)];
+        handles[k] = [s, row[0]];
+        k += 1;
+    }
+}
+
+// The four numbers of the box.
+fn put_boxes(reals: &[[f32; 4]], found: &[u32; 256], n: usize, boxes: &mut [[f32; 4]])
+    requires { ⌜ Found (length (now reals)) (now found) n × (n ≤ length (now boxes)) ⌝ }
+    ensures { λ _. ⌜ now (boxes .exit) ≡ written (map (boxRow (now (reals .entry))) (take n (now (found .entry)))) (now (boxes .entry)) ⌝ }
+{
+    let mut k = 0;
+    while k < n {
+        let row = reals[basics::wide(found[k])];
+        boxes[k] = [row[0], row[1], row[2], row[3]];
+        k += 1;
+    }
+}
+
+// The data.
+fn put_objs(nums: &[[u32; 4]], found: &[u32; 256], n: usize, objs: &mut [u32])
+    requires { ⌜ Found (length (now nums)) (now found) n × (n ≤ length (now objs)) ⌝ }
+    ensures { λ _. ⌜ now (objs .exit) ≡ written (map (objAt (now (nums .entry))) (take n (now (found .entry)))) (now (objs .entry)) ⌝ }
+{
+    let mut k = 0;
+    while k < n {
+        let row = nums[basics::wide(found[k])];
+        objs[k] = row[2];
+        k += 1;
+    }
+}
+
+// Handle, box and data.
+pub fn put_findings(
+    nums: &[[u32; 4]],
+    reals: &[[f32; 4]],
+    found: &[u32; 256],
+    n: usize,
+    handles: &mut [[u32; 2]],
+    boxes: &mut [[f32; 4]],
+    objs: &mut [u32],
+)
+    requires { ⌜ Found (length (now nums)) (now found) n × (length (now reals) ≡ length (now nums)) × (n ≤ length (now handles)) × (n ≤ length (now boxes)) × (n ≤ length (now objs)) ⌝ }
+    ensures { λ _. ⌜ (now (handles .exit) ≡ written (map (handleRow (now (nums .entry))) (take n (now (found .entry)))) (now (handles .entry))) × (now (boxes .exit) ≡ written (map (boxRow (now (reals .entry))) (take n (now (found .entry)))) (now (boxes .entry))) × (now (objs .exit) ≡ written (map (objAt (now (nums .entry))) (take n (now (found .entry)))) (now (objs .entry))) ⌝ }
+{
+    put_handles(nums, found, n, handles);
+    put_boxes(reals, found, n, boxes);
+    put_objs(nums, found, n, objs);
+}

@@ -1,0 +1,2 @@
+-- What the proofs of the reading calls share.
+pub mod Cleared

@@ -1,0 +1,83 @@
+-- `box_reads::get` meets its contract. Assumes nothing.
+use Prim.Native.Nat.{ℕ, _<_}
+use mathlib.Core.Path.{_≡_, sym, ap, _∙_, subst}
+use mathlib.Core.Bool.{true}
+use lib.ListN.{length}
+use borrow.Author.Tests.{not-true, not-false}
+use borrow.Author.Needs.{needs}
+use Rattle.slots.specs.Slot.{good}
+use Rattle.slots.specs.HandleLaws.{good-says}
+use Rattle.box_tables.specs.Tables.{Tables, tables, aabbOn, objOn}
+use Rattle.box_tables.specs.Decide.{holds, holds-says}
+use Rattle.box_reads.specs.declared.Got.{Got}
+use Rattle.box_reads.specs.Reads.{got}
+use Rattle.box_reads.specs.ReadsLaws.{get-3, get-5, get-0}
+use Rattle.box_reads.proofs.get.Statement.{statement}
+use Rattle.box_reads.proofs.get.Tie as tie
+
+abbrev at-entry : tie.Start → Tables
+at-entry s = tables (s .args .nums .now) (s .args .reals .now) (s .args .map .now) (s .args .pool .now)
+
+held : (c : tie.Else1) → holds (at-entry (c .before .before)) ≡ true
+held c = sym (c .before .before .pre) ∙ not-false _ (c .if1 .left)
+
+abbrev start : tie.Else2 → tie.Start
+start c = c .before .before .before .before
+
+is-good : (c : tie.Else2) → good (start c .args .nums .now) (start c .args .h .slot) (start c .args .h .version) ≡ true
+is-good c = sym (c .before .is-good .ensures) ∙ not-false _ (c .if2 .left)
+
+inside : (c : tie.Else2) → start c .args .h .slot < length (start c .args .nums .now)
+inside c = let a = start c .args in good-says (a .nums .now) (a .h .slot) (a .h .version) .yes (is-good c) .0
+
+returns : tie.Need-returns
+returns c =
+    let s = c .before .before .before in
+    c .no-box .ensures ∙ get-3 (at-entry s) (s .args .h) (sym (s .pre) ∙ not-true _ (c .before .if1 .taken))
+
+returns-2 : tie.Need-returns-2
+returns-2 c =
+    let g = c .before .before in
+    let s = g .before .before .before in
+    c .no-box2 .ensures ∙ get-5 (at-entry s) (s .args .h) (held (g .before)) (sym (g .is-good .ensures) ∙ not-true _ (c .before .if2 .taken))
+
+in-nums : tie.Need-shared-slice-copy-out-n
+in-nums c = subst (λ n. n < length (start (c .before) .args .nums .now)) (sym (c .wide .ensures)) (inside (c .before))
+
+in-reals : tie.Need-shared-slice-copy-out-q
+in-reals c =
+    let e = c .before .before in
+    let s = start e in
+    subst (λ n. n < length (s .args .reals .now)) (sym (c .before .wide .ensures)) (rw (holds-says (at-entry s) .yes (held (e .before .before)) .sized .of-reals) (inside e))
+
+-- what is read at place s of the columns
+read : Tables → ℕ → Got
+read t s = got 0 (aabbOn t s) (objOn t s)
+
+returns-3 : tie.Need-returns-3
+unfolding read
+returns-3 c =
+    let e = c .before .before .before in
+    let s = start e in
+    ap (read (at-entry s)) (c .before .before .wide .ensures) ∙ get-0 (at-entry s) (s .args .h) (held (e .before .before)) (is-good e)
+
+pub get-spec : {M : Type 1} → statement M
+get-spec =
+    tie.close
+    (tie.spec
+    (λ c κs. search needs)
+    returns
+    (λ c κs. search needs)
+    (λ c κs. search needs)
+    returns-2
+    (λ c κs. search needs)
+    (λ c. search needs)
+    in-nums
+    (λ c. search needs)
+    in-reals
+    (λ c. search needs)
+    (λ c. search needs)
+    (λ c. search needs)
+    (λ c. search needs)
+    (λ c. search needs)
+    returns-3)

@@ -1,0 +1,8 @@
+-- What `get`, `len`, `handles` and `clear` of a box grid answer and leave.
+pub mod Live
+pub mod Reads
+pub mod Clear
+pub mod LiveLaws
+pub mod ReadsLaws
+pub mod ClearKeeps
+pub mod ClearLaws

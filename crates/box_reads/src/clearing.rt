@@ -1,0 +1,77 @@
+// `clear`: writes box and data, ascending by slot, then empties the grid. Versions rise as with any emptying.
+ghost use mathlib.Core.Path.{_≡_};
+ghost use mathlib.Core.List.{map};
+ghost use Prim.Native.Nat.{_+_, _≤_, min};
+ghost use lib.ListN.{length};
+ghost use Rattle.slots.specs.Map.{wordsFor};
+ghost use Rattle.storage.specs.Keyed.{written};
+ghost use Rattle.slot_walks.specs.Live.{liveFrom};
+ghost use Rattle.slot_walks.specs.Cleared.{clearedRows, clearedMap};
+ghost use Rattle.box_tables.specs.Tables.{counting};
+ghost use Rattle.box_tables.specs.Lent.{lent};
+ghost use Rattle.box_tables.specs.Decide.{holds};
+ghost use Rattle.box_tables.specs.Outcome.{outcome};
+ghost use Rattle.box_reads.specs.Clear.{boxAt, objAt, wrote, clearOf};
+use crate::list_answer;
+use replies::Count;
+
+// The smaller of two numbers of places.
+fn least(a: usize, b: usize) -> usize
+    ensures { λ r. ⌜ r ≡ min a b ⌝ }
+{
+    if a < b {
+        return a;
+    }
+    b
+}
+
+// The box and the data of each live slot, from place 0 of the outputs on.
+fn put_boxes(nums: &[[u32; 4]], reals: &[[f32; 4]], boxes: &mut [[f32; 4]], objs: &mut [u32])
+    requires { ⌜ (length (now reals) ≡ length (now nums)) × (length (now nums) ≤ 256) × (length (liveFrom 0 (now nums)) ≤ length (now boxes)) × (length (liveFrom 0 (now nums)) ≤ length (now objs)) ⌝ }
+    ensures boxes { λ _. ⌜ now (boxes .exit) ≡ written (map (boxAt (now (reals .entry))) (liveFrom 0 (now (nums .entry)))) (now (boxes .entry)) ⌝ }
+    ensures objs { λ _. ⌜ now (objs .exit) ≡ written (map (objAt (now (nums .entry))) (liveFrom 0 (now (nums .entry)))) (now (objs .entry)) ⌝ }
+{
+    let mut k = 0;
+    let mut i = 0;
+    while i < nums.len() {
+        let row = nums[i];
+        if slot_walks::is_live(row) {
+            let q = reals[i];
+            boxes[k] = [q[0], q[1], q[2], q[3]];
+            objs[k] = row[2];
+            k += 1;
+        }
+        i += 1;
+    }
+}
+
+// Every live slot is emptied, and no entry is in use.
+fn empty_all(nums: &mut [[u32; 4]], map: &mut [u64])
+    requires { ⌜ length (now map) ≡ 3 + wordsFor (length (now nums)) ⌝ }
+    ensures nums { λ _. ⌜ now (nums .exit) ≡ clearedRows (now (nums .entry)) ⌝ }
+    ensures map { λ _. ⌜ now (map .exit) ≡ counting (clearedMap 0 (now (nums .entry)) (now (map .entry))) 0 ⌝ }
+{
+    slot_walks::empty_slots(nums, map);
+    map[1] = 0;
+}
+
+pub fn clear(
+    nums: &mut [[u32; 4]],
+    reals: &[[f32; 4]],
+    map: &mut [u64],
+    pool: &[[u64; 2]],
+    held: bool,
+    boxes: &mut [[f32; 4]],
+    objs: &mut [u32],
+) -> Count
+    requires { ⌜ held ≡ holds (lent nums reals map pool) ⌝ }
+    ensures { λ r. ⌜ outcome (wrote r (now (boxes .exit)) (now (objs .exit))) (lent (nums .exit) (reals .entry) (map .exit) (pool .entry)) ≡ clearOf (lent (nums .entry) (reals .entry) (map .entry) (pool .entry)) (now (boxes .entry)) (now (objs .entry)) ⌝ }
+{
+    let c = list_answer(nums, held, least(boxes.len(), objs.len()));
+    if c.answer != 0 {
+        return c;
+    }
+    put_boxes(nums, reals, boxes, objs);
+    empty_all(nums, map);
+    c
+}

@@ -1,0 +1,2 @@
+-- The laws that the proofs of box_tables share.
+pub mod Laws

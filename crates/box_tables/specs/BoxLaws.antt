@@ -1,0 +1,55 @@
+-- A box of the domain: its corner cells are near, and they are not reversed; and the item of a slot tells the slot. Assumes nothing.
+use Prim.Native.Nat.{ℕ, _/_, _%_, _≤_}
+use mathlib.Core.Path.{_≡_}
+use mathlib.Core.Bool.{Bool, true, false, _&&_}
+use native.Mathlib.Omega.{arith}
+use lib.Dec.{T}
+use lib.Signed.{leZ}
+use lib.Ieee.{le}
+use lib.Ieee.Fits.{and-l, and-r}
+use Rattle.basics.specs.Refusals.{pick}
+use Rattle.geometry.specs.declared.Aabb.{Aabb}
+use Rattle.geometry.specs.Domain.{positionInDomain, aabbInDomain}
+use Rattle.cells.specs.CellRule.{Reached}
+use Rattle.cells.specs.CellRuleLaws.{cell-near, mono}
+use Rattle.cells.specs.ReachLaws.{position-reached}
+use Rattle.cells.specs.Numbers.{Near}
+use Rattle.box_tables.specs.Tables.{lowCell, highCell, itemOf}
+
+module _ (b : Aabb) (h : T (aabbInDomain b)) where
+  pub low-reached : Reached (b .ll)
+  low-reached = position-reached (b .ll) (and-l (positionInDomain (b .ll)) (positionInDomain (b .ur)) (and-l (positionInDomain (b .ll) && positionInDomain (b .ur)) (le (b .ll .x) (b .ur .x) && le (b .ll .y) (b .ur .y)) h))
+
+  pub high-reached : Reached (b .ur)
+  high-reached = position-reached (b .ur) (and-r (positionInDomain (b .ll)) (positionInDomain (b .ur)) (and-l (positionInDomain (b .ll) && positionInDomain (b .ur)) (le (b .ll .x) (b .ur .x) && le (b .ll .y) (b .ur .y)) h))
+
+  upright : T (le (b .ll .x) (b .ur .x) && le (b .ll .y) (b .ur .y))
+  upright = and-r (positionInDomain (b .ll) && positionInDomain (b .ur)) (le (b .ll .x) (b .ur .x) && le (b .ll .y) (b .ur .y)) h
+
+  module _ (size : ℕ) where
+    pub low-near : Near (lowCell size b)
+    low-near = cell-near size (b .ll) low-reached
+
+    pub high-near : Near (highCell size b)
+    high-near = cell-near size (b .ur) high-reached
+
+    -- the corner cells are not reversed
+    pub corners-x : 1 ≤ size → T (leZ (lowCell size b .x) (highCell size b .x))
+    corners-x s = mono size s (b .ll .x) (b .ur .x) (and-l (le (b .ll .x) (b .ur .x)) (le (b .ll .y) (b .ur .y)) upright)
+
+    pub corners-y : 1 ≤ size → T (leZ (lowCell size b .y) (highCell size b .y))
+    corners-y s = mono size s (b .ll .y) (b .ur .y) (and-r (le (b .ll .x) (b .ur .x)) (le (b .ll .y) (b .ur .y)) upright)
+
+-- ---- the item of a slot, with either mark
+mark-most : (m : Bool) → pick m 1 0 ≤ 1
+mark-most true = omega arith
+mark-most false = omega arith
+
+pub item-slot : (s : ℕ) (m : Bool) → itemOf s m / 2 ≡ s
+item-slot s m = omega (arith, mark-most m)
+
+pub item-mark : (s : ℕ) (m : Bool) → itemOf s m % 2 ≡ pick m 1 0
+item-mark s m = omega (arith, mark-most m)
+
+pub item-same : (s k : ℕ) (m n : Bool) → itemOf s m ≡ itemOf k n → s ≡ k
+item-same s k m n e = omega (arith, mark-most m, mark-most n)

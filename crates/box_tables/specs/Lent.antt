@@ -1,0 +1,9 @@
+-- The tables behind four references, so that a contract takes two lines. Assumes nothing.
+use Prim.Native.Nat.{ℕ}
+use mathlib.Core.List.{List}
+use lib.Ieee.{Float}
+use denote.Ref.{RefT, now}
+use Rattle.box_tables.specs.Tables.{Tables, tables}
+
+abbrev pub lent : RefT (List (List ℕ)) → RefT (List (List Float)) → RefT (List ℕ) → RefT (List (List ℕ)) → Tables
+lent a b c d = tables (now a) (now b) (now c) (now d)

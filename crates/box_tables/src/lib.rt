@@ -1,0 +1,264 @@
+// The tables of a box grid, and the check that they hold one.
+ghost use mathlib.Core.Path.{_≡_};
+ghost use mathlib.Core.Bool.{true, false};
+ghost use Prim.Native.Nat.{_+_, _/_, _≤_, _<_};
+ghost use lib.Dec.{T};
+ghost use lib.ListN.{length, getD};
+ghost use Rattle.basics.specs.Says.{Says};
+ghost use Rattle.geometry.specs.Domain.{aabbInDomain};
+ghost use Rattle.cells.specs.Size.{SizeInDomain};
+ghost use Rattle.slots.specs.Map.{head};
+ghost use Rattle.box_tables.specs.Tables as Tables;
+ghost use Rattle.box_tables.specs.Tables.{tables, Lengths, aabbAt, itemOf, itemFor};
+ghost use Rattle.box_tables.specs.Decide.{holds};
+ghost use Rattle.box_tables.specs.Way.{nextIn, lastIn, stepped, Bounded, spanOf, wayOf, wayAt};
+ghost use Rattle.box_tables.specs.Check.{Counts, BoxOk, SlotOk, SlotsOk, Room, Ways, Given, IsNext, Met, Passes, Ready};
+use cells::Cell;
+use geometry::Aabb;
+use geometry::Position;
+
+// The range of cells that a box covers: its corner cells, and how many cells there are.
+pub struct Span {
+    pub low: Cell,
+    pub high: Cell,
+    pub cells: u64,
+}
+
+// Whether the tables have the lengths of n slots and of a pool.
+pub fn lengths_ok(n: usize, reals: usize, map: usize, pool: usize) -> bool
+    ensures { λ b. ⌜ Says b (Lengths n reals map pool) ⌝ }
+{
+    if n < 1 {
+        return false;
+    }
+    if 256 < n {
+        return false;
+    }
+    if reals != n {
+        return false;
+    }
+    if map != 3 + (n + 63) / 64 {
+        return false;
+    }
+    if pool < 1 {
+        return false;
+    }
+    pool <= 8192
+}
+
+// The box of slot s.
+pub fn load_box(reals: &[[f32; 4]], s: usize) -> Aabb
+    requires { ⌜ s < length (now reals) ⌝ }
+    ensures { λ r. ⌜ r ≡ aabbAt (now (reals .entry)) s ⌝ }
+{
+    let q = reals[s];
+    let ll = Position { x: q[0], y: q[1] };
+    let ur = Position { x: q[2], y: q[3] };
+    Aabb { ll: ll, ur: ur }
+}
+
+pub fn span_of(size: u64, b: Aabb) -> Span
+    requires { ⌜ SizeInDomain size × T (aabbInDomain b) ⌝ }
+    ensures { λ r. ⌜ r ≡ spanOf size b ⌝ }
+{
+    let ll = b.ll;
+    let ur = b.ur;
+    let low = cells::cell_at(size, ll);
+    let high = cells::cell_at(size, ur);
+    let cells = cells::cells_in(low, high);
+    Span {
+        low: low,
+        high: high,
+        cells: cells,
+    }
+}
+
+// How many cells a box covers.
+pub fn covers(size: u64, b: Aabb) -> u64
+    requires { ⌜ SizeInDomain size × T (aabbInDomain b) ⌝ }
+    ensures { λ r. ⌜ r ≡ Tables.covers size b ⌝ }
+{
+    let p = span_of(size, b);
+    p.cells
+}
+
+// The item of slot s: its mark says whether the box covers one cell only.
+pub fn item_of(s: usize, single: bool) -> u64
+    requires { ⌜ s < 256 ⌝ }
+    ensures { λ r. ⌜ r ≡ itemOf s single ⌝ }
+{
+    let i = basics::word_of(s) * 2;
+    if single {
+        return i + 1;
+    }
+    i
+}
+
+pub fn item_for(size: u64, s: usize, b: Aabb) -> u64
+    requires { ⌜ (s < 256) × SizeInDomain size × T (aabbInDomain b) ⌝ }
+    ensures { λ r. ⌜ r ≡ itemFor size s b ⌝ }
+{
+    let n = covers(size, b);
+    item_of(s, n == 1)
+}
+
+// Whether the cell size is in its limits and the entries in use are within the pool.
+fn counts_ok(size: u64, used: usize, pool: usize) -> bool
+    ensures { λ b. ⌜ Says b (Counts size used pool) ⌝ }
+{
+    if !cells::size_in_domain(size) {
+        return false;
+    }
+    used <= pool
+}
+
+// The way of the box of slot s through its cells: its first key, its last, the step from the end of a row to the next, and the item.
+fn way_of(s: usize, p: Span) -> [u64; 4]
+    requires { ⌜ s < 256 ⌝ }
+    ensures { λ r. ⌜ r ≡ wayOf s p ⌝ }
+{
+    let low = cells::key_of(p.low);
+    let high = cells::key_of(p.high);
+    let jump = 4294967296 + cells::column_of(low) - cells::column_of(high);
+    let item = item_of(s, p.cells == 1);
+    [low, high, jump, item]
+}
+
+// The way of an occupied slot; its step is 0 if the box is not one of a grid.
+fn live_way(reals: &[[f32; 4]], size: u64, s: usize) -> [u64; 4]
+    requires { ⌜ (s < length (now reals)) × (s < 256) × SizeInDomain size ⌝ }
+    ensures { λ r. ⌜ Given (BoxOk size (aabbAt (now (reals .entry)) s)) (wayOf s (spanOf size (aabbAt (now (reals .entry)) s))) r ⌝ }
+{
+    let b = load_box(reals, s);
+    if !geometry::aabb_in_domain(b) {
+        return [0, 0, 0, 0];
+    }
+    let p = span_of(size, b);
+    if 4096 < p.cells {
+        return [0, 0, 0, 0];
+    }
+    way_of(s, p)
+}
+
+// The way of slot s, on which no key comes if it is not occupied; its step is 0 if the slot does not hold.
+fn slot_way(nums: &[[u32; 4]], reals: &[[f32; 4]], map: &[u64], size: u64, s: usize) -> [u64; 4]
+    requires { ⌜ (s < length (now nums)) × (s < length (now reals)) × (s < 256) × SizeInDomain size × (head + s / 64 < length (now map)) ⌝ }
+    ensures { λ r. ⌜ Given (SlotOk (now (nums .entry)) (now (reals .entry)) (now (map .entry)) size s) (wayAt (now (nums .entry)) (now (reals .entry)) size s) r ⌝ }
+{
+    let n = nums[s];
+    let mapped = slots::is_usable(map, s);
+    if !slots::slot_ok(n[0], n[1], mapped) {
+        return [0, 0, 0, 0];
+    }
+    if n[1] != 1 {
+        return [1, 0, 1, 0];
+    }
+    live_way(reals, size, s)
+}
+
+// Whether every slot holds; the ways are then those of the slots.
+fn slots_ok(nums: &[[u32; 4]], reals: &[[f32; 4]], map: &[u64], ways: &mut [[u64; 4]; 256]) -> bool
+    requires { ⌜ Room (now nums) (now reals) (now map) × (length (now ways) ≡ 256) ⌝ }
+    ensures says { λ b. ⌜ Says b (SlotsOk (now (nums .entry)) (now (reals .entry)) (now (map .entry))) ⌝ }
+    ensures ways { λ b. ⌜ (b ≡ true → Ways (now (nums .entry)) (now (reals .entry)) (getD (now (map .entry)) 0 0) (now (ways .exit)) (length (now (nums .entry)))) ⌝ }
+{
+    let size = map[0];
+    let mut i = 0;
+    while i < nums.len() {
+        let way = slot_way(nums, reals, map, size, i);
+        if way[2] == 0 {
+            return false;
+        }
+        ways[i] = way;
+        i += 1;
+    }
+    slots::past_ok(map, nums.len())
+}
+
+// Whether an entry is the next on a way, and not before the last one that was passed.
+fn is_next(way: [u64; 4], before: u64, key: u64, item: u64) -> bool
+    ensures { λ b. ⌜ Says b (IsNext way before key item) ⌝ }
+{
+    if key < before {
+        return false;
+    }
+    if item != way[3] {
+        return false;
+    }
+    if key != way[0] {
+        return false;
+    }
+    way[0] <= way[1]
+}
+
+// The way, one key on.
+fn step_on(way: [u64; 4]) -> [u64; 4]
+    requires { ⌜ Bounded way × (nextIn way ≤ lastIn way) ⌝ }
+    ensures { λ r. ⌜ r ≡ stepped way ⌝ }
+{
+    let k = way[0];
+    let column = cells::column_of(k);
+    let end = cells::column_of(way[1]);
+    if column == end {
+        return [k + way[2], way[1], way[2], way[3]];
+    }
+    [k + 1, way[1], way[2], way[3]]
+}
+
+// Whether nothing is to come on the ways of n slots.
+fn all_met(ways: &[[u64; 4]; 256], n: usize) -> bool
+    requires { ⌜ n ≤ 256 ⌝ }
+    ensures { λ b. ⌜ Says b (Met (now (ways .entry)) n) ⌝ }
+{
+    let mut s = 0;
+    while s < n {
+        let way = ways[s];
+        if way[0] <= way[1] {
+            return false;
+        }
+        s += 1;
+    }
+    true
+}
+
+// Whether the entries are in order, each the next on the way of its slot, and all ways are gone to their end.
+fn pool_ok(pool: &[[u64; 2]], n: usize, used: usize, ways: &mut [[u64; 4]; 256]) -> bool
+    requires { ⌜ Ready (now pool) (now ways) n used ⌝ }
+    ensures { λ b. ⌜ Says b (Passes (now (pool .entry)) (now (ways .entry)) n used) ⌝ }
+{
+    let mut before = 0;
+    let mut j = 0;
+    while j < used {
+        let e = pool[j];
+        let s = basics::index_of(e[1] / 2);
+        if n <= s {
+            return false;
+        }
+        let way = ways[s];
+        if !is_next(way, before, e[0], e[1]) {
+            return false;
+        }
+        ways[s] = step_on(way);
+        before = e[0];
+        j += 1;
+    }
+    all_met(ways, n)
+}
+
+// Whether the tables hold a grid.
+pub fn check(nums: &[[u32; 4]], reals: &[[f32; 4]], map: &[u64], pool: &[[u64; 2]]) -> bool
+    ensures { λ b. ⌜ b ≡ holds (tables (now (nums .entry)) (now (reals .entry)) (now (map .entry)) (now (pool .entry))) ⌝ }
+{
+    if !lengths_ok(nums.len(), reals.len(), map.len(), pool.len()) {
+        return false;
+    }
+    let used = basics::index_of(map[1]);
+    if !counts_ok(map[0], used, pool.len()) {
+        return false;
+    }
+    let mut ways = [[1u64, 0, 1, 0]; 256];
+    if !slots_ok(nums, reals, map, &mut ways) {
+        return false;
+    }
+    pool_ok(pool, nums.len(), used, &mut ways)
+}

@@ -1,0 +1,153 @@
+// The public calls of the box grid: src/aabbgrid.rs of the Rust. Each checks the tables first and answers by document 01's numbers, listed
+// with each call in their order. No call has a `requires`, and a refused call changes no table and no output.
+ghost use mathlib.Core.Path.{_≡_};
+ghost use Rattle.box_tables.specs.Lent.{lent};
+ghost use Rattle.box_tables.specs.Outcome.{outcome};
+ghost use Rattle.box_inserts.specs.New.{newOf};
+ghost use Rattle.box_inserts.specs.Insert.{insertOf};
+ghost use Rattle.box_changes.specs.SetAabb.{setAabbOf};
+ghost use Rattle.box_changes.specs.Remove.{removeOf};
+ghost use Rattle.box_reads.specs.Reads.{getOf, lenOf, handlesOf, listing};
+ghost use Rattle.box_reads.specs.Clear.{wrote, clearOf};
+ghost use Rattle.box_queries.specs.Queries.{broadOf, queryOf, findings};
+ghost use Rattle.box_queries.specs.Queries as Queries;
+use box_reads::Got;
+use geometry::Aabb;
+use replies::Count;
+use replies::Inserted;
+use replies::Reply;
+use slots::Handle;
+
+// Builds an empty grid with cells of this size. 3: wrong lengths; 2: size outside its limits.
+pub fn new(
+    nums: &mut [[u32; 4]],
+    reals: &[[f32; 4]],
+    map: &mut [u64],
+    pool: &[[u64; 2]],
+    size: u32,
+) -> u32
+    ensures { λ r. ⌜ outcome r (lent (nums .exit) (reals .entry) (map .exit) (pool .entry)) ≡ newOf (lent (nums .entry) (reals .entry) (map .entry) (pool .entry)) size ⌝ }
+{
+    box_inserts::new(nums, reals, map, pool, size)
+}
+
+// A new object with a box; every cell that it covers lists it. 3, 6, 7, 4, 8.
+pub fn insert(
+    nums: &mut [[u32; 4]],
+    reals: &mut [[f32; 4]],
+    map: &mut [u64],
+    pool: &mut [[u64; 2]],
+    b: Aabb,
+    obj: u32,
+) -> Inserted
+    ensures { λ r. ⌜ outcome r (lent (nums .exit) (reals .exit) (map .exit) (pool .exit)) ≡ insertOf (lent (nums .entry) (reals .entry) (map .entry) (pool .entry)) b obj ⌝ }
+{
+    let held = box_tables::check(nums, reals, map, pool);
+    box_inserts::insert(nums, reals, map, pool, held, b, obj)
+}
+
+// Another box for the object, at once. 3, 6, 5, 7, 8.
+pub fn set_aabb(
+    nums: &[[u32; 4]],
+    reals: &mut [[f32; 4]],
+    map: &mut [u64],
+    pool: &mut [[u64; 2]],
+    h: Handle,
+    b: Aabb,
+) -> u32
+    ensures { λ r. ⌜ outcome r (lent (nums .entry) (reals .exit) (map .exit) (pool .exit)) ≡ setAabbOf (lent (nums .entry) (reals .entry) (map .entry) (pool .entry)) h b ⌝ }
+{
+    let held = box_tables::check(nums, reals, map, pool);
+    box_changes::set_aabb(nums, reals, map, pool, held, h, b)
+}
+
+// Takes the object out at once and gives its data. 3, 5.
+pub fn remove(
+    nums: &mut [[u32; 4]],
+    reals: &[[f32; 4]],
+    map: &mut [u64],
+    pool: &mut [[u64; 2]],
+    h: Handle,
+) -> Reply
+    ensures { λ r. ⌜ outcome r (lent (nums .exit) (reals .entry) (map .exit) (pool .exit)) ≡ removeOf (lent (nums .entry) (reals .entry) (map .entry) (pool .entry)) h ⌝ }
+{
+    let held = box_tables::check(nums, reals, map, pool);
+    box_changes::remove(nums, reals, map, pool, held, h)
+}
+
+// Writes box and data of each object, ascending by slot, then empties the grid. 3, 9.
+pub fn clear(
+    nums: &mut [[u32; 4]],
+    reals: &[[f32; 4]],
+    map: &mut [u64],
+    pool: &[[u64; 2]],
+    boxes: &mut [[f32; 4]],
+    objs: &mut [u32],
+) -> Count
+    ensures { λ r. ⌜ outcome (wrote r (now (boxes .exit)) (now (objs .exit))) (lent (nums .exit) (reals .entry) (map .exit) (pool .entry)) ≡ clearOf (lent (nums .entry) (reals .entry) (map .entry) (pool .entry)) (now (boxes .entry)) (now (objs .entry)) ⌝ }
+{
+    let held = box_tables::check(nums, reals, map, pool);
+    box_reads::clear(nums, reals, map, pool, held, boxes, objs)
+}
+
+// The box and the data. 3, 5.
+pub fn get(nums: &[[u32; 4]], reals: &[[f32; 4]], map: &[u64], pool: &[[u64; 2]], h: Handle) -> Got
+    ensures { λ r. ⌜ r ≡ getOf (lent (nums .entry) (reals .entry) (map .entry) (pool .entry)) h ⌝ }
+{
+    let held = box_tables::check(nums, reals, map, pool);
+    box_reads::get(nums, reals, map, pool, held, h)
+}
+
+// The number of objects. 3.
+pub fn len(nums: &[[u32; 4]], reals: &[[f32; 4]], map: &[u64], pool: &[[u64; 2]]) -> Count
+    ensures { λ r. ⌜ r ≡ lenOf (lent (nums .entry) (reals .entry) (map .entry) (pool .entry)) ⌝ }
+{
+    let held = box_tables::check(nums, reals, map, pool);
+    box_reads::len(nums, reals, map, pool, held)
+}
+
+// The handles of the objects, ascending by slot. 3, 9.
+pub fn handles(
+    nums: &[[u32; 4]],
+    reals: &[[f32; 4]],
+    map: &[u64],
+    pool: &[[u64; 2]],
+    out: &mut [[u32; 2]],
+) -> Count
+    ensures { λ r. ⌜ listing r (now (out .exit)) ≡ handlesOf (lent (nums .entry) (reals .entry) (map .entry) (pool .entry)) (now (out .entry)) ⌝ }
+{
+    let held = box_tables::check(nums, reals, map, pool);
+    box_reads::handles(nums, reals, map, pool, held, out)
+}
+
+// The handles of the boxes that share a cell with the query box, each once, at its first place in the walk. 3, 6, 7, 9.
+pub fn query_broad(
+    nums: &[[u32; 4]],
+    reals: &[[f32; 4]],
+    map: &[u64],
+    pool: &[[u64; 2]],
+    q: Aabb,
+    found: &mut [[u32; 2]],
+) -> Count
+    ensures { λ r. ⌜ Queries.handlesOf r (now (found .exit)) ≡ broadOf (lent (nums .entry) (reals .entry) (map .entry) (pool .entry)) q (now (found .entry)) ⌝ }
+{
+    let held = box_tables::check(nums, reals, map, pool);
+    box_queries::query_broad(nums, reals, map, pool, held, q, found)
+}
+
+// Handle, box and data of those that the query box intersects, by the rounded test. 3, 6, 7, 9.
+pub fn query(
+    nums: &[[u32; 4]],
+    reals: &[[f32; 4]],
+    map: &[u64],
+    pool: &[[u64; 2]],
+    q: Aabb,
+    found: &mut [[u32; 2]],
+    boxes: &mut [[f32; 4]],
+    objs: &mut [u32],
+) -> Count
+    ensures { λ r. ⌜ findings r (now (found .exit)) (now (boxes .exit)) (now (objs .exit)) ≡ queryOf (lent (nums .entry) (reals .entry) (map .entry) (pool .entry)) q (now (found .entry)) (now (boxes .entry)) (now (objs .entry)) ⌝ }
+{
+    let held = box_tables::check(nums, reals, map, pool);
+    box_queries::query(nums, reals, map, pool, held, q, found, boxes, objs)
+}

@@ -1,0 +1,17 @@
+-- An item taken out of every list that has it. Assumes nothing.
+use Prim.Native.Nat.{ℕ}
+use mathlib.Core.List.{List, [], _∷_, map}
+use Rattle.storage.specs.Keyed.{filter, onList, takeOut}
+use Rattle.storage.specs.Entries.{rowKey, isItem}
+
+-- out of the lists of some keys
+abbrev pub takenFrom : List ℕ → ℕ → List (List ℕ) → List (List ℕ)
+takenFrom [] item rows = rows
+takenFrom (k ∷ ks) item rows = takenFrom ks item (onList rowKey k (takeOut (isItem item)) rows)
+
+-- the keys of the lists that have it
+abbrev pub keysWith : ℕ → List (List ℕ) → List ℕ
+keysWith item rows = map rowKey (filter (isItem item) rows)
+
+abbrev pub taken : ℕ → List (List ℕ) → List (List ℕ)
+taken item rows = takenFrom (keysWith item rows) item rows
