@@ -1,0 +1,59 @@
+-- `answers::searches_points` meets its contract. Assumes nothing.
+use Prim.Native.Nat.{ℕ}
+use mathlib.Core.Path.{_≡_, refl}
+use mathlib.Core.Bool.{false}
+use mathlib.Core.List.{List, [], _∷_}
+use types.Run.{OneOf, miss}
+use denote.Enum.Declared.{tagOf}
+use Rattle.lines.proofs.Request.{the-type}
+use Rattle.lines.specs.declared.Request.{Request}
+use Rattle.lines.specs.declared.Request.the-variants.{Cell, Ins, Pos, Rem, Now, Mnt, Cir, Rec, Cel, Bin, Bset, Brem, Bqry, Unreadable}
+use Rattle.answers.specs.Answer.{searchesPoints}
+use borrow.Author.Needs.{needs}
+use Rattle.answers.proofs.searches_points.Statement.{statement}
+use Rattle.answers.proofs.searches_points.Tie as tie
+
+-- any other request
+abbrev keys : List ℕ
+keys = 0 ∷ 1 ∷ 2 ∷ 3 ∷ 4 ∷ 5 ∷ 9 ∷ 10 ∷ 11 ∷ 12 ∷ 13 ∷ []
+
+other : (r : Request) → OneOf keys (tagOf the-type r) → false ≡ searchesPoints r
+other (Cell s) h = refl
+other (Ins p d) h = refl
+other (Pos i p) h = refl
+other (Rem i) h = refl
+other (Now i) h = refl
+other Mnt h = refl
+other (Cir q k) h = absurd (miss keys 6 tt h)
+other (Rec p q) h = absurd (miss keys 7 tt h)
+other (Cel p q) h = absurd (miss keys 8 tt h)
+other (Bin p q d) h = refl
+other (Bset i p q) h = refl
+other (Brem i) h = refl
+other (Bqry p q) h = refl
+other Unreadable h = refl
+
+enum-told : tie.Need-enum-told
+enum-told c = search needs
+
+enum-told-2 : tie.Need-enum-told-2
+enum-told-2 c = search needs
+
+enum-told-3 : tie.Need-enum-told-3
+enum-told-3 c = search needs
+
+returns : tie.Need-returns
+returns c = search needs
+
+returns-2 : tie.Need-returns-2
+returns-2 c = search needs
+
+returns-3 : tie.Need-returns-3
+returns-3 c = search needs
+
+returns-4 : tie.Need-returns-4
+returns-4 c = other (c .before .args .r) (c .match .keys4)
+
+pub searches-points-spec : {M : Type 1} → statement M
+searches-points-spec =
+    tie.close (tie.spec enum-told enum-told-2 enum-told-3 returns returns-2 returns-3 returns-4)

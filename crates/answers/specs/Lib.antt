@@ -1,0 +1,6 @@
+-- What the two grids of the trace answer to a request.
+pub mod State
+pub mod Cell
+pub mod Answer
+pub mod AnswerLaws
+pub mod ToldLaws

@@ -1,0 +1,6 @@
+-- What the box grid of the trace answers to a request.
+pub mod Changes
+pub mod ChangeLaws
+pub mod Searches
+pub mod SearchLaws
+pub mod ToldLaws

@@ -1,0 +1,118 @@
+// What the box grid of the trace answers to a request: each is one call of the grid.
+ghost use mathlib.Core.Path.{_≡_};
+ghost use Rattle.lines.specs.Texts.{SpotInRange};
+ghost use Rattle.box_tables.specs.Lent.{lent};
+ghost use Rattle.box_tables.specs.Outcome.{outcome};
+ghost use Rattle.telling.specs.InRange.{InRange};
+ghost use Rattle.box_answers.specs.Changes.{changeOf, insertedOf, placedOf, takenOf};
+ghost use Rattle.box_answers.specs.Searches.{searched, searchOf, meetingIn};
+use lines::Request;
+use lines::Spot;
+use printing::Said;
+use slots::Handle;
+
+fn bin(
+    nums: &mut [[u32; 4]],
+    reals: &mut [[f32; 4]],
+    map: &mut [u64],
+    pool: &mut [[u64; 2]],
+    ll: Spot,
+    ur: Spot,
+    obj: u32,
+) -> Said
+    requires { ⌜ SpotInRange ll × SpotInRange ur ⌝ }
+    ensures { λ r. ⌜ outcome r (lent (nums .exit) (reals .exit) (map .exit) (pool .exit)) ≡ insertedOf (lent (nums .entry) (reals .entry) (map .entry) (pool .entry)) ll ur obj ⌝ }
+{
+    let b = telling::corners(ll, ur);
+    let r = boxes::insert(nums, reals, map, pool, b, obj);
+    let h = r.handle;
+    telling::two(r.answer, h.slot, h.version)
+}
+
+fn bset(
+    nums: &[[u32; 4]],
+    reals: &mut [[f32; 4]],
+    map: &mut [u64],
+    pool: &mut [[u64; 2]],
+    h: Handle,
+    ll: Spot,
+    ur: Spot,
+) -> Said
+    requires { ⌜ SpotInRange ll × SpotInRange ur ⌝ }
+    ensures { λ r. ⌜ outcome r (lent (nums .entry) (reals .exit) (map .exit) (pool .exit)) ≡ placedOf (lent (nums .entry) (reals .entry) (map .entry) (pool .entry)) h ll ur ⌝ }
+{
+    let b = telling::corners(ll, ur);
+    let answer = boxes::set_aabb(nums, reals, map, pool, h, b);
+    telling::done(answer)
+}
+
+fn brem(
+    nums: &mut [[u32; 4]],
+    reals: &[[f32; 4]],
+    map: &mut [u64],
+    pool: &mut [[u64; 2]],
+    h: Handle,
+) -> Said
+    ensures { λ r. ⌜ outcome r (lent (nums .exit) (reals .entry) (map .exit) (pool .exit)) ≡ takenOf (lent (nums .entry) (reals .entry) (map .entry) (pool .entry)) h ⌝ }
+{
+    let r = boxes::remove(nums, reals, map, pool, h);
+    telling::one(r.answer, r.obj)
+}
+
+// A request that changes the boxes: bin, bset, brem.
+pub fn change_boxes(
+    nums: &mut [[u32; 4]],
+    reals: &mut [[f32; 4]],
+    map: &mut [u64],
+    pool: &mut [[u64; 2]],
+    r: Request,
+) -> Said
+    requires { ⌜ InRange r ⌝ }
+    ensures { λ said. ⌜ outcome said (lent (nums .exit) (reals .exit) (map .exit) (pool .exit)) ≡ changeOf (lent (nums .entry) (reals .entry) (map .entry) (pool .entry)) r ⌝ }
+{
+    match r {
+        Request::Bin(ll, ur, obj) => bin(nums, reals, map, pool, ll, ur, obj),
+        Request::Bset(h, ll, ur) => bset(nums, reals, map, pool, h, ll, ur),
+        Request::Brem(h) => brem(nums, reals, map, pool, h),
+        _ => Said::Refused(10),
+    }
+}
+
+fn bqry(
+    nums: &[[u32; 4]],
+    reals: &[[f32; 4]],
+    map: &[u64],
+    pool: &[[u64; 2]],
+    ll: Spot,
+    ur: Spot,
+    handles: &mut [[u32; 2]],
+    corners: &mut [[f32; 4]],
+    objs: &mut [u32],
+) -> Said
+    requires { ⌜ SpotInRange ll × SpotInRange ur ⌝ }
+    ensures { λ r. ⌜ searched r (now (handles .exit)) (now (corners .exit)) (now (objs .exit)) ≡ meetingIn (lent (nums .entry) (reals .entry) (map .entry) (pool .entry)) ll ur (now (handles .entry)) (now (corners .entry)) (now (objs .entry)) ⌝ }
+{
+    let q = telling::corners(ll, ur);
+    let r = boxes::query(nums, reals, map, pool, q, handles, corners, objs);
+    telling::boxes(r.answer, r.count)
+}
+
+// A request that searches the boxes: bqry. The findings are in the outputs; the trace does not tell their data.
+pub fn search_boxes(
+    nums: &[[u32; 4]],
+    reals: &[[f32; 4]],
+    map: &[u64],
+    pool: &[[u64; 2]],
+    r: Request,
+    handles: &mut [[u32; 2]],
+    corners: &mut [[f32; 4]],
+    objs: &mut [u32],
+) -> Said
+    requires { ⌜ InRange r ⌝ }
+    ensures { λ said. ⌜ searched said (now (handles .exit)) (now (corners .exit)) (now (objs .exit)) ≡ searchOf (lent (nums .entry) (reals .entry) (map .entry) (pool .entry)) r (now (handles .entry)) (now (corners .entry)) (now (objs .entry)) ⌝ }
+{
+    match r {
+        Request::Bqry(ll, ur) => bqry(nums, reals, map, pool, ll, ur, handles, corners, objs),
+        _ => Said::Refused(10),
+    }
+}

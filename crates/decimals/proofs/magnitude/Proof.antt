@@ -1,0 +1,27 @@
+-- `decimals::magnitude` meets its contract. Assumes nothing.
+use borrow.Author.Needs.{needs}
+use Rattle.decimals.proofs.Signs.{turned-fits, turned-cast, raised-fits, raised, above-cast}
+use Rattle.decimals.proofs.magnitude.Statement.{statement}
+use Rattle.decimals.proofs.magnitude.Tie as tie
+
+sub-result : tie.Need-sub-result
+sub-result c = turned-fits (c .before .args .k) (c .before .fits .k) (c .if1 .taken)
+
+cast-result : tie.Need-cast-result
+cast-result c = turned-cast (c .before .args .k) (c .before .fits .k) (c .if1 .taken)
+
+add-result : tie.Need-add-result
+add-result c = raised-fits (c .before .args .k) (c .before .fits .k) (c .if1 .taken)
+
+returns : tie.Need-returns
+returns c = raised (c .before .args .k) (c .before .fits .k) (c .if1 .taken)
+
+cast-result-2 : tie.Need-cast-result-2
+cast-result-2 c = above-cast (c .before .args .k) (c .before .fits .k) (c .if1 .left)
+
+returns-2 : tie.Need-returns-2
+returns-2 c = search needs
+
+pub magnitude-spec : {M : Type 1} → statement M
+magnitude-spec =
+    tie.close (tie.spec sub-result cast-result add-result returns cast-result-2 returns-2)

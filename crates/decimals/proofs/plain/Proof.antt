@@ -1,0 +1,36 @@
+-- `decimals::plain` meets its contract. Assumes nothing.
+use Prim.Native.Nat.{_≤_}
+use mathlib.Core.Path.{sym, ap, _∙_, subst}
+use native.Mathlib.Omega.{arith}
+use mir.Syntax.{w32}
+use mir.ValLaws.{toZ-pos}
+use borrow.Author.Needs.{needs}
+use Rattle.decimals.specs.declared.Count.the-variants.{Counted}
+use Rattle.decimals.specs.Fields.{Short, farthest, plain}
+use Rattle.decimals.proofs.plain.Statement.{statement}
+use Rattle.decimals.proofs.plain.Tie as tie
+
+enum-known-n : tie.Need-enum-known-n
+enum-known-n c = search needs
+
+cast-t4 : tie.Need-cast-t4
+cast-t4 c =
+    let s = c .before .before .before in
+    let h : c .before .n .given .0 .0 ≤ farthest = subst Short (c .before .n .given .1) (s .pre) in
+    record { sfits = omega arith }
+
+enum-told : tie.Need-enum-told
+enum-told c = search needs
+
+returns : tie.Need-returns
+returns c =
+    let s = c .before .before .before in
+    let v = c .before .n .given .0 .0 in
+    let h : v ≤ farthest = subst Short (c .before .n .given .1) (s .pre) in
+    ap Counted (toZ-pos w32 v (omega arith)) ∙ ap plain (sym (c .before .n .given .1))
+
+returns-2 : tie.Need-returns-2
+returns-2 c = search needs
+
+pub plain-spec : {M : Type 1} → statement M
+plain-spec = tie.close (tie.spec enum-known-n cast-t4 enum-told returns returns-2)

@@ -1,0 +1,34 @@
+-- `lines::arguments::cell` meets its contract. Assumes nothing.
+use borrow.Author.Needs.{needs}
+use Rattle.lines.specs.declared.Request.the-variants.{Cell}
+use Rattle.lines.specs.Taken.{takeNumber}
+use Rattle.lines.specs.Requests.{argumentsOf}
+use Rattle.lines.specs.Cursor.{fieldsFrom, numberTaken}
+use Rattle.lines.proofs.Laws.{told, no-request, one-request}
+use Rattle.lines.proofs.arguments.cell.Statement.{statement}
+use Rattle.lines.proofs.arguments.cell.Tie as tie
+
+returns : tie.Need-returns
+unfolding argumentsOf
+returns c =
+    let k = c .before .before in
+    let a = k .before .before .args in
+    no-request Cell takeNumber (fieldsFrom (a .b .now) (a .at)) (told (numberTaken (a .b .now)) (c .enum-told .given .1) (k .take-number .ensures))
+
+returns-2 : tie.Need-returns-2
+unfolding argumentsOf
+returns-2 c =
+    let k = c .before .before .before .before in
+    let a = k .before .before .args in
+    one-request Cell takeNumber (fieldsFrom (a .b .now) (a .at)) (c .whole .ensures) (told (numberTaken (a .b .now)) (c .before .before .first .given .1) (k .take-number .ensures))
+
+pub cell-spec : {M : Type 1} → statement M
+cell-spec =
+    tie.close
+    (tie.spec
+    (λ c κs. search needs)
+    (λ c. search needs)
+    (λ c. search needs)
+    returns
+    (λ c κs. search needs)
+    returns-2)

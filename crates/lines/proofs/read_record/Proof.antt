@@ -1,0 +1,17 @@
+-- `lines::read_record` meets its contract. Assumes nothing.
+use mathlib.Core.Path.{sym}
+use borrow.Author.Needs.{needs}
+use Rattle.lines.specs.InputLaws.{too-long}
+use Rattle.lines.proofs.read_record.Statement.{statement}
+use Rattle.lines.proofs.read_record.Tie as tie
+
+returns : tie.Need-returns
+returns c = sym (too-long (c .before .before .args .b .now) (c .if1 .taken))
+
+pub read-record-spec : {M : Type 1} → statement M
+read-record-spec =
+    tie.close
+    (tie.spec
+    returns
+    (λ c κs. search needs)
+    (λ c. search needs))

@@ -1,0 +1,105 @@
+// The fields of a record from a place on: a number, a count, a spot, two spots, a handle. No field is past the record's end.
+ghost use mathlib.Core.Path.{_≡_};
+ghost use Prim.Native.Nat.{_≤_};
+ghost use lib.ListN.{length};
+ghost use Rattle.lines.specs.Taken.{takeNumber, takeCount, takeSpot, takeSpots, takeHandle};
+ghost use Rattle.lines.specs.Cursor.{endFrom, fieldsFrom, numberTaken, countTaken, spotTaken, spotsTaken, handleTaken};
+use crate::Spot;
+use crate::TakenCount;
+use crate::TakenHandle;
+use crate::TakenNumber;
+use crate::TakenSpot;
+use crate::TakenSpots;
+use decimals::Count;
+use decimals::Number;
+use slots::Handle;
+
+// Where the field that begins at `at` ends: at a comma, or with the record.
+pub fn field_end(b: &[u8], at: usize) -> usize
+    requires { ⌜ at ≤ length (now b) ⌝ }
+    ensures { λ r. ⌜ r ≡ endFrom (now (b .entry)) at ⌝ }
+{
+    let mut i = at;
+    while i < b.len() {
+        if b[i] == 44 {
+            return i;
+        }
+        i += 1;
+    }
+    i
+}
+
+pub fn take_number(b: &[u8], at: usize) -> TakenNumber
+    requires { ⌜ length (now b) ≤ 128 ⌝ }
+    ensures { λ r. ⌜ numberTaken (now (b .entry)) r ≡ takeNumber (fieldsFrom (now (b .entry)) at) ⌝ }
+{
+    if b.len() < at {
+        return TakenNumber::Missing;
+    }
+    let end = field_end(b, at);
+    let n = decimals::read_number(b, at, end);
+    match n {
+        Number::Read(v) => TakenNumber::At(v, end + 1),
+        Number::Unreadable => TakenNumber::Missing,
+    }
+}
+
+pub fn take_count(b: &[u8], at: usize) -> TakenCount
+    requires { ⌜ length (now b) ≤ 128 ⌝ }
+    ensures { λ r. ⌜ countTaken (now (b .entry)) r ≡ takeCount (fieldsFrom (now (b .entry)) at) ⌝ }
+{
+    if b.len() < at {
+        return TakenCount::Missing;
+    }
+    let end = field_end(b, at);
+    let n = decimals::read_count(b, at, end);
+    match n {
+        Count::Counted(k) => TakenCount::At(k, end + 1),
+        Count::NoCount => TakenCount::Missing,
+    }
+}
+
+pub fn take_spot(b: &[u8], at: usize) -> TakenSpot
+    requires { ⌜ length (now b) ≤ 128 ⌝ }
+    ensures { λ r. ⌜ spotTaken (now (b .entry)) r ≡ takeSpot (fieldsFrom (now (b .entry)) at) ⌝ }
+{
+    let first = take_count(b, at);
+    let TakenCount::At(x, next) = first else {
+        return TakenSpot::Missing;
+    };
+    let second = take_count(b, next);
+    let TakenCount::At(y, end) = second else {
+        return TakenSpot::Missing;
+    };
+    TakenSpot::At(Spot { x, y }, end)
+}
+
+pub fn take_handle(b: &[u8], at: usize) -> TakenHandle
+    requires { ⌜ length (now b) ≤ 128 ⌝ }
+    ensures { λ r. ⌜ handleTaken (now (b .entry)) r ≡ takeHandle (fieldsFrom (now (b .entry)) at) ⌝ }
+{
+    let first = take_number(b, at);
+    let TakenNumber::At(slot, next) = first else {
+        return TakenHandle::Missing;
+    };
+    let second = take_number(b, next);
+    let TakenNumber::At(version, end) = second else {
+        return TakenHandle::Missing;
+    };
+    TakenHandle::At(Handle { slot, version }, end)
+}
+
+pub fn take_spots(b: &[u8], at: usize) -> TakenSpots
+    requires { ⌜ length (now b) ≤ 128 ⌝ }
+    ensures { λ r. ⌜ spotsTaken (now (b .entry)) r ≡ takeSpots (fieldsFrom (now (b .entry)) at) ⌝ }
+{
+    let first = take_spot(b, at);
+    let TakenSpot::At(p, next) = first else {
+        return TakenSpots::Missing;
+    };
+    let second = take_spot(b, next);
+    let TakenSpot::At(q, end) = second else {
+        return TakenSpots::Missing;
+    };
+    TakenSpots::At(p, q, end)
+}

@@ -1,0 +1,56 @@
+-- The requests that change the points: each is a call of the grid, and says its answer and what it returned. Assumes nothing.
+use Prim.Native.Nat.{ℕ}
+use Rattle.slots.specs.declared.Handle.{Handle}
+use Rattle.point_tables.specs.Tables.{Tables}
+use Rattle.point_tables.specs.Outcome.{Outcome, outcome}
+use Rattle.inserts.specs.Insert.{insertOf}
+use Rattle.moves.specs.Moves.{setPositionOf, removeOf}
+use Rattle.removals.specs.RemoveMaintain.{removeMaintainOf}
+use Rattle.maintain.specs.Maintain.{maintainOf}
+use Rattle.printing.specs.declared.Said.{Said}
+use Rattle.printing.specs.declared.Said.the-variants.{Refused}
+use Rattle.lines.specs.declared.Spot.{Spot}
+use Rattle.lines.specs.declared.Request.{Request}
+use Rattle.lines.specs.declared.Request.the-variants.{Cell, Ins, Pos, Rem, Now, Mnt, Cir, Rec, Cel, Bin, Bset, Brem, Bqry, Unreadable}
+use Rattle.telling.specs.Places.{placeOf}
+use Rattle.telling.specs.Tells.{doneOr, oneOr, twoOr}
+
+-- what is said of what a call returned; the tables are those after the call
+abbrev pub said : {R : Type 0} → (R → Said) → Outcome R → Outcome Said
+said tell o = outcome (tell (o .result)) (o .after)
+
+-- `ins`: slot and version
+abbrev pub insertedOf : Tables → Spot → ℕ → Outcome Said
+insertedOf t p d = said (λ r. twoOr (r .answer) (r .handle .slot) (r .handle .version)) (insertOf t (placeOf p) d)
+
+-- `pos`: nothing more
+abbrev pub movedOf : Tables → Handle → Spot → Outcome Said
+movedOf t h p = said (λ r. doneOr (r .answer)) (setPositionOf t h (placeOf p))
+
+-- `rem` and `now`: the data
+abbrev pub markedOf : Tables → Handle → Outcome Said
+markedOf t h = said (λ r. oneOr (r .answer) (r .obj)) (removeOf t h)
+
+abbrev pub takenOf : Tables → Handle → Outcome Said
+takenOf t h = said (λ r. oneOr (r .answer) (r .obj)) (removeMaintainOf t h)
+
+-- `mnt`: how many moved, and how many were removed
+abbrev pub maintainedOf : Tables → Outcome Said
+maintainedOf t = said (λ r. twoOr (r .answer) (r .moved) (r .removed)) (maintainOf t)
+
+-- any other request is not for this call: 10
+unfoldable pub changeOf : Tables → Request → Outcome Said
+changeOf t (Ins p d) = insertedOf t p d
+changeOf t (Pos h p) = movedOf t h p
+changeOf t (Rem h) = markedOf t h
+changeOf t (Now h) = takenOf t h
+changeOf t Mnt = maintainedOf t
+changeOf t (Cell s) = outcome (Refused 10) t
+changeOf t (Cir p r) = outcome (Refused 10) t
+changeOf t (Rec p q) = outcome (Refused 10) t
+changeOf t (Cel p q) = outcome (Refused 10) t
+changeOf t (Bin p q d) = outcome (Refused 10) t
+changeOf t (Bset h p q) = outcome (Refused 10) t
+changeOf t (Brem h) = outcome (Refused 10) t
+changeOf t (Bqry p q) = outcome (Refused 10) t
+changeOf t Unreadable = outcome (Refused 10) t

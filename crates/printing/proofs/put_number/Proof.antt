@@ -1,0 +1,30 @@
+-- `printing::put_number` meets its contract. Assumes nothing.
+use mathlib.Core.List.{[], _∷_}
+use native.Mathlib.Omega.{arith}
+use Rattle.decimals.specs.TextLaws.{number-length}
+use Rattle.decimals.specs.WrittenLaws.{next-is}
+use Rattle.printing.specs.Puts.{puts-is, puts-then}
+use borrow.Author.Needs.{needs}
+use Rattle.printing.proofs.put_number.Statement.{statement}
+use Rattle.printing.proofs.put_number.Tie as tie
+
+put-byte-requires : tie.Need-put-byte-requires
+put-byte-requires c κs = search needs
+
+put-number-requires : tie.Need-put-number-requires
+put-number-requires c κs =
+    let p = c .before .before .before in
+    let s = p .before .before .before in
+    omega (arith, next-is (s .args .out .now) (s .args .at) (44 ∷ []) (p .put-byte .ensures))
+
+same-length : tie.Need-same-length
+same-length c = search needs
+
+returns : tie.Need-returns
+returns c =
+    let p = c .before .before .before .before .before .before in
+    let s = p .before .before .before in
+    puts-then (puts-is 1 (p .put-byte .ensures) (omega arith)) (omega arith) (puts-is 10 (c .before .before .put-number .ensures) (number-length (s .args .n) (omega arith)))
+
+pub put-number-spec : {M : Type 1} → statement M
+put-number-spec = tie.close (tie.spec put-byte-requires put-number-requires same-length returns)

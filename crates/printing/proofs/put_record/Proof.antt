@@ -1,0 +1,35 @@
+-- `printing::put_record` meets its contract. Assumes nothing.
+use mathlib.Core.Path.{refl}
+use native.Mathlib.Omega.{arith}
+use Rattle.printing.specs.Said.{recordText}
+use Rattle.printing.specs.Puts.{puts-is, puts-then, puts-as}
+use borrow.Author.Needs.{needs}
+use Rattle.printing.proofs.put_record.Statement.{statement}
+use Rattle.printing.proofs.put_record.Tie as tie
+
+put-said-requires : tie.Need-put-said-requires
+put-said-requires c κs = search needs
+
+put-byte-requires : tie.Need-put-byte-requires
+put-byte-requires c κs = search needs
+
+put-byte-requires-2 : tie.Need-put-byte-requires-2
+put-byte-requires-2 c κs =
+    let p = c .before .before .before in
+    let q = puts-is 1 (p .put-byte .ensures) (omega arith) in
+    omega (arith, q .short, (c .before .before .before .before .before .before .before .put-said .ensures) .short)
+
+same-length : tie.Need-same-length
+same-length c = search needs
+
+returns : tie.Need-returns
+unfolding recordText
+returns c =
+    let p = puts-is 1 (c .before .before .before .before .before .before .put-byte .ensures) (omega arith) in
+    let q = puts-is 1 (c .before .before .put-byte2 .ensures) (omega arith) in
+    puts-as (puts-then (c .before .before .before .before .before .before .before .before .before .before .put-said .ensures) (omega arith) (puts-then p (omega arith) q)) refl (omega arith)
+
+pub put-record-spec : {M : Type 1} → statement M
+put-record-spec =
+    tie.close
+    (tie.spec put-said-requires put-byte-requires put-byte-requires-2 same-length returns)

@@ -1,0 +1,90 @@
+// The two grids of the trace, and what they answer to a record.
+ghost use mathlib.Core.Path.{_≡_};
+ghost use Prim.Native.Nat.{_+_, _≤_};
+ghost use lib.ListN.{length, take};
+ghost use Rattle.decimals.specs.Written.{written};
+ghost use Rattle.point_tables.specs.Lent as Points;
+ghost use Rattle.box_tables.specs.Lent as Boxes;
+ghost use Rattle.replay.specs.Replay.{grids, replayed, replayOf};
+ghost use Rattle.answers.specs.Cell.{built, cellOf};
+use printing::Said;
+
+// Both grids are built with cells of 16.
+pub fn start(
+    nums: &mut [[u32; 4]],
+    reals: &[[f32; 4]],
+    ints: &[[i32; 4]],
+    map: &mut [u64],
+    pool: &[[u64; 2]],
+    spots: &[[f32; 2]],
+    cells: &[[u64; 2]],
+    bnums: &mut [[u32; 4]],
+    breals: &[[f32; 4]],
+    bmap: &mut [u64],
+    bpool: &[[u64; 2]],
+) -> Said
+    ensures { λ said. ⌜ built said (Points.lent (nums .exit) (reals .entry) (ints .entry) (map .exit) (pool .entry) (spots .entry) (cells .entry)) (Boxes.lent (bnums .exit) (breals .entry) (bmap .exit) (bpool .entry)) ≡ cellOf (Points.lent (nums .entry) (reals .entry) (ints .entry) (map .entry) (pool .entry) (spots .entry) (cells .entry)) (Boxes.lent (bnums .entry) (breals .entry) (bmap .entry) (bpool .entry)) 16 ⌝ }
+{
+    answers::cell(
+        nums,
+        reals,
+        ints,
+        map,
+        pool,
+        spots,
+        cells,
+        bnums,
+        breals,
+        bmap,
+        bpool,
+        16,
+    )
+}
+
+// The record that is the first `len` bytes of the line, answered from place `at` on: where the next answer goes.
+pub fn answer_record(
+    nums: &mut [[u32; 4]],
+    reals: &mut [[f32; 4]],
+    ints: &mut [[i32; 4]],
+    map: &mut [u64],
+    pool: &mut [[u64; 2]],
+    spots: &mut [[f32; 2]],
+    cells: &mut [[u64; 2]],
+    bnums: &mut [[u32; 4]],
+    breals: &mut [[f32; 4]],
+    bmap: &mut [u64],
+    bpool: &mut [[u64; 2]],
+    line: &[u8],
+    len: usize,
+    out: &mut [u8],
+    at: usize,
+) -> usize
+    requires { ⌜ at + 12000 ≤ length (now out) ⌝ }
+    ensures { λ r. ⌜ replayed (grids (Points.lent (nums .exit) (reals .exit) (ints .exit) (map .exit) (pool .exit) (spots .exit) (cells .exit)) (Boxes.lent (bnums .exit) (breals .exit) (bmap .exit) (bpool .exit))) (written (now (out .exit)) r) ≡ replayOf (grids (Points.lent (nums .entry) (reals .entry) (ints .entry) (map .entry) (pool .entry) (spots .entry) (cells .entry)) (Boxes.lent (bnums .entry) (breals .entry) (bmap .entry) (bpool .entry))) (take len (now (line .entry))) (written (now (out .entry)) at) ⌝ }
+    ensures { λ r. ⌜ r ≤ at + 12000 ⌝ }
+{
+    let mut handles = [[0u32; 2]; 256];
+    let mut places = [[0.0f32; 2]; 256];
+    let mut corners = [[0.0f32; 4]; 64];
+    let mut objs = [0u32; 64];
+    let request = lines::read(line, len);
+    let said = answers::answer(
+        nums,
+        reals,
+        ints,
+        map,
+        pool,
+        spots,
+        cells,
+        bnums,
+        breals,
+        bmap,
+        bpool,
+        &mut handles,
+        &mut places,
+        &mut corners,
+        &mut objs,
+        request,
+    );
+    printing::put_record(out, at, said, &handles, &places, &corners)
+}

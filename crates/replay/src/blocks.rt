@@ -1,0 +1,35 @@
+// The records of the input out of its blocks, so that a record may begin in one block and end in another.
+ghost use mathlib.Core.Path.{_≡_};
+ghost use lib.ListN.{length, drop};
+ghost use Rattle.splits.specs.Sofar.{sofar};
+ghost use Rattle.replay.specs.Next.{found, nextOf};
+use crate::Found;
+use splits::Splitter;
+
+// From place `from` of the block up to the end of a record, or of the block.
+pub fn next_record(line: &mut [u8], state: Splitter, block: &[u8], from: usize) -> Found
+    ensures { λ r. ⌜ found (now (line .exit)) r ≡ nextOf (length (now (line .entry))) (sofar (now (line .entry)) state) from (drop from (now (block .entry))) ⌝ }
+{
+    let mut so_far = state;
+    let mut at = from;
+    while at < block.len() {
+        let t = splits::step(line, so_far, block[at]);
+        let next = t.state;
+        at += 1;
+        if t.ended {
+            return Found {
+                state: next,
+                ended: true,
+                len: t.len,
+                at,
+            };
+        }
+        so_far = next;
+    }
+    Found {
+        state: so_far,
+        ended: false,
+        len: 0,
+        at,
+    }
+}

@@ -1,0 +1,14 @@
+-- `telling::done` meets its contract. Assumes nothing.
+use Rattle.printing.specs.declared.Said.the-variants.{Done}
+use Rattle.telling.specs.Tells.{told-done, told-refused}
+use Rattle.telling.proofs.done.Statement.{statement}
+use Rattle.telling.proofs.done.Tie as tie
+
+returns : tie.Need-returns
+returns c = let a = c .before .args in told-done (a .answer) Done (c .if1 .taken)
+
+returns-2 : tie.Need-returns-2
+returns-2 c = let a = c .before .args in told-refused (a .answer) Done (c .if1 .left)
+
+pub done-spec : {M : Type 1} → statement M
+done-spec = tie.close (tie.spec returns returns-2)

@@ -1,0 +1,24 @@
+-- `telling::place` meets its contract. Assumes nothing.
+use mathlib.Core.Path.{ap, _∙_}
+use mir.Syntax.{w32}
+use mir.ValLaws.{toZ-ofZ}
+use borrow.Author.Needs.{needs}
+use Rattle.sixteenths.specs.Sixteenth.{sixteenth}
+use Rattle.telling.proofs.place.Statement.{statement}
+use Rattle.telling.proofs.place.Tie as tie
+
+from-sixteenths-requires : tie.Need-from-sixteenths-requires
+from-sixteenths-requires c κs = search needs
+
+from-sixteenths-requires-2 : tie.Need-from-sixteenths-requires-2
+from-sixteenths-requires-2 c κs = search needs
+
+returns : tie.Need-returns
+returns c =
+    let s = c .before .before .before .before .args .s in
+    let x = c .before .before .from-sixteenths .ensures ∙ ap sixteenth (toZ-ofZ w32 (s .x) (record { sfits = c .before .before .before .struct-told .given .0 .1 })) in
+    let y = c .from-sixteenths2 .ensures ∙ ap sixteenth (toZ-ofZ w32 (s .y) (record { sfits = c .before .struct-told2 .given .1 .0 .1 })) in
+    λ z. record { x = x z; y = y z }
+
+pub place-spec : {M : Type 1} → statement M
+place-spec = tie.close (tie.spec from-sixteenths-requires from-sixteenths-requires-2 returns)

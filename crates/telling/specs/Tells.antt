@@ -1,0 +1,44 @@
+-- What an answer says: a refusal its number alone, and after 0 what there is to tell. Assumes nothing.
+use Prim.Native.Nat.{ℕ}
+use mathlib.Core.Path.{_≡_, sym, ap}
+use mathlib.Core.Bool.{Bool, true, false}
+use lib.Dec.{eqb}
+use borrow.Author.Tests.{eq-eqb, ne-eqb}
+use Rattle.basics.specs.Refusals.{pick}
+use Rattle.printing.specs.Said.{Told}
+use Rattle.printing.specs.declared.Said.{Said}
+use Rattle.printing.specs.declared.Said.the-variants.{Refused, Done, One, Two, Points, Boxes}
+
+abbrev pub tells : ℕ → Said → Said
+tells answer said = pick (eqb answer 0) said (Refused answer)
+
+abbrev pub doneOr : ℕ → Said
+doneOr answer = tells answer Done
+
+abbrev pub oneOr : ℕ → ℕ → Said
+oneOr answer x = tells answer (One x)
+
+abbrev pub twoOr : ℕ → ℕ → ℕ → Said
+twoOr answer x y = tells answer (Two x y)
+
+abbrev pub pointsOr : ℕ → ℕ → Said
+pointsOr answer n = tells answer (Points n)
+
+abbrev pub boxesOr : ℕ → ℕ → Said
+boxesOr answer n = tells answer (Boxes n)
+
+-- ---- by the test of the answer
+pub told-done : (answer : ℕ) (said : Said) → answer ≡ 0 → said ≡ tells answer said
+told-done answer said e = sym (ap (λ (b : Bool). pick b said (Refused answer)) (eq-eqb answer 0 e))
+
+pub told-refused : (answer : ℕ) (said : Said) → (answer ≡ 0 → ⊥) → Refused answer ≡ tells answer said
+told-refused answer said e = sym (ap (λ (b : Bool). pick b said (Refused answer)) (ne-eqb answer 0 e))
+
+-- a refusal has no findings to tell
+module _ (handles places boxes : ℕ) where
+  pub told-tells : (answer : ℕ) (said : Said) → Told said handles places boxes → Told (tells answer said) handles places boxes
+  told-tells answer said h = go (eqb answer 0)
+    where
+      go : (b : Bool) → Told (pick b said (Refused answer)) handles places boxes
+      go true = h
+      go false = tt

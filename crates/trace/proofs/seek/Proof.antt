@@ -1,0 +1,21 @@
+-- `trace::seek` meets its contract: the bytes that there are, are that many of the block's first ones. Assumes nothing.
+use mathlib.Core.Path.{sym}
+use native.Mathlib.Omega.{arith}
+use lib.Seq.{length-take-le}
+use borrow.Author.Needs.{needs}
+use Rattle.trace.proofs.seek.Statement.{statement}
+use Rattle.trace.proofs.seek.Tie as tie
+
+slice-aggregate-next-record : tie.Need-slice-aggregate-next-record
+slice-aggregate-next-record c =
+    let s = c .before .before .before in
+    sym (length-take-le (s .args .p .have) (s .args .block .now) (omega (arith, c .before .before .all .given, s .pre)))
+
+next-record-requires : tie.Need-next-record-requires
+next-record-requires c κs = search needs
+
+returns : tie.Need-returns
+returns c = search needs
+
+pub seek-spec : {M : Type 1} → statement M
+seek-spec = tie.close (tie.spec slice-aggregate-next-record next-record-requires returns)

@@ -1,0 +1,2 @@
+-- What holds of the program between two answers.
+pub mod Ready
