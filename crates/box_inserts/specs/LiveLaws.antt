@@ -11,21 +11,19 @@ use Rattle.basics.specs.Counting.{one, countBelow}
 use Rattle.slots.specs.Slot.{live, phaseAt, inPhase}
 use Rattle.slots.specs.CountLaws.{in-phase-set}
 use Rattle.box_tables.specs.Tables.{Tables, slotsOf}
-
-abbrev pub isLive : List (List ℕ) → ℕ → Bool
-isLive nums s = eqb (phaseAt nums s) live
+use Rattle.slot_walks.specs.Live.{liveAt}
 
 unfoldable pub liveCount : Tables → ℕ
-liveCount t = countBelow (isLive (t .nums)) (slotsOf t)
+liveCount t = countBelow (liveAt (t .nums)) (slotsOf t)
 
-in-phase : (nums : List (List ℕ)) (k : ℕ) → countBelow (isLive nums) k ≡ inPhase live nums k
+in-phase : (nums : List (List ℕ)) (k : ℕ) → countBelow (liveAt nums) k ≡ inPhase live nums k
 unfolding countBelow inPhase
 in-phase nums zero = refl
-in-phase nums (suc k) = ap (λ (n : ℕ). n + one (isLive nums k)) (in-phase nums k)
+in-phase nums (suc k) = ap (λ (n : ℕ). n + one (liveAt nums k)) (in-phase nums k)
 
 -- the row of slot s becomes another
 module _ (t : Tables) (s : ℕ) (inside : s < slotsOf t) (row : List ℕ) (u : Tables) (e : u .nums ≡ set (t .nums) s row) where
-  row-count : liveCount u + one (isLive (t .nums) s) ≡ liveCount t + one (eqb (getD row 1 0) live)
+  row-count : liveCount u + one (liveAt (t .nums) s) ≡ liveCount t + one (eqb (getD row 1 0) live)
   unfolding liveCount
   row-count =
       rw (e, length-set (t .nums) s row, in-phase (set (t .nums) s row) (length (t .nums)), in-phase (t .nums) (length (t .nums)))

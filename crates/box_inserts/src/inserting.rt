@@ -66,19 +66,6 @@ fn choose(nums: &[[u32; 4]], map: &[u64], room: usize, held: bool, b: Aabb) -> C
     slot_for(u, fits)
 }
 
-// A refusal returns zeros.
-fn refused(answer: u32) -> Inserted
-    ensures { λ r. ⌜ r ≡ inserted answer 0 0 ⌝ }
-{
-    Inserted {
-        answer,
-        handle: Handle {
-            slot: 0,
-            version: 0,
-        },
-    }
-}
-
 // The object is in slot s, at the version that the slot has.
 fn accepted(nums: &[[u32; 4]], s: usize) -> Inserted
     requires { ⌜ (s < length (now nums)) × (length (now nums) ≤ 256) ⌝ }
@@ -164,7 +151,7 @@ pub fn insert(
     let c = choose(nums, map, pool.len(), held, b);
     let a = c.answer;
     if a != 0 {
-        return refused(a);
+        return replies::refused_insert(a);
     }
     let s = c.slot;
     let r = accepted(nums, s);

@@ -15,9 +15,10 @@ use Rattle.storage.specs.Keyed.{written}
 use Rattle.box_tables.specs.Tables.{Tables, sizeOf, covers, mostCells, objOn}
 use Rattle.box_tables.specs.Decide.{holds}
 use Rattle.replies.specs.declared.Count.{Count}
-use Rattle.box_queries.specs.Queries.{broad, narrow, handleRow, boxRow, answerOf, settled, Handles, handlesOf, broadOf, Findings, findings, roomOf, queryOf}
+use Rattle.box_queries.specs.Queries.{broad, narrow, boxRow, answerOf, settled, Handles, handlesOf, broadOf, Findings, findings, roomOf, queryOf}
 use Rattle.box_queries.specs.Look.{earlyOf}
 use Rattle.replies.specs.Replies.{count}
+use Rattle.slot_walks.specs.Live.{handleAt}
 
 -- ---- by the four tests
 abbrev answer : Bool → Bool → Bool → Bool → ℕ
@@ -85,7 +86,7 @@ module _ (t : Tables) (q : Aabb) where
     number = length (broad t q)
 
     abbrev broad-done : Handles
-    broad-done = handlesOf (count 0 number) (written (map (handleRow (t .nums)) (broad t q)) handles)
+    broad-done = handlesOf (count 0 number) (written (map (handleAt (t .nums)) (broad t q)) handles)
 
     pub broad-early : (earlyOf t q ≡ 0 → ⊥) → handlesOf (count (earlyOf t q) 0) handles ≡ broadOf t q handles
     unfolding broadOf
@@ -109,7 +110,7 @@ module _ (t : Tables) (q : Aabb) where
 
     abbrev query-done : Findings
     query-done =
-        findings (count 0 kept) (written (map (handleRow (t .nums)) (narrow t q)) handles) (written (map (boxRow (t .reals)) (narrow t q)) boxes) (written (map (objOn t) (narrow t q)) objs)
+        findings (count 0 kept) (written (map (handleAt (t .nums)) (narrow t q)) handles) (written (map (boxRow (t .reals)) (narrow t q)) boxes) (written (map (objOn t) (narrow t q)) objs)
 
     pub query-early : (earlyOf t q ≡ 0 → ⊥) → findings (count (earlyOf t q) 0) handles boxes objs ≡ queryOf t q handles boxes objs
     unfolding queryOf

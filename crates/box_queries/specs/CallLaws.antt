@@ -15,12 +15,13 @@ use Rattle.storage.specs.FilterLaws.{all-at}
 use Rattle.box_tables.specs.Tables.{Tables, slotsOf, aabbOn, objOn}
 use Rattle.box_tables.specs.Decide.{holds-says}
 use Rattle.replies.specs.declared.Count.{Count}
-use Rattle.box_queries.specs.Queries.{broad, narrow, handleRow, boxRow, handlesOf, broadOf, findings, roomOf, queryOf}
+use Rattle.box_queries.specs.Queries.{broad, narrow, boxRow, handlesOf, broadOf, findings, roomOf, queryOf}
 use Rattle.box_queries.specs.Put.{Found}
 use Rattle.box_queries.specs.Look.{earlyOf, Looked}
 use Rattle.box_queries.specs.AnswerLaws.{early-passed, broad-early, broad-9, broad-0, query-early, query-9, query-0}
 use Rattle.box_queries.specs.BroadLaws.{query-filter, broad-all, narrow-all}
 use Rattle.replies.specs.Replies.{count}
+use Rattle.slot_walks.specs.Live.{handleAt}
 
 -- the first n of an array of 256 are the slots ss
 module _ (rows : ℕ) (ss found : List ℕ) (n : ℕ) (size : length found ≡ 256) (most : n ≤ 256) (e : take n found ≡ ss) where
@@ -79,10 +80,10 @@ module _ (t : Tables) (q : Aabb) (r : Count) (found : List ℕ) (w : Looked t q 
       pub broad-short : length handles < n → handlesOf (count 9 (r .count)) handles ≡ broadOf t q handles
       broad-short l = ap (λ (k : ℕ). handlesOf (count 9 k) handles) looked-number ∙ broad-9 t q handles passed (omega (arith, looked-number))
 
-      pub broad-done : (out : List (List ℕ)) → n ≤ length handles → out ≡ written (map (handleRow (t .nums)) (take n found)) handles → handlesOf r out ≡ broadOf t q handles
+      pub broad-done : (out : List (List ℕ)) → n ≤ length handles → out ≡ written (map (handleAt (t .nums)) (take n found)) handles → handlesOf r out ≡ broadOf t q handles
       broad-done out l e =
           (λ z. handlesOf (count (o z) (looked-number z)) (e z))
-          ∙ ap (λ (ss : List ℕ). handlesOf (count 0 (length (broad t q))) (written (map (handleRow (t .nums)) ss) handles)) (ap (λ (k : ℕ). take k found) en ∙ w .slots o)
+          ∙ ap (λ (ss : List ℕ). handlesOf (count 0 (length (broad t q))) (written (map (handleAt (t .nums)) ss) handles)) (ap (λ (k : ℕ). take k found) en ∙ w .slots o)
           ∙ broad-0 t q handles passed (omega (arith, looked-number))
 
     -- ---- `query`: the first n of `kept` are those that q intersects
@@ -104,9 +105,9 @@ module _ (t : Tables) (q : Aabb) (r : Count) (found : List ℕ) (w : Looked t q 
         pub query-short : room < n → findings (count 9 n) handles boxes objs ≡ queryOf t q handles boxes objs
         query-short l = ap (λ (k : ℕ). findings (count 9 k) handles boxes objs) kept-number ∙ query-9 t q handles boxes objs passed (omega (arith, kept-number))
 
-        pub query-done : (hs : List (List ℕ)) (bs : List (List Float)) (os : List ℕ) → n ≤ room → hs ≡ written (map (handleRow (t .nums)) (take n kept)) handles
+        pub query-done : (hs : List (List ℕ)) (bs : List (List Float)) (os : List ℕ) → n ≤ room → hs ≡ written (map (handleAt (t .nums)) (take n kept)) handles
             → bs ≡ written (map (boxRow (t .reals)) (take n kept)) boxes → os ≡ written (map (objOn t) (take n kept)) objs → findings (count 0 n) hs bs os ≡ queryOf t q handles boxes objs
         query-done hs bs os l eh eb eo =
             (λ z. findings (count 0 (kept-number z)) (eh z) (eb z) (eo z))
-            ∙ ap (λ (ss : List ℕ). findings (count 0 (length (narrow t q))) (written (map (handleRow (t .nums)) ss) handles) (written (map (boxRow (t .reals)) ss) boxes) (written (map (objOn t) ss) objs)) kept-narrow
+            ∙ ap (λ (ss : List ℕ). findings (count 0 (length (narrow t q))) (written (map (handleAt (t .nums)) ss) handles) (written (map (boxRow (t .reals)) ss) boxes) (written (map (objOn t) ss) objs)) kept-narrow
             ∙ query-0 t q handles boxes objs passed (omega (arith, kept-number))

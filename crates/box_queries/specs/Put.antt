@@ -11,5 +11,3 @@ pub record Found (rows : ℕ) (found : List ℕ) (n : ℕ) : Type 0 where
   pub each : (k : ℕ) → k < n → getD found k 0 < rows
 
 -- the data of a slot
-abbrev pub objAt : List (List ℕ) → ℕ → ℕ
-objAt nums s = getD (getD nums s []) 2 0

@@ -18,6 +18,7 @@ use Rattle.box_tables.specs.Decide.{holds}
 use Rattle.replies.specs.declared.Count.{Count}
 use Rattle.box_queries.specs.Firsts.{firsts}
 use Rattle.replies.specs.Replies.{count}
+use Rattle.slot_walks.specs.Live.{handleAt}
 
 -- ---- what is found
 -- the entries of the cells of the query box, in range order and then in list order
@@ -35,9 +36,6 @@ unfolding broad
 narrow t q = filter (λ s. intersects q (aabbOn t s)) (broad t q)
 
 -- ---- a finding in the outputs: a row (slot, version), a row of the four numbers of the box, and the data
-abbrev pub handleRow : List (List ℕ) → ℕ → List ℕ
-handleRow nums s = s ∷ versionAt nums s ∷ []
-
 abbrev pub boxRow : List (List Float) → ℕ → List Float
 boxRow reals s = cornersOf (aabbAt reals s)
 
@@ -69,7 +67,7 @@ unfolding answerOf broad
 broadOf t q handles =
     let ss = broad t q in
     settled (answerOf t q (length ss) (length handles)) (length ss)
-    (handlesOf (count 0 (length ss)) (written (map (handleRow (t .nums)) ss) handles))
+    (handlesOf (count 0 (length ss)) (written (map (handleAt (t .nums)) ss) handles))
     (λ c. handlesOf c handles)
 
 -- ---- `query`
@@ -91,5 +89,5 @@ unfolding answerOf narrow
 queryOf t q handles boxes objs =
     let ss = narrow t q in
     settled (answerOf t q (length ss) (roomOf handles boxes objs)) (length ss)
-    (findings (count 0 (length ss)) (written (map (handleRow (t .nums)) ss) handles) (written (map (boxRow (t .reals)) ss) boxes) (written (map (objOn t) ss) objs))
+    (findings (count 0 (length ss)) (written (map (handleAt (t .nums)) ss) handles) (written (map (boxRow (t .reals)) ss) boxes) (written (map (objOn t) ss) objs))
     (λ c. findings c handles boxes objs)

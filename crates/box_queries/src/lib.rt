@@ -6,7 +6,6 @@ ghost use Rattle.box_tables.specs.Tables.{tables};
 ghost use Rattle.box_tables.specs.Decide.{holds};
 ghost use Rattle.box_queries.specs.Queries.{handlesOf, broadOf, findings, queryOf};
 ghost use Rattle.box_queries.specs.Look.{Looked};
-ghost use Rattle.replies.specs.Replies.{count};
 
 mod gather;
 mod keep;
@@ -22,15 +21,6 @@ use put::put_findings;
 use put::put_handles;
 use replies::Count;
 
-fn refused(answer: u32) -> Count
-    ensures { λ r. ⌜ r ≡ count answer 0 ⌝ }
-{
-    Count {
-        answer: answer,
-        count: 0,
-    }
-}
-
 // The slots of the boxes in the cells of q, each once, in the first places of `found`, and how many they are; or the refusal.
 fn look(
     nums: &[[u32; 4]],
@@ -45,15 +35,15 @@ fn look(
     ensures { λ r. ⌜ Looked (tables (now (nums .entry)) (now (reals .entry)) (now (map .entry)) (now (pool .entry))) q r (now (found .exit)) ⌝ }
 {
     if !held {
-        return refused(3);
+        return replies::refused(3);
     }
     if !aabb_in_domain(q) {
-        return refused(6);
+        return replies::refused(6);
     }
     let size = map[0];
     let span = span_of(size, q);
     if 4096 < span.cells {
-        return refused(7);
+        return replies::refused(7);
     }
     let used = basics::index_of(map[1]);
     let low = key_of(span.low);

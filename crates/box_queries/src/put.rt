@@ -4,13 +4,14 @@ ghost use mathlib.Core.List.{map};
 ghost use Prim.Native.Nat.{_≤_};
 ghost use lib.ListN.{length, take};
 ghost use Rattle.storage.specs.Keyed.{written};
-ghost use Rattle.box_queries.specs.Queries.{handleRow, boxRow};
-ghost use Rattle.box_queries.specs.Put.{Found, objAt};
+ghost use Rattle.box_queries.specs.Queries.{boxRow};
+ghost use Rattle.box_queries.specs.Put.{Found};
+ghost use Rattle.slot_walks.specs.Live.{objAt, handleAt};
 
 // Slot and version.
 pub fn put_handles(nums: &[[u32; 4]], found: &[u32; 256], n: usize, handles: &mut [[u32; 2]])
     requires { ⌜ Found (length (now nums)) (now found) n × (n ≤ length (now handles)) ⌝ }
-    ensures { λ _. ⌜ now (handles .exit) ≡ written (map (handleRow (now (nums .entry))) (take n (now (found .entry)))) (now (handles .entry)) ⌝ }
+    ensures { λ _. ⌜ now (handles .exit) ≡ written (map (handleAt (now (nums .entry))) (take n (now (found .entry)))) (now (handles .entry)) ⌝ }
 {
     let mut k = 0;
     while k < n {
@@ -58,7 +59,7 @@ pub fn put_findings(
     objs: &mut [u32],
 )
     requires { ⌜ Found (length (now nums)) (now found) n × (length (now reals) ≡ length (now nums)) × (n ≤ length (now handles)) × (n ≤ length (now boxes)) × (n ≤ length (now objs)) ⌝ }
-    ensures { λ _. ⌜ (now (handles .exit) ≡ written (map (handleRow (now (nums .entry))) (take n (now (found .entry)))) (now (handles .entry))) × (now (boxes .exit) ≡ written (map (boxRow (now (reals .entry))) (take n (now (found .entry)))) (now (boxes .entry))) × (now (objs .exit) ≡ written (map (objAt (now (nums .entry))) (take n (now (found .entry)))) (now (objs .entry))) ⌝ }
+    ensures { λ _. ⌜ (now (handles .exit) ≡ written (map (handleAt (now (nums .entry))) (take n (now (found .entry)))) (now (handles .entry))) × (now (boxes .exit) ≡ written (map (boxRow (now (reals .entry))) (take n (now (found .entry)))) (now (boxes .entry))) × (now (objs .exit) ≡ written (map (objAt (now (nums .entry))) (take n (now (found .entry)))) (now (objs .entry))) ⌝ }
 {
     put_handles(nums, found, n, handles);
     put_boxes(reals, found, n, boxes);

@@ -7,7 +7,7 @@ use native.Mathlib.Omega.{arith}
 use lib.Ieee.{Float}
 use lib.ListN.{length}
 use Rattle.storage.specs.Keyed.{written}
-use Rattle.slot_walks.specs.Live.{liveFrom}
+use Rattle.slot_walks.specs.Live.{liveFrom, objAt}
 use Rattle.slot_walks.specs.Cleared.{clearedRows, clearedMap}
 use Rattle.box_tables.specs.Tables.{Tables, tables, counting}
 use Rattle.box_tables.specs.Holds.{Holds}
@@ -16,7 +16,7 @@ use Rattle.box_tables.specs.Outcome.{outcome}
 use Rattle.replies.specs.declared.Count.{Count}
 use Rattle.box_reads.specs.Live.{liveSlots, countBy, listAnswer, listCount}
 use Rattle.box_reads.specs.LiveLaws.{list-passed, listed, listed-0, listed-no}
-use Rattle.box_reads.specs.Clear.{boxAt, objAt, cleared, wrote, clearOf}
+use Rattle.box_reads.specs.Clear.{boxAt, cleared, wrote, clearOf}
 use Rattle.box_reads.specs.ClearLaws.{clear-0, clear-no}
 
 -- the verdict says that the tables hold a grid

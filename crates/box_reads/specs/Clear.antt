@@ -11,6 +11,7 @@ use Rattle.box_tables.specs.Tables.{Tables, tables, counting, aabbAt, cornersOf
 use Rattle.box_tables.specs.Outcome.{Outcome, outcome}
 use Rattle.replies.specs.declared.Count.{Count}
 use Rattle.box_reads.specs.Live.{liveSlots, listAnswer, listCount}
+use Rattle.slot_walks.specs.Live.{objAt}
 
 -- every live slot is emptied, and no entry is in use
 unfoldable pub cleared : Tables → Tables
@@ -19,9 +20,6 @@ cleared t = tables (clearedRows (t .nums)) (t .reals) (counting (clearedMap 0 (t
 -- ---- the outputs: a row (lower left x, y, upper right x, y) and a number for each object
 abbrev pub boxAt : List (List Float) → ℕ → List Float
 boxAt reals s = cornersOf (aabbAt reals s)
-
-abbrev pub objAt : List (List ℕ) → ℕ → ℕ
-objAt nums s = getD (getD nums s []) 2 0
 
 pub record Written : Type 0 where
   pub returned : Count

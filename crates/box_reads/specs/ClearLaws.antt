@@ -11,7 +11,7 @@ use Rattle.basics.specs.Refusals.{pick}
 use Rattle.basics.specs.Counting.{countBelow}
 use Rattle.slots.specs.Slot.{live, phaseAt}
 use Rattle.storage.specs.Keyed.{written}
-use Rattle.slot_walks.specs.Live.{liveAt}
+use Rattle.slot_walks.specs.Live.{liveAt, objAt}
 use Rattle.box_tables.specs.Tables.{Tables, usedOf, slotsOf}
 use Rattle.box_tables.specs.Holds.{Holds}
 use Rattle.box_tables.specs.Decide.{holds-says}
@@ -20,7 +20,7 @@ use Rattle.box_reads.specs.Live.{liveSlots, listAnswer, listCount}
 use Rattle.box_reads.specs.LiveLaws.{answer-of, live-count, list-counts}
 use Rattle.box_reads.specs.Reads.{lenOf}
 use Rattle.box_reads.specs.ReadsLaws.{len-0}
-use Rattle.box_reads.specs.Clear.{cleared, boxAt, objAt, Written, wrote, clearOf}
+use Rattle.box_reads.specs.Clear.{cleared, boxAt, Written, wrote, clearOf}
 use Rattle.box_reads.specs.ClearKeeps.{cleared-none, cleared-no-object, cleared-used, cleared-keeps}
 use Rattle.replies.specs.Replies.{count}
 

@@ -5,13 +5,13 @@ ghost use Prim.Native.Nat.{_+_, _≤_, min};
 ghost use lib.ListN.{length};
 ghost use Rattle.slots.specs.Map.{wordsFor};
 ghost use Rattle.storage.specs.Keyed.{written};
-ghost use Rattle.slot_walks.specs.Live.{liveFrom};
+ghost use Rattle.slot_walks.specs.Live.{liveFrom, objAt};
 ghost use Rattle.slot_walks.specs.Cleared.{clearedRows, clearedMap};
 ghost use Rattle.box_tables.specs.Tables.{counting};
 ghost use Rattle.box_tables.specs.Lent.{lent};
 ghost use Rattle.box_tables.specs.Decide.{holds};
 ghost use Rattle.box_tables.specs.Outcome.{outcome};
-ghost use Rattle.box_reads.specs.Clear.{boxAt, objAt, wrote, clearOf};
+ghost use Rattle.box_reads.specs.Clear.{boxAt, wrote, clearOf};
 use crate::list_answer;
 use replies::Count;
 

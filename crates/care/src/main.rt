@@ -59,7 +59,7 @@ fn look(
     line(b"query ", r.answer, r.count);
 }
 
-// The stored box ends at 1 - 2^-24, which no box of the query's cells at size 1 does.
+// The stored box ends at 1 - 2^-24: at size 10 it shares a cell with the query, at size 1 it does not.
 fn rounding(
     nums: &mut [[u32; 4]; 4],
     reals: &mut [[f32; 4]; 4],

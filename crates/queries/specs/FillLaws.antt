@@ -20,12 +20,13 @@ use Rattle.point_tables.specs.Holds.{Holds}
 use Rattle.point_tables.specs.Decide.{holds, holds-says}
 use Rattle.queries.specs.declared.Test.{Test}
 use Rattle.queries.specs.Queries.{Findings, findings, mostCells, handleRow, placeRow, found, searchOf}
-use Rattle.queries.specs.Places.{wantedAt, entryAt, placesOf}
+use Rattle.queries.specs.Places.{wantedAt, placesOf}
 use Rattle.queries.specs.PlacesLaws.{places-inside}
 use Rattle.queries.specs.Fill.{handleAt, placeAt, filled, Stocked, Findable}
 use Rattle.queries.specs.FoundLaws.{in-pool, in-spots, rows-sorted, found-places}
 use Rattle.queries.specs.FindLaws.{search-9, search-0}
 use Rattle.replies.specs.Replies.{count}
+use Rattle.point_tables.specs.EntryLaws.{entryAt}
 
 module _ (nums pool : List (List ℕ)) (spots : List (List Float)) (js : List ℕ) (handles : List (List ℕ)) (places : List (List Float)) where
   pub filled-0 : length js ≤ min (length handles) (length places)

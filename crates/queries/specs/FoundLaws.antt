@@ -30,8 +30,9 @@ use Rattle.point_tables.specs.Tables.{Tables, sizeOf, usedOf, slotsOf, recordOn
 use Rattle.point_tables.specs.Holds.{Holds}
 use Rattle.queries.specs.declared.Test.{Test}
 use Rattle.queries.specs.Queries.{passes, positionOf, found}
-use Rattle.queries.specs.Places.{entryAt, wanted, placesOf}
-use Rattle.queries.specs.PlacesLaws.{entries-all, places-entries}
+use Rattle.queries.specs.Places.{wanted, placesOf}
+use Rattle.queries.specs.PlacesLaws.{places-entries}
+use Rattle.point_tables.specs.EntryLaws.{entryAt, all-entries}
 
 -- what an entry in use is: its position is in the domain, its key is that of the position's cell, and its slot is occupied
 pub record Standing (t : Tables) (e : Entry) : Type 0 where
@@ -66,7 +67,7 @@ module _ (t : Tables) (h : Holds t) where
       }
 
   pub standing : All (Standing t) (entriesIn t)
-  standing = entries-all (t .pool) (t .spots) (Standing t) (usedOf t) in-pool in-spots stands
+  standing = all-entries (t .pool) (t .spots) (usedOf t) in-pool in-spots (Standing t) stands
 
   cell-fits : (p : Position) → Reached p → Fits (cellAt (sizeOf t) p)
   cell-fits p r = near-fits (cellAt (sizeOf t) p) (cell-near (sizeOf t) p r)

@@ -19,9 +19,10 @@ use Rattle.point_tables.specs.Tables.{Tables, sizeOf, usedOf, slotsOf, recordOn
 use Rattle.point_tables.specs.Holds.{Holds}
 use Rattle.queries.specs.declared.Test.{Test}
 use Rattle.queries.specs.Queries.{passes, positionOf, found}
-use Rattle.queries.specs.Places.{entryAt, wanted}
-use Rattle.queries.specs.PlacesLaws.{entries-next, entries-all}
+use Rattle.queries.specs.Places.{wanted}
+use Rattle.queries.specs.PlacesLaws.{entries-next}
 use Rattle.queries.specs.FoundLaws.{Standing, in-pool, in-spots, standing, stands, window-own, found-wanted}
+use Rattle.point_tables.specs.EntryLaws.{entryAt, all-entries}
 
 abbrev pub slotOf : Entry → ℕ
 slotOf e = rowItem (e .row)
@@ -65,7 +66,7 @@ module _ (t : Tables) (h : Holds t) where
   once-to (suc n) m =
       rw (next n m)
       (once-last (upTo n) (at n) (once-to n (omega arith))
-      (entries-all (t .pool) (t .spots) (λ d. slotOf d ≡ slotOf (at n) → ⊥) n (omega (arith, in-pool t h)) (omega (arith, in-spots t h)) (λ j l e. h .lists .once j n m l e)))
+      (all-entries (t .pool) (t .spots) n (omega (arith, in-pool t h)) (omega (arith, in-spots t h)) (λ d. slotOf d ≡ slotOf (at n) → ⊥) (λ j l e. h .lists .once j n m l e)))
 
   member-to : (n j : ℕ) → n ≤ usedOf t → j < n → List·Memᴰ (at j) (upTo n)
   member-to zero j m l = absurd (omega arith)

@@ -10,14 +10,12 @@ use Rattle.storage.specs.Entries.{Entry, entry, entryKey}
 use Rattle.storage.specs.WindowLaws.{windowOf}
 use Rattle.queries.specs.Queries.{passes, positionOf}
 use Rattle.queries.specs.declared.Test.{Test}
+use Rattle.point_tables.specs.EntryLaws.{entryAt}
 
 -- of n places from `from` on, those that pass
 unfoldable pub placesIn : (ℕ → Bool) → ℕ → ℕ → List ℕ
 placesIn test from zero = []
 placesIn test from (suc n) = placesIn test from n ++ pick (test (from + n)) ((from + n) ∷ []) []
-
-abbrev pub entryAt : List (List ℕ) → List (List Float) → ℕ → Entry
-entryAt pool spots j = entry (getD pool j []) (getD spots j [])
 
 -- an entry whose cell is in the range from a to b, and whose position passes
 abbrev pub wanted : Cell → Cell → Test → Entry → Bool

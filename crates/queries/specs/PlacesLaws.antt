@@ -11,7 +11,8 @@ use Rattle.basics.specs.Refusals.{pick}
 use Rattle.storage.specs.Keyed.{All, filter}
 use Rattle.storage.specs.Entries.{Entry, entry, zipped, entriesOf}
 use Rattle.storage.specs.FilterLaws.{by-test, all-map, all-append, filter-append}
-use Rattle.queries.specs.Places.{placesIn, entryAt}
+use Rattle.queries.specs.Places.{placesIn}
+use Rattle.point_tables.specs.EntryLaws.{entryAt}
 
 -- one place, if it passes
 abbrev one : Bool → ℕ → List ℕ
@@ -83,13 +84,6 @@ module _ (pool : List (List ℕ)) (spots : List (List Float)) where
   entries-next n h k =
       ap₂ {C = List Entry} zipped (take-suc pool n [] h) (take-suc spots n [] k)
       ∙ zipped-append (take n pool) (getD pool n [] ∷ []) (take n spots) (getD spots n [] ∷ []) (omega (arith, length-take-le n pool (omega arith), length-take-le n spots (omega arith)))
-
-  -- a fact of every entry in use, by places
-  pub entries-all : (P : Entry → Type 0) (n : ℕ) → n ≤ length pool → n ≤ length spots → ((j : ℕ) → j < n → P (entryAt pool spots j)) → All P (entriesOf pool spots n)
-  entries-all P zero h k f = tt
-  entries-all P (suc n) h k f =
-      rw (entries-next n (omega arith) (omega arith))
-      (all-append P (entriesOf pool spots n) (entryAt pool spots n ∷ []) (entries-all P n (omega arith) (omega arith) (λ j l. f j (omega arith))) (f n (omega arith), tt))
 
   -- the entries at the places that pass are those that pass
   pub places-entries : (test : Entry → Bool) (n : ℕ) → n ≤ length pool → n ≤ length spots

@@ -5,7 +5,6 @@ ghost use Rattle.cells.specs.CellRule.{Reached};
 ghost use Rattle.point_tables.specs.Tables.{tables};
 ghost use Rattle.point_tables.specs.Decide.{holds};
 ghost use Rattle.queries.specs.Queries.{findings, searchOf, queryOf, aroundOf, aabbOf};
-ghost use Rattle.replies.specs.Replies.{count};
 
 mod fill;
 mod gather;
@@ -25,15 +24,6 @@ pub enum Test {
     Any,
     Circle(Position, f32),
     Rectangle(Position, Position),
-}
-
-fn refused(answer: u32) -> Count
-    ensures { λ r. ⌜ r ≡ count answer 0 ⌝ }
-{
-    Count {
-        answer: answer,
-        count: 0,
-    }
 }
 
 // What the three queries are: the range from the cell of `ll` to that of `ur`, and a test. `ok` says whether the numbers that were given are in the domain.
@@ -58,16 +48,16 @@ fn search(
     ensures { λ r. ⌜ findings r (now (handles .exit)) (now (places .exit)) ≡ searchOf (tables (now (nums .entry)) (now (reals .entry)) (now (ints .entry)) (now (map .entry)) (now (pool .entry)) (now (spots .entry)) (now (cells .entry))) ok ll ur test (now (handles .entry)) (now (places .entry)) ⌝ }
 {
     if !held {
-        return refused(3);
+        return replies::refused(3);
     }
     if !ok {
-        return refused(6);
+        return replies::refused(6);
     }
     let size = map[0];
     let a = cell_at(size, ll);
     let b = cell_at(size, ur);
     if 4096 < cells_in(a, b) {
-        return refused(7);
+        return replies::refused(7);
     }
     let used = basics::index_of(map[1]);
     fill(nums, pool, spots, used, a, b, test, handles, places)

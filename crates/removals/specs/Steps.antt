@@ -12,6 +12,7 @@ use Rattle.point_tables.specs.Tables.{Tables, slotsOf}
 use Rattle.point_tables.specs.Holds.{Holds}
 use Rattle.replies.specs.declared.Count.{Count}
 use Rattle.replies.specs.Replies.{count}
+use Rattle.slot_walks.specs.Live.{objAt}
 
 -- slot s has an object, in tables that hold a grid
 pub record Object (t : Tables) (s : ℕ) : Type 0 where
@@ -29,9 +30,6 @@ countBy held n places objs = pick held (count (roomAnswer n places objs) n) (cou
 -- what the live slots have in the columns
 abbrev pub placeAt : List (List Float) → ℕ → List Float
 placeAt reals s = getD (getD reals s []) 0 nan ∷ getD (getD reals s []) 1 nan ∷ []
-
-abbrev pub objAt : List (List ℕ) → ℕ → ℕ
-objAt nums s = getD (getD nums s []) 2 0
 
 abbrev pub placesOf : List (List Float) → List ℕ → List (List Float)
 placesOf reals slots = map (placeAt reals) slots

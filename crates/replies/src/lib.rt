@@ -1,4 +1,6 @@
 // What calls return beside their tables and outputs. An answer is a number of document 01.
+ghost use mathlib.Core.Path.{_≡_};
+ghost use Rattle.replies.specs.Replies.{count, inserted};
 use slots::Handle;
 
 // The data of an object beside the answer.
@@ -17,4 +19,23 @@ pub struct Count {
 pub struct Inserted {
     pub answer: u32,
     pub handle: Handle,
+}
+
+// A refusal returns zeros.
+pub fn refused(answer: u32) -> Count
+    ensures { λ r. ⌜ r ≡ count answer 0 ⌝ }
+{
+    Count { answer, count: 0 }
+}
+
+pub fn refused_insert(answer: u32) -> Inserted
+    ensures { λ r. ⌜ r ≡ inserted answer 0 0 ⌝ }
+{
+    Inserted {
+        answer,
+        handle: Handle {
+            slot: 0,
+            version: 0,
+        },
+    }
 }

@@ -13,6 +13,10 @@ rowLive row = eqb (getD row 1 0) live
 abbrev pub liveAt : List (List ℕ) → ℕ → Bool
 liveAt nums s = eqb (phaseAt nums s) live
 
+-- the data of a slot
+abbrev pub objAt : List (List ℕ) → ℕ → ℕ
+objAt nums s = getD (getD nums s []) 2 0
+
 -- the live slots among the rows, the first of which is that of slot s, ascending
 abbrev pub liveFrom : ℕ → List (List ℕ) → List ℕ
 liveFrom s [] = []

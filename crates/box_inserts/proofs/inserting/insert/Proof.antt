@@ -18,7 +18,7 @@ returns : tie.Need-returns
 returns c =
     let k = c .before .before in
     let s = k .before .before .before .before in
-    refused (at-entry s) (s .args .b) (s .args .obj) (s .args .held) (s .pre) (k .choose .result .answer) (k .choose .ensures .0) (c .before .if1 .taken) (c .refused .result) (c .refused .ensures)
+    refused (at-entry s) (s .args .b) (s .args .obj) (s .args .held) (s .pre) (k .choose .result .answer) (k .choose .ensures .0) (c .before .if1 .taken) (c .refused-insert .result) (c .refused-insert .ensures)
 
 accepted-requires : tie.Need-accepted-requires
 accepted-requires c κs =

@@ -8,12 +8,12 @@ use borrow.Author.Needs.{needs}
 use Rattle.slots.specs.Slot.{versionAt}
 use Rattle.storage.specs.Keyed.{written}
 use Rattle.storage.specs.PutLaws.{put-length, put-next}
-use Rattle.box_queries.specs.Queries.{handleRow}
 use Rattle.box_queries.proofs.put.put_handles.Statement.{statement}
 use Rattle.box_queries.proofs.put.put_handles.Tie as tie
+use Rattle.slot_walks.specs.Live.{handleAt}
 
 abbrev Inv-loop : tie.InvT-loop
-Inv-loop nums found n handles₀ k₀ handles k = (k ≤ n) × (handles ≡ written (map (handleRow nums) (take k found)) handles₀)
+Inv-loop nums found n handles₀ k₀ handles k = (k ≤ n) × (handles ≡ written (map (handleAt nums) (take k found)) handles₀)
 
 abbrev μ-loop : tie.MeasureT-loop
 μ-loop nums found n handles₀ k₀ handles k = n - k
@@ -27,7 +27,7 @@ module _ (l : tie.At-loop Inv-loop μ-loop) where
   in-array h = omega (arith, h, start .pre .0 .most, start .pre .0 .size)
 
   kept : length (l .loop .handles) ≡ length (start .args .handles .now)
-  kept = ap length (l .loop .inv .1) ∙ put-length (handleRow (start .args .nums .now)) (start .args .found .now) (start .args .handles .now) (l .loop .k) (omega (arith, start .pre .0 .most, start .pre .0 .size)) (omega (arith, start .pre .1))
+  kept = ap length (l .loop .inv .1) ∙ put-length (handleAt (start .args .nums .now)) (start .args .found .now) (start .args .handles .now) (l .loop .k) (omega (arith, start .pre .0 .most, start .pre .0 .size)) (omega (arith, start .pre .1))
 
 loop-holds : tie.Need-loop-holds Inv-loop μ-loop
 loop-holds c = (omega arith, refl)
@@ -61,7 +61,7 @@ loop-again c =
     let s = c .before .wide .result in
     let e : s ≡ getD (a .found .now) (l .loop .k) 0 = c .before .wide .ensures in (
       omega arith,
-      put-next (handleRow (a .nums .now)) (a .found .now) (a .handles .now) (l .loop .k) (l .loop .handles) (getD (a .found .now) (l .loop .k) 0 ∷ versionAt (a .nums .now) s ∷ []) (l .loop .inv .1)
+      put-next (handleAt (a .nums .now)) (a .found .now) (a .handles .now) (l .loop .k) (l .loop .handles) (getD (a .found .now) (l .loop .k) 0 ∷ versionAt (a .nums .now) s ∷ []) (l .loop .inv .1)
           (λ z. getD (a .found .now) (l .loop .k) 0 ∷ versionAt (a .nums .now) (e z) ∷ []) (in-array l h) (omega (arith, h, start l .pre .1)),
     )
 
@@ -73,7 +73,7 @@ returns c =
     let l = c .before in
     let a = start l .args in
     let e : l .loop .k ≡ a .n = omega arith in
-    l .loop .inv .1 ∙ ap (λ k. written (map (handleRow (a .nums .now)) (take k (a .found .now))) (a .handles .now)) e
+    l .loop .inv .1 ∙ ap (λ k. written (map (handleAt (a .nums .now)) (take k (a .found .now))) (a .handles .now)) e
 
 pub put-handles-spec : {M : Type 1} → statement M
 put-handles-spec =

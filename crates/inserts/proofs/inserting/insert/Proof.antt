@@ -18,7 +18,7 @@ returns : tie.Need-returns
 returns c =
     let s = c .before .before .before .before .before .before in
     let k = c .before .before .choose in
-    refused (at-entry s) (s .args .at) (s .args .obj) (s .args .held) (s .pre) (k .result .answer) (k .ensures .0) (c .before .if1 .taken) (c .refused .result) (c .refused .ensures)
+    refused (at-entry s) (s .args .at) (s .args .obj) (s .args .held) (s .pre) (k .result .answer) (k .ensures .0) (c .before .if1 .taken) (c .refused-insert .result) (c .refused-insert .ensures)
 
 accepted-requires : tie.Need-accepted-requires
 accepted-requires c κs =
