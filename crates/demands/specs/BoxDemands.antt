@@ -2,17 +2,23 @@
 use Prim.Native.Nat.{ℕ}
 use mathlib.Core.Path.{_≡_, refl, ap, _∙_}
 use mathlib.Core.Bool.{true}
-use mathlib.Core.List.{List, []}
+use mathlib.Core.List.{List, [], _∷_}
+use mathlib.Core.Logic.{⊎-elim}
+use Rattle.basics.specs.Says.{d-eq}
 use Rattle.cells.specs.Size.{SizeInDomain}
 use Rattle.box_tables.specs.Tables.{Tables, Sized}
-use Rattle.box_tables.specs.Decide.{holds}
+use Rattle.box_tables.specs.Holds.{Holds}
+use Rattle.box_tables.specs.Decide.{holds, holds-says}
 use Rattle.box_tables.specs.Outcome.{Outcome, outcome}
-use Rattle.box_inserts.specs.New.{built}
+use Rattle.box_inserts.specs.New.{built, newOf}
+use Rattle.box_inserts.specs.NewLaws.{built-holds, new-holds, new-refused}
+use Rattle.box_inserts.specs.InsertLaws.{insert-holds}
+use Rattle.box_changes.specs.SetAabbLaws.{set-aabb-holds}
+use Rattle.box_changes.specs.RemoveLaws.{remove-holds}
+use Rattle.box_reads.specs.ClearLaws.{clear-holds}
 use Rattle.box_reads.specs.Reads.{Listing}
 use Rattle.box_reads.specs.Clear.{Written}
 use Rattle.box_queries.specs.Queries.{Handles, Findings}
-use Rattle.box_histories.specs.History.{Op, afterAll}
-use Rattle.box_histories.specs.HistoryLaws.{always-held}
 use Rattle.demands.specs.Answers.{firstThat}
 use Rattle.demands.specs.PointCalls.{outputs, none}
 use Rattle.demands.specs.BoxAnswers as Answers
@@ -53,6 +59,33 @@ demand-1-unchanged t c n = go c (λ z. n (demand-1-answer t c ∙ z))
     go (queryBroad q hs) n = unfold leaves refusals in (refl, ap (λ (x : Handles). outputs (x .handles) [] []) (Answers.broad-refused t q hs n))
     go (query q hs bs os) n = unfold leaves refusals in (refl, ap (λ (x : Findings). outputs (x .handles) (x .boxes) (x .objs)) (Answers.query-refused t q hs bs os n))
 
--- ---- tables built and changed only by these calls always hold a grid and are never refused as not holding one
-pub always-a-grid : (t : Tables) (size : ℕ) (os : List Op) → Sized t → SizeInDomain size → holds (afterAll (built t size) os) ≡ true
-always-a-grid t size os z d = always-held t size os z d
+-- ---- tables built and changed only by these calls always hold a grid and are never refused as not holding one: any history of public calls,
+-- accepted or refused, in which the grid may be built anew
+new-keeps : (t : Tables) (size : ℕ) → Holds t → Holds (newOf t size .after)
+new-keeps t size h = ⊎-elim (new-holds t size) (λ n. rw (new-refused t size n) h) (d-eq (newOf t size .result) 0)
+
+pub keeps-a-grid : (t : Tables) (c : BoxCall) → Holds t → Holds (leaves t c .after)
+unfolding leaves
+keeps-a-grid t (new size) h = new-keeps t size h
+keeps-a-grid t (insert b d) h = insert-holds t b d h
+keeps-a-grid t (setAabb g b) h = set-aabb-holds t g b h
+keeps-a-grid t (remove g) h = remove-holds t g h
+keeps-a-grid t (clear bs os) h = clear-holds t bs os h
+keeps-a-grid t (get g) h = h
+keeps-a-grid t len h = h
+keeps-a-grid t (handles out) h = h
+keeps-a-grid t (queryBroad q hs) h = h
+keeps-a-grid t (query q hs bs os) h = h
+
+unfoldable pub afterCalls : Tables → List BoxCall → Tables
+unfolding leaves
+afterCalls t [] = t
+afterCalls t (c ∷ cs) = afterCalls (leaves t c .after) cs
+
+all-keep : (t : Tables) (cs : List BoxCall) → Holds t → Holds (afterCalls t cs)
+unfolding afterCalls
+all-keep t [] h = h
+all-keep t (c ∷ cs) h = all-keep (leaves t c .after) cs (keeps-a-grid t c h)
+
+pub always-a-grid : (t : Tables) (size : ℕ) (cs : List BoxCall) → Sized t → SizeInDomain size → holds (afterCalls (built t size) cs) ≡ true
+always-a-grid t size cs z d = holds-says (afterCalls (built t size) cs) .no (all-keep (built t size) cs (built-holds t size z d))

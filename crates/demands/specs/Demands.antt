@@ -3,23 +3,31 @@ use Prim.Native.Nat.{ℕ}
 use mathlib.Core.Path.{_≡_, refl, ap, _∙_}
 use mathlib.Core.Bool.{true}
 use mathlib.Core.List.{List, [], _∷_, _++_}
+use mathlib.Core.Logic.{⊎-elim}
 use lib.Ieee.{Float}
+use Rattle.basics.specs.Says.{d-eq}
 use Rattle.geometry.specs.declared.Position.{Position}
 use Rattle.geometry.specs.Circle.{inCircle}
 use Rattle.slots.specs.declared.Handle.{Handle}
 use Rattle.cells.specs.Size.{SizeInDomain}
 use Rattle.storage.specs.Keyed.{All}
 use Rattle.point_tables.specs.Tables.{Tables, Sized}
-use Rattle.point_tables.specs.Decide.{holds}
+use Rattle.point_tables.specs.Holds.{Holds}
+use Rattle.point_tables.specs.Decide.{holds, holds-says}
 use Rattle.point_tables.specs.Outcome.{Outcome, outcome}
-use Rattle.inserts.specs.New.{built}
+use Rattle.inserts.specs.New.{built, newOf}
+use Rattle.inserts.specs.NewLaws.{built-holds, new-holds, new-refused}
+use Rattle.inserts.specs.InsertLaws.{insert-holds}
+use Rattle.moves.specs.MovesKeeps.{set-position-keeps, remove-keeps}
+use Rattle.moves.specs.BatchAnswerLaws.{batch-keeps}
+use Rattle.removals.specs.RemoveLaws.{remove-holds}
+use Rattle.removals.specs.ClearLaws.{clear-holds}
+use Rattle.maintain.specs.MaintainLaws.{maintain-keeps}
 use Rattle.moves.specs.Batch.{Call, callOf, tablesAfter, Batched}
 use Rattle.removals.specs.Clear.{Written}
 use Rattle.reads.specs.Reads.{Listing}
 use Rattle.maintain.specs.Maintain.{maintainOf}
 use Rattle.queries.specs.Queries.{Findings, aroundOf}
-use Rattle.histories.specs.History.{Op, afterAll}
-use Rattle.histories.specs.HistoryLaws.{always-held}
 use Rattle.trackers.specs.Merges.{Turn, calls, Merge, NotShared, Alike, batchFor, SameBatch}
 use Rattle.trackers.specs.MergeLaws.{any-merge}
 use Rattle.trackers.specs.BatchMergeLaws.{any-merge-batch}
@@ -82,6 +90,10 @@ demand-1-unchanged t c n = go c (λ z. n (demand-1-answer t c ∙ z))
     go (queryAround c r hs ps) n = unfold leaves refusals in unread t (Answers.around-refused t c r hs ps n)
     go (queryAabb a b hs ps) n = unfold leaves refusals in unread t (Answers.aabb-refused t a b hs ps n)
 
+-- building anew: a grid if it is accepted, and the tables as they were if not
+new-keeps : (t : Tables) (size : ℕ) → Holds t → Holds (newOf t size .after)
+new-keeps t size h = ⊎-elim (new-holds t size) (λ n. rw (new-refused t size n) h) (d-eq (newOf t size .result) 0)
+
 -- ---- demand 3, first half: t is the grid right after an accepted maintain; l k are the calls of tracker k, no handle used by two trackers.
 -- Every two merges m and n that keep each tracker's own order give each call the same answer and data and leave the same tables.
 module _ (before : Tables) (a : maintainOf before .result .answer ≡ 0) (l : ℕ → List Call) (apart : NotShared l) where
@@ -117,6 +129,34 @@ module _ (before : Tables) (a : maintainOf before .result .answer ≡ 0) (l : �
       → inCircle (c .at) centre radius ≡ true → Reports (aroundOf (nextMaintain t (xs ++ (c ∷ ys)) .after) centre radius hs ps) (c .handle) (c .at)
   no-hand-is-lost xs c ys k e o centre radius hs ps b n = moved-found t (maintain-settles before a) xs c ys k e o centre radius hs ps b n
 
--- ---- tables built and changed only by these calls always hold a grid and are never refused as not holding one
-pub always-a-grid : (t : Tables) (size : ℕ) (os : List Op) → Sized t → SizeInDomain size → holds (afterAll (built t size) os) ≡ true
-always-a-grid t size os z d = always-held t size os z d
+-- ---- tables built and changed only by these calls always hold a grid and are never refused as not holding one: any history of public calls,
+-- accepted or refused, in which the grid may be built anew
+pub keeps-a-grid : (t : Tables) (c : PointCall) → Holds t → Holds (leaves t c .after)
+unfolding leaves
+keeps-a-grid t (new size) h = new-keeps t size h
+keeps-a-grid t (insert p d) h = insert-holds t p d h
+keeps-a-grid t (setPosition g p) h = set-position-keeps t g p h
+keeps-a-grid t (remove g) h = remove-keeps t g h
+keeps-a-grid t (batch ks hs ps out) h = batch-keeps t ks hs ps out h
+keeps-a-grid t maintain h = maintain-keeps t h
+keeps-a-grid t (removeMaintain g) h = remove-holds t g h
+keeps-a-grid t (clear ps os) h = clear-holds t ps os h
+keeps-a-grid t (get g) h = h
+keeps-a-grid t len h = h
+keeps-a-grid t (handles out) h = h
+keeps-a-grid t (query ll ur hs ps) h = h
+keeps-a-grid t (queryAround c r hs ps) h = h
+keeps-a-grid t (queryAabb a b hs ps) h = h
+
+unfoldable pub afterCalls : Tables → List PointCall → Tables
+unfolding leaves
+afterCalls t [] = t
+afterCalls t (c ∷ cs) = afterCalls (leaves t c .after) cs
+
+all-keep : (t : Tables) (cs : List PointCall) → Holds t → Holds (afterCalls t cs)
+unfolding afterCalls
+all-keep t [] h = h
+all-keep t (c ∷ cs) h = all-keep (leaves t c .after) cs (keeps-a-grid t c h)
+
+pub always-a-grid : (t : Tables) (size : ℕ) (cs : List PointCall) → Sized t → SizeInDomain size → holds (afterCalls (built t size) cs) ≡ true
+always-a-grid t size cs z d = holds-says (afterCalls (built t size) cs) .no (all-keep (built t size) cs (built-holds t size z d))
