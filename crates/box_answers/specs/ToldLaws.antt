@@ -30,6 +30,7 @@ use Rattle.telling.specs.RoomLaws.{had-room}
 use Rattle.telling.specs.Tells.{told-tells}
 use Rattle.box_answers.specs.Changes.{changeOf}
 use Rattle.box_answers.specs.Searches.{Searched, said, searchOf}
+use Rattle.slot_walks.specs.Live.{handleAt}
 
 -- what there is to tell is there: as many findings as the trace's grids can give, and all in the outputs
 abbrev pub IsTold : ℕ → Searched → Type 0
@@ -58,8 +59,8 @@ module _ (places : ℕ) (handles : List (List ℕ)) (corners : List (List Float)
       a : ℕ
       a = query.answerOf t q (length ss) (query.roomOf handles corners objs)
 
-      go : (x : Bool) → eqb a 0 ≡ x → IsTold places (said (pick x (query.findings (count 0 (length ss)) (written (map (query.handleRow (t .nums)) ss) handles) (written (map (query.boxRow (t .reals)) ss) corners) (written (map (objOn t) ss) objs)) (query.findings (count a (pick (eqb a 9) (length ss) 0)) handles corners objs)))
-      go true h = told-found ss (query.handleRow (t .nums)) (query.boxRow (t .reals)) (room-of t q (length ss) (query.roomOf handles corners objs) (eqb-true a 0 h))
+      go : (x : Bool) → eqb a 0 ≡ x → IsTold places (said (pick x (query.findings (count 0 (length ss)) (written (map (handleAt (t .nums)) ss) handles) (written (map (query.boxRow (t .reals)) ss) corners) (written (map (objOn t) ss) objs)) (query.findings (count a (pick (eqb a 9) (length ss) 0)) handles corners objs)))
+      go true h = told-found ss (handleAt (t .nums)) (query.boxRow (t .reals)) (room-of t q (length ss) (query.roomOf handles corners objs) (eqb-true a 0 h))
       go false h = subst (λ (x : Bool). Told (pick x (Boxes (pick (eqb a 9) (length ss) 0)) (Refused a)) (length handles) places (length corners)) (sym h) tt
 
   pub told : (t : Tables) (r : Request) → IsTold places (searchOf t r handles corners objs)
