@@ -2,4 +2,5 @@
 pub mod Table
 pub mod Fields
 pub mod Signs
+pub mod Edges
 pub mod Quotient

@@ -1,15 +1,15 @@
 -- Signed numbers as the machine works them out: -1 - (u - 1), a number counted from the least, a cell size. Assumes nothing.
 use Prim.Native.Nat.{ℕ, zero, suc, _+_, _-_, _≤_, _<_, _^_}
 use mathlib.Core.Path.{_≡_, refl, sym, ap, _∙_, subst}
-use mathlib.Core.Bool.{Bool, cond}
+use mathlib.Core.Bool.{Bool, true, false, cond}
 use native.Mathlib.Omega.{arith}
 use lib.Dec.{T, lt→ltb}
-use lib.IntN.{ℤ, pos, negsuc, negℤ, _+ℤ_, _-ℤ_, natAbs}
-use lib.Signed.{mag, nonNeg, _<ℤ_, ltZ-yes}
+use lib.IntN.{ℤ, pos, negsuc, negℤ, _+ℤ_, _-ℤ_, natAbs, +ℤ-comm, -ℤ-one}
+use lib.Signed.{mag, nonNeg, ltZ, _<ℤ_, ltZ-yes}
 use mir.Syntax.{w32, w64}
 use mir.Val.{Fits, SFits, toZ, ofZ, hbits}
 use mir.ValLaws.{toZ-pos, toZ-ofZ}
-use borrow.Author.Tests.{le-ltb}
+use borrow.Author.Tests.{le-ltb, ltb-true}
 use borrow.Author.Needs.{sfits-of}
 use Rattle.cells.specs.Key.{upward, downward}
 use Rattle.cells.specs.KeyLaws.{upward-lt, downward-small}
@@ -86,6 +86,32 @@ upward-small z h = go (upward-lt z (h .sfits))
   where
     go : {n : ℕ} → n < 4294967296 → n < 2 ^ 63
     go h = omega arith
+
+-- ---- the magnitude of a number, and of one below zero less one
+below-mag : (z : ℤ) → ltZ z (pos 0) ≡ true → negsuc 0 -ℤ z ≡ pos (mag z)
+below-mag (pos n) h = absurd (omega (arith, ltb-true n 0 h))
+below-mag (negsuc n) h = +ℤ-comm (negsuc 0) (pos (suc n)) ∙ -ℤ-one (pos (suc n))
+
+pub is-under : (z : ℤ) → ltZ z (pos 0) ≡ true → z ≡ negsuc (mag z)
+is-under (pos n) h = absurd (omega (arith, ltb-true n 0 h))
+is-under (negsuc n) h = refl
+
+pub is-over : (z : ℤ) → ltZ z (pos 0) ≡ false → z ≡ pos (mag z)
+is-over (pos n) h = refl
+is-over (negsuc n) h = absurd (subst T h tt)
+
+module _ (z : ℤ) (h : SFits w32 z) where
+  pub under-mag : ltZ (toZ w64 (ofZ w64 (toZ w32 (ofZ w32 z)))) (pos 0) ≡ true → negsuc 0 -ℤ toZ w64 (ofZ w64 (toZ w32 (ofZ w32 z))) ≡ pos (mag z)
+  under-mag e = ap (λ (k : ℤ). negsuc 0 -ℤ k) (wide z h) ∙ below-mag z (ap (λ (k : ℤ). ltZ k (pos 0)) (sym (wide z h)) ∙ e)
+
+  pub over-mag : ltZ (toZ w64 (ofZ w64 (toZ w32 (ofZ w32 z)))) (pos 0) ≡ false → toZ w32 (ofZ w32 z) ≡ pos (mag z)
+  over-mag e = toZ-ofZ w32 z h ∙ is-over z (ap (λ (k : ℤ). ltZ k (pos 0)) (sym (wide z h)) ∙ e)
+
+  pub mag-small : mag z < 2 ^ 63
+  mag-small = go (h .sfits)
+    where
+      go : {n : ℕ} → n < 2147483648 → n < 2 ^ 63
+      go h = omega arith
 
 -- ---- and back: n - 2 ^ 31
 module _ (n : ℕ) (h : n < 4294967296) where

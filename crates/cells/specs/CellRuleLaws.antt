@@ -39,7 +39,7 @@ first-pos m u d h = go (m * u) h
     go zero h = subst (λ (z : ℕ). 0 < z) (zero-mul d) h
     go (suc a) h = zero-lt-suc a
 
-zero-or : (a : ℕ) → (a ≡ 0) ⊎ (0 < a)
+pub zero-or : (a : ℕ) → (a ≡ 0) ⊎ (0 < a)
 zero-or zero = inl refl
 zero-or (suc a) = inr (zero-lt-suc a)
 

@@ -5,6 +5,8 @@ pub mod Numbers
 pub mod CellRule
 pub mod CellSignLaws
 pub mod CellRuleLaws
+pub mod EdgeLaws
+pub mod Edge
 pub mod CellTable
 pub mod Range
 pub mod StepLaws
@@ -15,4 +17,5 @@ pub mod KeyLaws
 pub mod RangeKeyLaws
 pub mod CircleRange
 pub mod ReachLaws
+pub mod EdgeRule
 pub mod Cover

@@ -1,12 +1,13 @@
 // The cell of a coordinate and of a position, ranges of cells and the keys of cells: the arithmetic of src/storage.rs.
 ghost use mathlib.Core.Path.{_≡_};
-ghost use Prim.Native.Nat.{_<_, _^_};
+ghost use Prim.Native.Nat.{_<_, _≤_, _^_};
 ghost use lib.Dec.{T};
 ghost use lib.IntN.{pos};
 ghost use mathlib.Core.Bool.{_&&_};
-ghost use lib.Signed.{_<ℤ_, leZ};
+ghost use lib.Signed.{mag, _<ℤ_, leZ};
+ghost use lib.Ieee.{binary32, ofInt};
 ghost use Rattle.basics.specs.Says.{Says};
-ghost use Rattle.geometry.specs.Domain.{within};
+ghost use Rattle.geometry.specs.Domain.{within, inDomain};
 ghost use Rattle.cells.specs.Cut.{cutBits};
 ghost use Rattle.cells.specs.Size.{SizeInDomain};
 ghost use Rattle.cells.specs.CellRule.{wholeOf, cellOf, cellAt, Reached};
@@ -110,6 +111,40 @@ pub fn size_in_domain(size: u64) -> bool
         return false;
     }
     true
+}
+
+// The edges between a cell and zero: as many below cell 0 + k as above cell -1 - k.
+fn steps(c: i32) -> u64
+    ensures { λ r. ⌜ r ≡ mag c ⌝ }
+{
+    let z = c as i64;
+    if z < 0 { (-1 - z) as u64 } else { z as u64 }
+}
+
+// A whole number as the binary32 that it is.
+fn exactly(n: u64) -> f32
+    requires { ⌜ n ≤ 16777216 ⌝ }
+    ensures { λ r. ⌜ r ≡ ofInt binary32 (pos n) ⌝ }
+{
+    (n as u32) as f32
+}
+
+// Whether a coordinate of the domain stands in cell c, by comparison with the edges of the cell: nothing is divided.
+pub fn stands(size: u64, x: f32, c: i32) -> bool
+    requires { ⌜ SizeInDomain size × T (inDomain x) ⌝ }
+    ensures { λ r. ⌜ Says r (cellOf (pos size) x ≡ c) ⌝ }
+{
+    let near = steps(c) * size;
+    if 1048576 < near {
+        return false;
+    }
+    let low = exactly(near);
+    let high = exactly(near + size);
+    if c < 0 {
+        let y = -x;
+        return ((low <= y) & (y < high)) & (0.0 < y);
+    }
+    (low <= x) & (x < high)
 }
 
 pub fn cell_at(size: u64, p: Position) -> Cell

@@ -26,7 +26,7 @@ module _ (f : Format) where
   abbrev pub rnd : ℕ → ℕ → ℕ
   rnd a c = min (grid f a c) (overflow f)
 
-  from-value : (x : Float) (s : Bool) (a : ℕ) → HasValue x s a l → a < overflow f → Num f x (cond s 0 a) (cond s a 0)
+  pub from-value : (x : Float) (s : Bool) (a : ℕ) → HasValue x s a l → a < overflow f → Num f x (cond s 0 a) (cond s a 0)
   from-value nan s a v h = absurd v
   from-value (inf t) s a v h = absurd v
   from-value (fin false m e) false a v h = (v .1, refl, h)

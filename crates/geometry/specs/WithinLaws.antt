@@ -28,16 +28,16 @@ module _ (f : Format) where
   l = 2 ^ low f
 
   -- 2 ^ j in units
-  abbrev at : ℕ → ℕ
+  abbrev pub at : ℕ → ℕ
   at j = 2 ^ j * l
 
-  power : (j : ℕ) → at j < overflow f → Num f (fin false 1 (pos j)) (at j) 0
+  pub power : (j : ℕ) → at j < overflow f → Num f (fin false 1 (pos j)) (at j) 0
   power j o = (ap (λ (z : ℕ). z * l) (one-mul (2 ^ j)) ∙ sym (mul-one (at j)), refl, o)
 
-  power' : (j : ℕ) → at j < overflow f → Num f (fin true 1 (pos j)) 0 (at j)
+  pub power' : (j : ℕ) → at j < overflow f → Num f (fin true 1 (pos j)) 0 (at j)
   power' j o = (ap (λ (z : ℕ). z * l) (one-mul (2 ^ j)) ∙ sym (mul-one (at j)), refl, o)
 
-  bounds : (j : ℕ) (x : Float) (p n : ℕ) → at j < overflow f → Num f x p n → T (within j x) → (p ≤ at j) × (n ≤ at j)
+  pub bounds : (j : ℕ) (x : Float) (p n : ℕ) → at j < overflow f → Num f x p n → T (within j x) → (p ≤ at j) × (n ≤ at j)
   bounds j x p n o v h =
       let a = le-num f (fin true 1 (pos j)) x 0 (at j) p n (power' j o) v (and-l (le (fin true 1 (pos j)) x) (le x (fin false 1 (pos j))) h) in
       let b = le-num f x (fin false 1 (pos j)) p n (at j) 0 v (power j o) (and-r (le (fin true 1 (pos j)) x) (le x (fin false 1 (pos j))) h) in
@@ -47,7 +47,7 @@ module _ (f : Format) where
       go (inl e) a b = (omega arith, omega arith)
       go (inr e) a b = (omega arith, omega arith)
 
-  bounded : (j : ℕ) (x : Float) (p n : ℕ) → at j < overflow f → Num f x p n → p ≤ at j → n ≤ at j → T (within j x)
+  pub bounded : (j : ℕ) (x : Float) (p n : ℕ) → at j < overflow f → Num f x p n → p ≤ at j → n ≤ at j → T (within j x)
   bounded j x p n o v a b =
       and-i (le (fin true 1 (pos j)) x) (le x (fin false 1 (pos j)))
       (num-le f (fin true 1 (pos j)) x 0 (at j) p n (power' j o) v (go p n (at j) b)) (num-le f x (fin false 1 (pos j)) p n (at j) 0 v (power j o) (go' p n (at j) a))

@@ -1,0 +1,52 @@
+-- Comparisons with the edges of a cell, as code makes them. Assumes nothing.
+use mathlib.Core.Path.{_≡_, refl, sym, ap, _∙_, subst}
+use mathlib.Core.Bool.{Bool, true, false, _&&_}
+use Prim.Native.Nat.{ℕ, suc, _+_, _*_, _≤_, _<_, _^_}
+use native.Mathlib.Nat.{le-of-lt, lt-of-le-of-lt, mul-le-mul, suc-mul}
+use native.Mathlib.Omega.{arith}
+use lib.Dec.{T, lit<}
+use lib.IntN.{ℤ, pos, negsuc}
+use lib.Signed.{mag, ltZ}
+use lib.Ieee.{Float, fin, binary32, ofInt, ofBits, neg, lt, le}
+use mir.Syntax.{w32, w64}
+use mir.Val.{Fits, SFits, toZ, ofZ}
+use mir.ValLaws.{toZ-ofZ}
+use Rattle.basics.specs.Says.{Says}
+use Rattle.geometry.specs.Domain.{inDomain}
+use Rattle.geometry.specs.DomainLaws.{domain-fits, domain-finite}
+use Rattle.geometry.specs.Rounding.{number}
+use Rattle.cells.specs.CellRule.{cellOf}
+use Rattle.cells.specs.Size.{SizeInDomain}
+use Rattle.cells.specs.ReachLaws.{domain-reached}
+use Rattle.cells.specs.EdgeLaws.{over-says, under-says}
+use Rattle.cells.specs.EdgeRule.{near-num, far-num, nought-num, room}
+use Rattle.cells.proofs.Signs.{is-under, is-over}
+
+-- a product of edges and size fits
+pub near-fits : (a b : ℕ) → a < 2147483648 → b ≤ 1048576 → Fits w64 (a * b)
+near-fits a b h g = record { fits = lt-of-le-of-lt (mul-le-mul (le-of-lt h) g) (lit< tt) }
+
+-- the sign of a number that was read
+pub read-sign : (z : ℤ) (b : Bool) → SFits w32 z → ltZ (toZ w32 (ofZ w32 z)) (pos 0) ≡ b → ltZ z (pos 0) ≡ b
+read-sign z b h e = ap (λ (k : ℤ). ltZ k (pos 0)) (sym (toZ-ofZ w32 z h)) ∙ e
+
+-- ---- a coordinate of the domain, the edges low and high of the cells k from zero
+module _ (s : ℕ) (S : SizeInDomain s) (x : Float) (D : T (inDomain x)) (c : ℤ) (low high : Float) (h : mag c * s ≤ 1048576) (e : low ≡ ofInt binary32 (pos (mag c * s))) (g : high ≡ ofInt binary32 (pos (mag c * s + s))) where
+  B : 0 < s
+  B = omega (arith, S .0)
+
+  high-is : ofInt binary32 (pos (suc (mag c) * s)) ≡ high
+  high-is = ap (λ (n : ℕ). ofInt binary32 (pos n)) (suc-mul (mag c) s) ∙ sym g
+
+  pub over-edges : ltZ c (pos 0) ≡ false → Says (le low x && lt x high) (cellOf (pos s) x ≡ c)
+  over-edges z =
+      let v = number binary32 x (domain-fits x D) (domain-finite x D) in
+      subst (λ (k : ℤ). Says (le low x && lt x high) (cellOf (pos s) x ≡ k)) (sym (is-over c z))
+      (over-says binary32 s B x (v .0) (v .1) (v .2) room (domain-reached x D) (mag c) low high (rw e (near-num s (mag c) S h)) (rw (← high-is) (far-num s (mag c) S h)))
+
+  pub under-edges : ltZ c (pos 0) ≡ true → Says ((le low (neg x) && lt (neg x) high) && lt (ofBits binary32 0) (neg x)) (cellOf (pos s) x ≡ c)
+  unfolding ofBits
+  under-edges z =
+      let v = number binary32 x (domain-fits x D) (domain-finite x D) in
+      subst (λ (k : ℤ). Says ((le low (neg x) && lt (neg x) high) && lt (fin false 0 (pos 0)) (neg x)) (cellOf (pos s) x ≡ k)) (sym (is-under c z))
+      (under-says binary32 s B x (v .0) (v .1) (v .2) room (domain-reached x D) (mag c) low high (rw e (near-num s (mag c) S h)) (rw (← high-is) (far-num s (mag c) S h)) (fin false 0 (pos 0)) nought-num)
