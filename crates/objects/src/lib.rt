@@ -129,8 +129,10 @@ fn placed(size: u64, p: Position, c: Cell) -> bool
     if !geometry::position_in_domain(p) {
         return false;
     }
-    let d = cells::cell_at(size, p);
-    cells::same_cell(d, c)
+    if cells::stands(size, p.x, c.x) {
+        return cells::stands(size, p.y, c.y);
+    }
+    false
 }
 
 // Whether a position of the domain lies in a cell that is not c.
