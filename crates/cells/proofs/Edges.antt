@@ -22,9 +22,13 @@ use Rattle.cells.specs.EdgeLaws.{over-says, under-says}
 use Rattle.cells.specs.EdgeRule.{near-num, far-num, nought-num, room}
 use Rattle.cells.proofs.Signs.{is-under, is-over}
 
--- a product of edges and size fits
-pub near-fits : (a b : ℕ) → a < 2147483648 → b ≤ 1048576 → Fits w64 (a * b)
-near-fits a b h g = record { fits = lt-of-le-of-lt (mul-le-mul (le-of-lt h) g) (lit< tt) }
+-- ---- k edges lie between a cell and zero, and the one next to zero is k sizes away
+module _ (z : ℤ) (h : SFits w32 z) (k s : ℕ) (e : k ≡ mag (toZ w32 (ofZ w32 z))) where
+  pub near-is : k * s ≡ mag z * s
+  near-is = ap (λ (n : ℕ). n * s) (e ∙ ap mag (toZ-ofZ w32 z h))
+
+  pub near-fits : s ≤ 1048576 → Fits w64 (k * s)
+  near-fits g = record { fits = subst (λ (n : ℕ). n < 2 ^ 64) (sym near-is) (lt-of-le-of-lt (mul-le-mul (le-of-lt (h .sfits)) g) (lit< tt)) }
 
 -- the sign of a number that was read
 pub read-sign : (z : ℤ) (b : Bool) → SFits w32 z → ltZ (toZ w32 (ofZ w32 z)) (pos 0) ≡ b → ltZ z (pos 0) ≡ b

@@ -18,4 +18,7 @@ pub mod RangeKeyLaws
 pub mod CircleRange
 pub mod ReachLaws
 pub mod EdgeRule
+pub mod Patterns
+pub mod Span
+pub mod SpanLaws
 pub mod Cover

@@ -5,12 +5,13 @@ ghost use lib.Dec.{T};
 ghost use lib.IntN.{pos};
 ghost use mathlib.Core.Bool.{_&&_};
 ghost use lib.Signed.{mag, _<ℤ_, leZ};
-ghost use lib.Ieee.{binary32, ofInt};
+ghost use lib.Ieee.{binary32, ofInt, le};
 ghost use Rattle.basics.specs.Says.{Says};
 ghost use Rattle.geometry.specs.Domain.{within, inDomain};
 ghost use Rattle.cells.specs.Cut.{cutBits};
 ghost use Rattle.cells.specs.Size.{SizeInDomain};
 ghost use Rattle.cells.specs.CellRule.{wholeOf, cellOf, cellAt, Reached};
+ghost use Rattle.cells.specs.Span.{Spans, LastBelow, FirstFrom};
 ghost use Rattle.cells.specs.Numbers.{Near};
 ghost use Rattle.cells.specs.Range.{countFrom, cellsIn, inRange};
 ghost use Rattle.cells.specs.Key.{upward, downward, keyOf, columnOf, rowOf, cellOfKey};
@@ -19,6 +20,12 @@ use geometry::Position;
 pub struct Cell {
     pub x: i32,
     pub y: i32,
+}
+
+// The coordinates from lo to hi.
+pub struct Span {
+    pub lo: f32,
+    pub hi: f32,
 }
 
 // POWERS[k] is 2 ^ k.
@@ -145,6 +152,59 @@ pub fn stands(size: u64, x: f32, c: i32) -> bool
         return ((low <= y) & (y < high)) & (0.0 < y);
     }
     (low <= x) & (x < high)
+}
+
+// The greatest binary32 number of the domain below n.
+fn last_below(n: u64) -> f32
+    requires { ⌜ 0 < n ⌝ }
+    ensures { λ r. ⌜ LastBelow n r ⌝ }
+{
+    if 1048576 < n {
+        return 1048576.0;
+    }
+    let v = exactly(n);
+    f32::from_bits(f32::to_bits(v) - 1)
+}
+
+// The least binary32 number above zero that is not below n.
+fn first_from(n: u64) -> f32
+    requires { ⌜ n ≤ 1048576 ⌝ }
+    ensures { λ r. ⌜ FirstFrom n r ⌝ }
+{
+    if n == 0 {
+        return f32::from_bits(1);
+    }
+    exactly(n)
+}
+
+// The least and the greatest coordinate of cell c, so that no cell need be worked out for the coordinates between; 1 and 0 if it has none.
+pub fn span_of(size: u64, c: i32) -> Span
+    requires { ⌜ SizeInDomain size ⌝ }
+    ensures { λ r. ⌜ Spans size c (r .lo) (r .hi) ⌝ }
+{
+    let near = steps(c) * size;
+    if 1048576 < near {
+        return Span { lo: 1.0, hi: 0.0 };
+    }
+    let last = last_below(near + size);
+    if c < 0 {
+        let first = first_from(near);
+        return Span {
+            lo: -last,
+            hi: -first,
+        };
+    }
+    let first = exactly(near);
+    Span {
+        lo: first,
+        hi: last,
+    }
+}
+
+pub fn in_span(s: Span, x: f32) -> bool
+    ensures { λ r. ⌜ r ≡ (le (s .lo) x && le x (s .hi)) ⌝ }
+{
+    (s.lo <= x) & (x <= s.hi)
 }
 
 pub fn cell_at(size: u64, p: Position) -> Cell

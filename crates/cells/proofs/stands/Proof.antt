@@ -1,23 +1,19 @@
 -- `cells::stands` meets its contract. Assumes nothing.
-use mathlib.Core.Path.{_≡_, sym, ap, _∙_, subst}
+use mathlib.Core.Path.{_≡_, ap, _∙_, subst}
 use Prim.Native.Nat.{ℕ, _+_, _*_, _≤_, _<_}
 use lib.IntN.{pos}
 use lib.Signed.{mag}
 use lib.Ieee.{binary32, ofInt}
-use mir.Facts.{toZ-ofZ}
 use borrow.Author.Needs.{needs}
 use Rattle.basics.specs.Says.{says-no}
 use Rattle.cells.specs.EdgeRule.{none-past}
-use Rattle.cells.proofs.Edges.{near-fits, read-sign, over-edges, under-edges}
+use Rattle.cells.proofs.Edges.{near-is, near-fits, read-sign, over-edges, under-edges}
 use Rattle.cells.proofs.stands.Statement.{statement}
 use Rattle.cells.proofs.stands.Tie as tie
 
 -- the edges next to zero and beyond
-many : (c : tie.After-steps) → c .steps .result ≡ mag (c .before .args .c)
-many c = c .steps .ensures ∙ ap mag (toZ-ofZ (c .before .fits .c))
-
 near : (c : tie.After-steps) → c .steps .result * c .before .args .size ≡ mag (c .before .args .c) * c .before .args .size
-near c = ap (λ (k : ℕ). k * c .before .args .size) (many c)
+near c = near-is (c .before .args .c) (c .before .fits .c) _ (c .before .args .size) (c .steps .ensures)
 
 reached : (c : tie.Else1) → mag (c .before .before .args .c) * c .before .before .args .size ≤ 1048576
 reached c = subst (λ (n : ℕ). n ≤ 1048576) (near (c .before)) (c .if1 .left)
@@ -27,9 +23,6 @@ low c = c .exactly .ensures ∙ ap (λ (n : ℕ). ofInt binary32 (pos n)) (near 
 
 high : (c : tie.After-exactly2) → let a = c .before .before .before .before .args in c .exactly2 .result ≡ ofInt binary32 (pos (mag (a .c) * a .size + a .size))
 high c = c .exactly2 .ensures ∙ ap (λ (n : ℕ). ofInt binary32 (pos (n + c .before .before .before .before .args .size))) (near (c .before .before .before))
-
-mul-near : tie.Need-mul-near
-mul-near c = near-fits _ _ (subst (λ (n : ℕ). n < 2147483648) (sym (many c)) (c .before .fits .c .sfits)) (c .before .pre .0 .1)
 
 returns : tie.Need-returns
 returns c = let s = c .before .before in says-no (none-past (s .args .size) (s .pre .0) (s .args .x) (s .pre .1) (s .args .c) (subst (λ (n : ℕ). 1048576 < n) (near (c .before)) (c .if1 .taken)))
@@ -45,4 +38,4 @@ returns-3 c =
     over-edges (s .args .size) (s .pre .0) (s .args .x) (s .pre .1) (s .args .c) _ _ (reached (c .before .before .before)) (low (c .before .before)) (high (c .before)) (read-sign (s .args .c) _ (s .fits .c) (c .if2 .left))
 
 pub stands-spec : {M : Type 1} → statement M
-stands-spec = tie.close (tie.spec (λ c κs. search needs) mul-near returns (λ c κs. search needs) (λ c. search needs) (λ c κs. search needs) returns-2 returns-3)
+stands-spec = tie.close (tie.spec (λ c κs. search needs) (λ c. near-fits (c .before .args .c) (c .before .fits .c) _ _ (c .steps .ensures) (c .before .pre .0 .1)) returns (λ c κs. search needs) (λ c. search needs) (λ c κs. search needs) returns-2 returns-3)

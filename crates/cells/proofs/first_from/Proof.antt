@@ -1,0 +1,23 @@
+-- `cells::first_from` meets its contract. Assumes nothing.
+use mathlib.Core.Path.{sym, subst}
+use native.Mathlib.Omega.{arith}
+use lib.Ieee.{Float}
+use lib.Dec.{lit≤}
+use borrow.Author.Needs.{needs}
+use Rattle.cells.specs.Patterns.{number-pattern}
+use Rattle.cells.specs.Span.{FirstFrom}
+use Rattle.cells.specs.SpanLaws.{first-zero, first-whole}
+use Rattle.cells.proofs.first_from.Statement.{statement}
+use Rattle.cells.proofs.first_from.Tie as tie
+
+float-from-bits-result : tie.Need-float-from-bits-result
+float-from-bits-result c = number-pattern 1 (lit≤ tt)
+
+returns : tie.Need-returns
+returns c = first-zero (c .before .args .n) (c .if1 .taken)
+
+returns-2 : tie.Need-returns-2
+returns-2 c = let d = c .before in subst (λ (x : Float). FirstFrom (d .before .args .n) x) (sym (c .exactly .ensures)) (first-whole (d .before .args .n) (omega (arith, d .if1 .left)) (d .before .pre))
+
+pub first-from-spec : {M : Type 1} → statement M
+first-from-spec = tie.close (tie.spec float-from-bits-result returns (λ c κs. search needs) returns-2)
