@@ -1,6 +1,6 @@
 -- The coordinates of a cell as all binary32 numbers from one to another. Assumes nothing.
 use mathlib.Core.Path.{_≡_}
-use mathlib.Core.Bool.{_&&_}
+use mathlib.Core.Bool.{Bool, _&&_}
 use Prim.Native.Nat.{ℕ, _*_, _≤_, _<_}
 use lib.Dec.{T}
 use lib.IntN.{ℤ, pos}
@@ -12,9 +12,13 @@ use Rattle.cells.specs.CellRule.{cellOf}
 use Rattle.cells.specs.EdgeRule.{unit}
 use Rattle.cells.specs.Patterns.{Held}
 
--- a binary32 number lies from lo to hi exactly when it is of the domain and of cell c
+-- a binary32 number from lo to hi
+abbrev pub inSpan : Float → Float → Float → Bool
+inSpan lo hi x = fits binary32 x && (le lo x && le x hi)
+
+-- the numbers from lo to hi are exactly those of the domain and of cell c
 abbrev pub Spans : ℕ → ℤ → Float → Float → Type 0
-Spans s c lo hi = (x : Float) → T (fits binary32 x) → Says (le lo x && le x hi) (T (inDomain x) × (cellOf (pos s) x ≡ c))
+Spans s c lo hi = (x : Float) → Says (inSpan lo hi x) (T (inDomain x) × (cellOf (pos s) x ≡ c))
 
 -- r is the greatest of the domain below a whole number n
 pub record LastBelow (n : ℕ) (r : Float) : Type 0 where

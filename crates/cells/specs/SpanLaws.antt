@@ -59,19 +59,21 @@ module _ (s : ℕ) (c : ℤ) (lo hi : Float) (i j q k : ℕ) (u : Num binary32 l
   No = (x : Float) (p n : ℕ) → T (inDomain x) → Num binary32 x p n → cellOf (pos s) x ≡ c → (i + n ≤ p + j) × (p + k ≤ q + n)
 
   spans-by : Yes → No → Spans s c lo hi
-  spans-by f g x F = says-via yes no (says-both (le lo x) (le x hi))
+  spans-by f g x = says-via yes no (says-both (fits binary32 x) (le lo x && le x hi))
     where
-      yes : T (le lo x) × T (le x hi) → T (inDomain x) × (cellOf (pos s) x ≡ c)
+      yes : T (fits binary32 x) × T (le lo x && le x hi) → T (inDomain x) × (cellOf (pos s) x ≡ c)
       yes t =
-          let w = between-finite lo hi x i j q k u v a b (t .0) (t .1) in
-          let m = number binary32 x F w in
-          f x (m .0) (m .1) F w (m .2) (le-num binary32 lo x i j (m .0) (m .1) u (m .2) (t .0)) (le-num binary32 x hi (m .0) (m .1) q k (m .2) v (t .1))
+          let y = and-l (le lo x) (le x hi) (t .1) in
+          let z = and-r (le lo x) (le x hi) (t .1) in
+          let w = between-finite lo hi x i j q k u v a b y z in
+          let m = number binary32 x (t .0) w in
+          f x (m .0) (m .1) (t .0) w (m .2) (le-num binary32 lo x i j (m .0) (m .1) u (m .2) y) (le-num binary32 x hi (m .0) (m .1) q k (m .2) v z)
 
-      no : T (inDomain x) × (cellOf (pos s) x ≡ c) → T (le lo x) × T (le x hi)
+      no : T (inDomain x) × (cellOf (pos s) x ≡ c) → T (fits binary32 x) × T (le lo x && le x hi)
       no t =
-          let m = number binary32 x F (domain-finite x (t .0)) in
+          let m = number binary32 x (domain-fits x (t .0)) (domain-finite x (t .0)) in
           let w = g x (m .0) (m .1) (t .0) (m .2) (t .1) in
-          (num-le binary32 lo x i j (m .0) (m .1) u (m .2) (w .0), num-le binary32 x hi (m .0) (m .1) q k (m .2) v (w .1))
+          (domain-fits x (t .0), and-i (le lo x) (le x hi) (num-le binary32 lo x i j (m .0) (m .1) u (m .2) (w .0)) (num-le binary32 x hi (m .0) (m .1) q k (m .2) v (w .1)))
 
 reach-room : at binary32 20 < overflow binary32
 reach-room = lit< tt

@@ -5,13 +5,13 @@ ghost use lib.Dec.{T};
 ghost use lib.IntN.{pos};
 ghost use mathlib.Core.Bool.{_&&_};
 ghost use lib.Signed.{mag, _<ℤ_, leZ};
-ghost use lib.Ieee.{binary32, ofInt, le};
+ghost use lib.Ieee.{binary32, ofInt};
 ghost use Rattle.basics.specs.Says.{Says};
 ghost use Rattle.geometry.specs.Domain.{within, inDomain};
 ghost use Rattle.cells.specs.Cut.{cutBits};
 ghost use Rattle.cells.specs.Size.{SizeInDomain};
 ghost use Rattle.cells.specs.CellRule.{wholeOf, cellOf, cellAt, Reached};
-ghost use Rattle.cells.specs.Span.{Spans, LastBelow, FirstFrom};
+ghost use Rattle.cells.specs.Span.{inSpan, Spans, LastBelow, FirstFrom};
 ghost use Rattle.cells.specs.Numbers.{Near};
 ghost use Rattle.cells.specs.Range.{countFrom, cellsIn, inRange};
 ghost use Rattle.cells.specs.Key.{upward, downward, keyOf, columnOf, rowOf, cellOfKey};
@@ -202,7 +202,7 @@ pub fn span_of(size: u64, c: i32) -> Span
 }
 
 pub fn in_span(s: Span, x: f32) -> bool
-    ensures { λ r. ⌜ r ≡ (le (s .lo) x && le x (s .hi)) ⌝ }
+    ensures { λ r. ⌜ r ≡ inSpan (s .lo) (s .hi) x ⌝ }
 {
     (s.lo <= x) & (x <= s.hi)
 }

@@ -5,11 +5,13 @@ ghost use lib.ListN.{length, getD, set};
 ghost use Rattle.basics.specs.Says.{Says};
 ghost use Rattle.cells.specs.Size.{SizeInDomain};
 ghost use Rattle.cells.specs.CellRule.{cellAt};
+ghost use Rattle.cells.specs.Span.{Spans};
 ghost use Rattle.cells.specs.Key.{keyOf};
-ghost use Rattle.objects.specs.Occupied.{InDomain, Agrees, Occupied};
+ghost use Rattle.objects.specs.Occupied.{InDomain, Agrees, InCell};
 ghost use Rattle.objects.specs.States.{isRemoved, aimed, withState};
 ghost use Rattle.objects.specs.Columns.{tagOf, pendingOf, targetOf, stateOf, recordAt, numsOf, realsOf, intsOf};
 use cells::Cell;
+use cells::Span;
 use geometry::Position;
 
 // What maintain has still to do to an object.
@@ -146,31 +148,51 @@ fn relocated(size: u64, p: Position, to: Cell, c: Cell) -> bool
     placed(size, p, to)
 }
 
-// Whether what is pending for an object of cell c agrees with the cell rule.
-fn agrees(size: u64, c: Cell, s: State) -> bool
-    requires { ⌜ SizeInDomain size ⌝ }
-    ensures { λ b. ⌜ Says b (Agrees size c s) ⌝ }
+// Whether a position lies in a cell that has these spans.
+fn inside(size: u64, c: Cell, x: Span, y: Span, p: Position) -> bool
+    requires { ⌜ Spans size (c .x) (x .lo) (x .hi) × Spans size (c .y) (y .lo) (y .hi) ⌝ }
+    ensures { λ b. ⌜ Says b (InDomain p × (cellAt size p ≡ c)) ⌝ }
 {
-    match s {
-        State::Unchanged => true,
-        State::NewPos(p) => placed(size, p, c),
-        State::Relocate(p, d) => relocated(size, p, d, c),
-        State::Removed => true,
-    }
+    cells::in_span(x, p.x) & cells::in_span(y, p.y)
 }
 
-// Whether an occupied record holds.
-pub fn record_ok(size: u64, r: Record) -> bool
-    requires { ⌜ SizeInDomain size ⌝ }
-    ensures { λ b. ⌜ Says b (Occupied size r) ⌝ }
+// Whether the tag is one of four, and what is pending for an object of cell c agrees with the cell rule.
+fn pending_ok(size: u64, c: Cell, x: Span, y: Span, tag: u32, p: Position, to: Cell) -> bool
+    requires { ⌜ SizeInDomain size × Spans size (c .x) (x .lo) (x .hi) × Spans size (c .y) (y .lo) (y .hi) ⌝ }
+    ensures { λ b. ⌜ Says b ((tag ≤ 3) × Agrees size c (stateOf tag p to)) ⌝ }
 {
-    let p = r.position;
-    let c = r.cell;
-    if !placed(size, p, c) {
+    if tag == 0 {
+        return true;
+    }
+    if tag == 1 {
+        return inside(size, c, x, y, p);
+    }
+    if tag == 2 {
+        return relocated(size, p, to, c);
+    }
+    tag == 3
+}
+
+// Whether the rows of an occupied slot hold, and are those of an object of cell c, which has these spans.
+pub fn rows_ok(size: u64, c: Cell, x: Span, y: Span, n: [u32; 4], q: [f32; 4], z: [i32; 4]) -> bool
+    requires { ⌜ SizeInDomain size × Spans size (c .x) (x .lo) (x .hi) × Spans size (c .y) (y .lo) (y .hi) ⌝ }
+    ensures { λ b. ⌜ Says b (InCell size c n q z) ⌝ }
+{
+    if !cells::same_cell(Cell { x: z[0], y: z[1] }, c) {
         return false;
     }
-    let s = r.state;
-    agrees(size, c, s)
+    if !inside(size, c, x, y, Position { x: q[0], y: q[1] }) {
+        return false;
+    }
+    pending_ok(
+        size,
+        c,
+        x,
+        y,
+        n[3],
+        Position { x: q[2], y: q[3] },
+        Cell { x: z[2], y: z[3] },
+    )
 }
 
 pub fn is_removed(s: State) -> bool

@@ -8,16 +8,10 @@ use Rattle.basics.specs.Refusals.{pick}
 use Rattle.slots.specs.Map.{usable}
 use Rattle.slots.specs.MapLaws.{not-usable}
 use Rattle.slots.specs.Slot.{SlotHolds}
-use Rattle.objects.specs.declared.Record.{Record}
-use Rattle.objects.specs.Occupied.{Occupied}
 use Rattle.pool_pass.specs.Pass.{Named}
 use Rattle.point_tables.specs.Tables.{Tables}
 use Rattle.point_tables.specs.Holds.{Holds}
 use Rattle.point_tables.specs.Decide.{holds, holds-says}
-
--- a test of a record that was loaded is one of the record of its columns
-pub said-record : (size : ℕ) (r q : Record) (b : Bool) → r ≡ q → Says b (Occupied size r) → Says b (Occupied size q)
-said-record size r q b e s = subst (λ (x : Record). Says b (Occupied size x)) e s
 
 -- a slot's bit, as the test of it says
 mapped : (m : List ℕ) (s : ℕ) (b : Bool) → Says b (usable m s ≡ 1) → pick b 1 0 ≡ usable m s

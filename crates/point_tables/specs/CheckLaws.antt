@@ -22,7 +22,7 @@ use Rattle.pool_pass.specs.Pass as Pass
 use Rattle.pool_pass.specs.Pass.{Fits, spotAt, tagAt, Passes, Named}
 use Rattle.point_tables.specs.Tables.{Tables, sizeOf, usedOf, rowsOf, slotsOf, recordOn, Sized}
 use Rattle.point_tables.specs.Holds.{Counted, RecordHolds, EntryHolds, ListsHold, Pending, Holds}
-use Rattle.point_tables.specs.Check.{Counts, LiveOk, SlotOk, SlotsOk, Room}
+use Rattle.point_tables.specs.Check.{Counts, SlotsOk, Room}
 
 -- ---- a tag of 0 is that of a state that is unchanged, and no other is
 tag-pick : (b c d : Bool) (p : Position) (q : Cell) → tagOf (pickState b Unchanged (pickState c (NewPos p) (pickState d (Relocate p q) Removed))) ≡ 0 → b ≡ true
@@ -49,18 +49,18 @@ module _ (t : Tables) where
   CountsOf = Counts (slotsOf t) (sizeOf t) (usedOf t) (rowsOf t)
 
   abbrev pub PassesOf : Type 0
-  PassesOf = Passes (t .nums) (t .reals) (t .ints) (t .pool) (t .spots) (t .cells) (usedOf t) (rowsOf t)
+  PassesOf = Passes (t .nums) (t .reals) (t .ints) (t .pool) (t .spots) (t .cells) (sizeOf t) (usedOf t) (rowsOf t)
 
   abbrev pub SlotsOf : List Bool → Type 0
-  SlotsOf marks = SlotsOk (t .nums) (t .reals) (t .ints) (t .map) marks
+  SlotsOf marks = SlotsOk (t .nums) (t .map) marks
 
   -- ---- what the passes are asked of
   module _ (s : Sized t) (c : CountsOf) where
-    pub pool-room : Pass.Room (t .nums) (t .reals) (t .ints) (t .pool) (t .spots) (t .cells) (usedOf t) (rowsOf t)
-    pool-room = record { most = s .most; of-reals = s .of-reals; of-ints = s .of-ints; in-pool = omega (arith, c .used-most, s .of-pool); in-spots = omega (arith, c .used-most, s .of-spots); in-cells = omega (arith, c .rows-most, s .of-cells) }
+    pub pool-room : Pass.Room (t .nums) (t .reals) (t .ints) (t .pool) (t .spots) (t .cells) (sizeOf t) (usedOf t) (rowsOf t)
+    pool-room = record { most = s .most; of-reals = s .of-reals; of-ints = s .of-ints; in-pool = omega (arith, c .used-most, s .of-pool); in-spots = omega (arith, c .used-most, s .of-spots); in-cells = omega (arith, c .rows-most, s .of-cells); of-size = c .in-domain }
 
-    pub slot-room : Room (t .nums) (t .reals) (t .ints) (t .map)
-    slot-room = record { most = s .most; of-reals = s .of-reals; of-ints = s .of-ints; of-map = s .of-map; size = c .in-domain }
+    pub slot-room : Room (t .nums) (t .map)
+    slot-room = record { most = s .most; of-map = s .of-map }
 
   -- ---- from the parts to the whole
   module _ (s : Sized t) (c : CountsOf) (marks : List Bool) (p : PassesOf) (n : Named (t .pool) marks (usedOf t)) (o : SlotsOf marks) where
@@ -69,7 +69,7 @@ module _ (t : Tables) where
         record {
           each = λ j h. let f = p .each j h in record { inside = f .inside; occupied = f .occupied; key = f .is-key; at-x = ap (λ (q : Position). q .x) (f .at); at-y = ap (λ (q : Position). q .y) (f .at) };
           once = p .once;
-          every = λ k h l. n .only k (o .each k h .if-live l .is-listed);
+          every = λ k h l. n .only k (o .each k h .if-live l);
         }
 
     -- the object of a pending slot has an entry, and the row of its cell is marked
@@ -85,7 +85,10 @@ module _ (t : Tables) where
           sized = s;
           counted = record { size = c .in-domain; used-most = c .used-most; rows-most = c .rows-most };
           slots = record { each = λ k h. o .each k h .slot; past = o .past };
-          records = λ k h l. let v = o .each k h .if-live l in record { tagged = v .tagged; occupied = v .occupied };
+          records = λ k h l.
+              let i = lists-hold .every k h l in
+              let v = p .whole (i .0) (i .1) in
+              subst (RecordHolds t) (i .2) (record { tagged = v .tagged; occupied = v .occupied });
           packed = p .packed;
           lists = lists-hold;
           dirty = dirty-hold;
@@ -113,6 +116,7 @@ module _ (t : Tables) where
     passes-of =
         record {
           each = fits-of;
+          whole = λ j l. let e = h .lists .each j l in let r = h .records (second (t .pool) j) (e .inside) (e .occupied) in record { versioned = h .slots .each (second (t .pool) j) (e .inside) .versioned; tagged = r .tagged; occupied = r .occupied };
           once = h .lists .once;
           packed = h .packed;
           marked = λ j l r m e z.
@@ -125,10 +129,7 @@ module _ (t : Tables) where
         record {
           each = λ k l. record {
             slot = h .slots .each k l;
-            if-live = λ p.
-                let i = h .lists .every k l p in
-                let r = h .records k l p in
-                record { is-listed = ap (λ (j : ℕ). getD marks j false) (sym (i .2)) ∙ n .all (i .0) (i .1); tagged = r .tagged; occupied = r .occupied };
+            if-live = λ p. let i = h .lists .every k l p in ap (λ (j : ℕ). getD marks j false) (sym (i .2)) ∙ n .all (i .0) (i .1);
           };
           past = h .slots .past;
         }

@@ -4,10 +4,9 @@ ghost use mathlib.Core.Bool.{true, false};
 ghost use Prim.Native.Nat.{ℕ, _+_, _/_, _≤_, _<_};
 ghost use lib.ListN.{length, getD};
 ghost use Rattle.basics.specs.Says.{Says};
-ghost use Rattle.cells.specs.Size.{SizeInDomain};
 ghost use Rattle.point_tables.specs.Tables.{tables, Lengths};
 ghost use Rattle.point_tables.specs.Decide.{holds};
-ghost use Rattle.point_tables.specs.Check.{Counts, LiveOk, SlotOk, SlotsOk, Room};
+ghost use Rattle.point_tables.specs.Check.{Counts, SlotOk, SlotsOk, Room};
 
 // Whether the tables have the lengths of n slots.
 pub fn lengths_ok(
@@ -58,40 +57,10 @@ fn counts_ok(n: usize, size: u64, used: usize, rows: usize) -> bool
     rows <= n
 }
 
-// Whether an occupied slot, which an entry names if it is listed, holds.
-fn live_ok(
-    nums: &[[u32; 4]],
-    reals: &[[f32; 4]],
-    ints: &[[i32; 4]],
-    size: u64,
-    s: usize,
-    listed: bool,
-) -> bool
-    requires { ⌜ (s < length (now nums)) × (s < length (now reals)) × (s < length (now ints)) × SizeInDomain size ⌝ }
-    ensures { λ b. ⌜ Says b (LiveOk (now (nums .entry)) (now (reals .entry)) (now (ints .entry)) size s listed) ⌝ }
-{
-    if !listed {
-        return false;
-    }
-    let n = nums[s];
-    if 3 < n[3] {
-        return false;
-    }
-    let r = objects::load(nums, reals, ints, s);
-    objects::record_ok(size, r)
-}
-
-fn slot_ok(
-    nums: &[[u32; 4]],
-    reals: &[[f32; 4]],
-    ints: &[[i32; 4]],
-    map: &[u64],
-    size: u64,
-    s: usize,
-    listed: bool,
-) -> bool
-    requires { ⌜ (s < length (now nums)) × (s < length (now reals)) × (s < length (now ints)) × SizeInDomain size × (3 + s / 64 < length (now map)) ⌝ }
-    ensures { λ b. ⌜ Says b (SlotOk (now (nums .entry)) (now (reals .entry)) (now (ints .entry)) (now (map .entry)) size s listed) ⌝ }
+// Whether a slot holds, which an entry names if it is listed; and an occupied one is listed.
+fn slot_ok(nums: &[[u32; 4]], map: &[u64], s: usize, listed: bool) -> bool
+    requires { ⌜ (s < length (now nums)) × (3 + s / 64 < length (now map)) ⌝ }
+    ensures { λ b. ⌜ Says b (SlotOk (now (nums .entry)) (now (map .entry)) s listed) ⌝ }
 {
     let n = nums[s];
     let mapped = slots::is_usable(map, s);
@@ -101,25 +70,18 @@ fn slot_ok(
     if n[1] != 1 {
         return true;
     }
-    live_ok(nums, reals, ints, size, s, listed)
+    listed
 }
 
 // Whether every slot holds, and every occupied one is marked as named by an entry.
-fn slots_ok(
-    nums: &[[u32; 4]],
-    reals: &[[f32; 4]],
-    ints: &[[i32; 4]],
-    map: &[u64],
-    marks: &[bool; 4096],
-) -> bool
-    requires { ⌜ Room (now nums) (now reals) (now ints) (now map) ⌝ }
-    ensures { λ b. ⌜ Says b (SlotsOk (now (nums .entry)) (now (reals .entry)) (now (ints .entry)) (now (map .entry)) (now (marks .entry))) ⌝ }
+fn slots_ok(nums: &[[u32; 4]], map: &[u64], marks: &[bool; 4096]) -> bool
+    requires { ⌜ Room (now nums) (now map) ⌝ }
+    ensures { λ b. ⌜ Says b (SlotsOk (now (nums .entry)) (now (map .entry)) (now (marks .entry))) ⌝ }
 {
-    let size = map[0];
     let mut i = 0;
     while i < nums.len() {
         let listed = marks[i];
-        if !slot_ok(nums, reals, ints, map, size, i, listed) {
+        if !slot_ok(nums, map, i, listed) {
             return false;
         }
         i += 1;
@@ -150,9 +112,10 @@ pub fn check(
     ) {
         return false;
     }
+    let size = map[0];
     let used = basics::index_of(map[1]);
     let rows = basics::index_of(map[2]);
-    if !counts_ok(nums.len(), map[0], used, rows) {
+    if !counts_ok(nums.len(), size, used, rows) {
         return false;
     }
     let mut marks = [false; 4096];
@@ -165,9 +128,10 @@ pub fn check(
         cells,
         used,
         rows,
+        size,
         &mut marks,
     ) {
         return false;
     }
-    slots_ok(nums, reals, ints, map, &marks)
+    slots_ok(nums, map, &marks)
 }

@@ -2,3 +2,4 @@
 pub mod Pass
 pub mod MarkLaws
 pub mod PassLaws
+pub mod RunLaws

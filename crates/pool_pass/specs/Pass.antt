@@ -1,4 +1,4 @@
--- What the pass over the pool and the cell table asks of each entry, and of all of them. Assumes nothing.
+-- What the pass over the pool and the cell table asks of each entry, of a run of them, and of all of them. Assumes nothing.
 use Prim.Native.Nat.{ℕ, _+_, _-_, _<_, _≤_}
 use mathlib.Core.Path.{_≡_}
 use mathlib.Core.Bool.{Bool, true, false}
@@ -7,10 +7,13 @@ use lib.IntN.{ℤ}
 use lib.Ieee.{Float, nan, isNan}
 use lib.ListN.{length, getD}
 use Rattle.geometry.specs.declared.Position.{Position}
-use Rattle.cells.specs.Key.{keyOf}
-use Rattle.slots.specs.Slot.{live, phaseAt}
+use Rattle.cells.specs.declared.Cell.{Cell}
+use Rattle.cells.specs.Size.{SizeInDomain}
+use Rattle.cells.specs.Key.{keyOf, cellOfKey}
+use Rattle.slots.specs.Slot.{live, versionAt, phaseAt}
 use Rattle.storage.specs.Packed.{first, second, Packed}
 use Rattle.objects.specs.Columns.{recordAt}
+use Rattle.objects.specs.Occupied.{Occupied}
 
 -- the position of a list entry
 abbrev pub spotAt : List (List Float) → ℕ → Position
@@ -38,26 +41,55 @@ pub data Step (cells : List (List ℕ)) (rows c key m : ℕ) : Type 0 where
 abbrev pub Marked : List (List ℕ) → List (List ℕ) → ℕ → ℕ → Type 0
 Marked nums cells s r = (tagAt nums s ≡ 0 → ⊥) → second cells r ≡ 1
 
--- a number other than 0 that P holds of, or 0 if there is none
-pub record Next (P : ℕ → Type 0) (m : ℕ) : Type 0 where
-  pub some : (m ≡ 0 → ⊥) → P m
-  pub none : m ≡ 0 → (k : ℕ) → P k → ⊥
+module _ (nums : List (List ℕ)) (reals : List (List Float)) (ints : List (List ℤ)) where
+  -- the record of an occupied slot holds: its version is not 0, its tag is one of four, its cell is that of its position, and what is pending agrees
+  pub record Whole (size s : ℕ) : Type 0 where
+    pub versioned : versionAt nums s ≡ 0 → ⊥
+    pub tagged : tagAt nums s ≤ 3
+    pub occupied : Occupied size (recordAt nums reals ints s)
 
-module _ (nums : List (List ℕ)) (reals : List (List Float)) (ints : List (List ℤ)) (pool : List (List ℕ)) (spots : List (List Float)) (cells : List (List ℕ)) where
+  -- an entry of position p is that of slot s, which is occupied by an object of cell c; and the mark is set if something is pending for it
+  pub record Right (size : ℕ) (c : Cell) (mark s : ℕ) (p : Position) : Type 0 where
+    pub inside : s < length nums
+    pub occupied : phaseAt nums s ≡ live
+    pub is-cell : recordAt nums reals ints s .cell ≡ c
+    pub at : p ≡ recordAt nums reals ints s .position
+    pub number-x : isNan (p .x) ≡ false
+    pub number-y : isNan (p .y) ≡ false
+    pub whole : Whole size s
+    pub marked : (tagAt nums s ≡ 0 → ⊥) → mark ≡ 1
+
+module _ (nums : List (List ℕ)) (reals : List (List Float)) (ints : List (List ℤ)) (pool : List (List ℕ)) (spots : List (List Float)) where
+  -- entry j is right in the list of this key and mark, and no entry before it names its slot
+  pub record Here (size key mark j : ℕ) : Type 0 where
+    pub is-key : first pool j ≡ key
+    pub right : Right nums reals ints size (cellOfKey key) mark (second pool j) (spotAt spots j)
+    pub fresh : (i : ℕ) → i < j → second pool i ≡ second pool j → ⊥
+
+  -- the entries from `from` to e are, and entry e is not
+  pub record Run (size used key mark from e : ℕ) : Type 0 where
+    pub up : from ≤ e
+    pub most : e ≤ used
+    pub each : (j : ℕ) → from ≤ j → j < e → Here size key mark j
+    pub stop : e < used → Here size key mark e → ⊥
+
+module _ (nums : List (List ℕ)) (reals : List (List Float)) (ints : List (List ℤ)) (pool : List (List ℕ)) (spots : List (List Float)) (cells : List (List ℕ)) (size : ℕ) where
   -- entry j is right, and with it m rows of the cell table are met
   pub record Turn (rows j c m : ℕ) : Type 0 where
     pub fits : Fits nums reals ints (second pool j) (first pool j) (spotAt spots j)
+    pub whole : Whole nums reals ints size (second pool j)
     pub step : Step cells rows c (first pool j) m
     pub marked : Marked nums cells (second pool j) (m - 1)
 
-  -- the pool and the cell table are right; of the objects it is not asked that each has an entry
+  -- the pool, the cell table and the records that are named are right; of the objects it is not asked that each has an entry
   pub record Passes (used rows : ℕ) : Type 0 where
     pub each : (j : ℕ) → j < used → Fits nums reals ints (second pool j) (first pool j) (spotAt spots j)
+    pub whole : (j : ℕ) → j < used → Whole nums reals ints size (second pool j)
     pub once : (i j : ℕ) → j < used → i < j → second pool i ≡ second pool j → ⊥
     pub packed : Packed used rows pool cells
     pub marked : (j : ℕ) → j < used → (r : ℕ) → r < rows → first cells r ≡ first pool j → Marked nums cells (second pool j) r
 
-  -- lengths that let every entry and every row be read
+  -- lengths that let every entry and every row be read, and a cell size of the domain
   pub record Room (used rows : ℕ) : Type 0 where
     pub most : length nums ≤ 4096
     pub of-reals : length reals ≡ length nums
@@ -65,6 +97,7 @@ module _ (nums : List (List ℕ)) (reals : List (List Float)) (ints : List (List
     pub in-pool : used ≤ length pool
     pub in-spots : used ≤ length spots
     pub in-cells : rows ≤ length cells
+    pub of-size : SizeInDomain size
 
 -- the marks say which slots the first i entries name
 pub record Named (pool : List (List ℕ)) (marks : List Bool) (i : ℕ) : Type 0 where

@@ -12,9 +12,9 @@ use lib.Ieee.{Float}
 use borrow.Author.Count.{below-none, below-more}
 use borrow.Author.Tests.{ltb-true, ltb-false}
 use Rattle.storage.specs.Packed.{first, second, Packed}
-use Rattle.pool_pass.specs.Pass.{Fits, spotAt, Step, stays, steps, Marked, Turn, Passes}
+use Rattle.pool_pass.specs.Pass.{Fits, spotAt, Step, stays, steps, Marked, Whole, Turn, Passes}
 
-below-or : (i j : ℕ) → (i < j) ⊎ (j ≤ i)
+pub below-or : (i j : ℕ) → (i < j) ⊎ (j ≤ i)
 below-or i j = go (ltb i j) refl
   where
     go : (b : Bool) → ltb i j ≡ b → (i < j) ⊎ (j ≤ i)
@@ -141,22 +141,24 @@ module _ (pool cells : List (List ℕ)) where
       }
 
 -- ---- the entries and the rows together
-module _ (nums : List (List ℕ)) (reals : List (List Float)) (ints : List (List ℤ)) (pool : List (List ℕ)) (spots : List (List Float)) (cells : List (List ℕ)) where
+module _ (nums : List (List ℕ)) (reals : List (List Float)) (ints : List (List ℤ)) (pool : List (List ℕ)) (spots : List (List Float)) (cells : List (List ℕ)) (size : ℕ) where
   -- what holds once the first j entries are passed, and c rows are met
   pub record Passed (rows j c : ℕ) : Type 0 where
     pub each : (i : ℕ) → i < j → Fits nums reals ints (second pool i) (first pool i) (spotAt spots i)
+    pub whole : (i : ℕ) → i < j → Whole nums reals ints size (second pool i)
     pub once : (a b : ℕ) → b < j → a < b → second pool a ≡ second pool b → ⊥
     pub met : Met pool cells rows j c
     pub marked : (i : ℕ) → i < j → (r : ℕ) → r < c → first cells r ≡ first pool i → Marked nums cells (second pool i) r
 
   pub passed-none : (rows : ℕ) → Passed rows 0 0
-  passed-none rows = record { each = below-none _; once = λ a b h. absurd (omega arith); met = met-none pool cells rows; marked = below-none _ }
+  passed-none rows = record { each = below-none _; whole = below-none _; once = λ a b h. absurd (omega arith); met = met-none pool cells rows; marked = below-none _ }
 
   module _ (rows j c m : ℕ) (v : Passed rows j c) where
-    pub passed-more : Turn nums reals ints pool spots cells rows j c m → ((i : ℕ) → i < j → second pool i ≡ second pool j → ⊥) → Passed rows (j + 1) m
+    pub passed-more : Turn nums reals ints pool spots cells size rows j c m → ((i : ℕ) → i < j → second pool i ≡ second pool j → ⊥) → Passed rows (j + 1) m
     passed-more t fresh =
         record {
           each = below-more (λ i. Fits nums reals ints (second pool i) (first pool i) (spotAt spots i)) j (v .each) (t .fits);
+          whole = below-more (λ i. Whole nums reals ints size (second pool i)) j (v .whole) (t .whole);
           once = λ a b h. below-more (λ b. a < b → second pool a ≡ second pool b → ⊥) j (λ b q. v .once a b q) (fresh a) b h;
           met = after;
           marked = below-more (λ i. (r : ℕ) → r < m → first cells r ≡ first pool i → Marked nums cells (second pool i) r) j old new;
@@ -180,19 +182,12 @@ module _ (nums : List (List ℕ)) (reals : List (List Float)) (ints : List (List
             let f : m - 1 ≡ r = same-row cells m (after .ascending) (m - 1) r (omega (arith, w .0)) l (w .2 ∙ sym e) in
             subst (Marked nums cells (second pool j)) f (t .marked)
 
-  pub passed-all : (used rows c : ℕ) → c ≡ rows → Passed rows used c → Passes nums reals ints pool spots cells used rows
+  pub passed-all : (used rows c : ℕ) → c ≡ rows → Passed rows used c → Passes nums reals ints pool spots cells size used rows
   passed-all used rows c e v =
       record {
         each = v .each;
+        whole = v .whole;
         once = v .once;
         packed = met-packed pool cells used rows c e (v .met);
         marked = λ j h r l. v .marked j h r (omega arith);
       }
-
-  -- ---- where the whole holds, the pass goes on to the end
-  module _ (used rows : ℕ) (t : Passes nums reals ints pool spots cells used rows) where
-    pub passed-next : (j c : ℕ) → j < used → Passed rows j c → (m : ℕ) × Turn nums reals ints pool spots cells rows j c m
-    passed-next j c h v =
-        let o = met-next pool cells used rows (t .packed) j c h (v .met) in
-        let w = step-row pool cells rows j c (o .0) (v .met) (o .1) in
-        (o .0, record { fits = t .each j h; step = o .1; marked = t .marked j h (o .0 - 1) (omega (arith, w .0, w .1)) (w .2) })

@@ -1,67 +1,16 @@
-// The pass over the pool and the cell table: each entry is that of an object, no object stands twice, and each list has its row.
+// The pass over the pool and the cell table, list by list: each entry is that of an object of the list's cell, whose record holds, no object stands
+// twice, and each list has its row.
 ghost use mathlib.Core.Path.{_≡_};
 ghost use mathlib.Core.Bool.{true, false};
 ghost use Prim.Native.Nat.{ℕ, _≤_, _<_};
 ghost use lib.ListN.{length, getD, replicate};
 ghost use Rattle.basics.specs.Says.{Says};
-ghost use Rattle.pool_pass.specs.Pass.{Fits, Step, Next, Turn, Passes, Room, Named};
+ghost use Rattle.cells.specs.Size.{SizeInDomain};
+ghost use Rattle.cells.specs.Span.{Spans};
+ghost use Rattle.pool_pass.specs.Pass.{Right, Run, Passes, Room, Named};
 use cells::Cell;
+use cells::Span;
 use geometry::Position;
-
-// Whether an entry of this key and position is that of slot s.
-fn entry_ok(
-    nums: &[[u32; 4]],
-    reals: &[[f32; 4]],
-    ints: &[[i32; 4]],
-    s: usize,
-    key: u64,
-    p: Position,
-) -> bool
-    requires { ⌜ (length (now reals) ≡ length (now nums)) × (length (now ints) ≡ length (now nums)) ⌝ }
-    ensures { λ b. ⌜ Says b (Fits (now (nums .entry)) (now (reals .entry)) (now (ints .entry)) s key p) ⌝ }
-{
-    if nums.len() <= s {
-        return false;
-    }
-    let n = nums[s];
-    if n[1] != 1 {
-        return false;
-    }
-    let z = ints[s];
-    let k = cells::key_of(Cell { x: z[0], y: z[1] });
-    if key != k {
-        return false;
-    }
-    let q = reals[s];
-    geometry::same_position(p, Position { x: q[0], y: q[1] })
-}
-
-// The rows of the cell table that are met with an entry of this key, c before it; 0 if the next row is not the entry's.
-fn row_after(cells: &[[u64; 2]], rows: usize, c: usize, key: u64) -> usize
-    requires { ⌜ (rows ≤ length (now cells)) × (c ≤ rows) ⌝ }
-    ensures { λ m. ⌜ Next (Step (now (cells .entry)) rows c key) m ⌝ }
-{
-    if 0 < c {
-        let last = cells[c - 1];
-        if last[0] == key {
-            return c;
-        }
-        if key < last[0] {
-            return 0;
-        }
-    }
-    if rows <= c {
-        return 0;
-    }
-    let row = cells[c];
-    if row[0] != key {
-        return 0;
-    }
-    if 1 < row[1] {
-        return 0;
-    }
-    c + 1
-}
 
 // A pending object stands in a cell that is marked dirty.
 fn dirty_ok(tag: u32, mark: u64) -> bool
@@ -73,40 +22,96 @@ fn dirty_ok(tag: u32, mark: u64) -> bool
     mark == 1
 }
 
-// Entry j: the rows of the cell table that are met with it, or 0 if it is not right.
-fn turn(
+// Whether an entry of this position is that of slot s, and the slot's record holds, in the list of cell c with this mark.
+fn entry_ok(
+    nums: &[[u32; 4]],
+    reals: &[[f32; 4]],
+    ints: &[[i32; 4]],
+    size: u64,
+    c: Cell,
+    x: Span,
+    y: Span,
+    mark: u64,
+    s: usize,
+    p: Position,
+) -> bool
+    requires { ⌜ (length (now reals) ≡ length (now nums)) × (length (now ints) ≡ length (now nums)) × SizeInDomain size × Spans size (c .x) (x .lo) (x .hi) × Spans size (c .y) (y .lo) (y .hi) ⌝ }
+    ensures { λ b. ⌜ Says b (Right (now (nums .entry)) (now (reals .entry)) (now (ints .entry)) size c mark s p) ⌝ }
+{
+    if nums.len() <= s {
+        return false;
+    }
+    let n = nums[s];
+    if n[1] != 1 {
+        return false;
+    }
+    if n[0] == 0 {
+        return false;
+    }
+    if !dirty_ok(n[3], mark) {
+        return false;
+    }
+    let q = reals[s];
+    if !geometry::same_position(p, Position { x: q[0], y: q[1] }) {
+        return false;
+    }
+    let z = ints[s];
+    objects::rows_ok(size, c, x, y, n, q, z)
+}
+
+// The end of the run of entries from entry `from` on that are right in the list of this key and mark; the marks are set for the slots that they name.
+fn run_end(
     nums: &[[u32; 4]],
     reals: &[[f32; 4]],
     ints: &[[i32; 4]],
     pool: &[[u64; 2]],
     spots: &[[f32; 2]],
-    cells: &[[u64; 2]],
-    rows: usize,
-    j: usize,
-    c: usize,
+    used: usize,
+    size: u64,
+    key: u64,
+    mark: u64,
+    from: usize,
+    marks: &mut [bool; 4096],
 ) -> usize
-    requires { ⌜ (length (now reals) ≡ length (now nums)) × (length (now ints) ≡ length (now nums)) × (j < length (now pool)) × (j < length (now spots)) × (rows ≤ length (now cells)) × (c ≤ rows) ⌝ }
-    ensures { λ m. ⌜ Next (Turn (now (nums .entry)) (now (reals .entry)) (now (ints .entry)) (now (pool .entry)) (now (spots .entry)) (now (cells .entry)) rows j c) m ⌝ }
+    requires { ⌜ (length (now nums) ≤ 4096) × (length (now reals) ≡ length (now nums)) × (length (now ints) ≡ length (now nums)) × (used ≤ length (now pool)) × (used ≤ length (now spots)) × SizeInDomain size × (from ≤ used) × Named (now pool) (now marks) from × (length (now marks) ≡ 4096) ⌝ }
+    ensures run { λ e. ⌜ Run (now (nums .entry)) (now (reals .entry)) (now (ints .entry)) (now (pool .entry)) (now (spots .entry)) size used key mark from e ⌝ }
+    ensures named { λ e. ⌜ Named (now (pool .entry)) (now (marks .exit)) e × (length (now (marks .exit)) ≡ 4096) ⌝ }
 {
-    let e = pool[j];
-    let s = basics::index_of(e[1]);
-    let p = spots[j];
-    if !entry_ok(nums, reals, ints, s, e[0], Position { x: p[0], y: p[1] }) {
-        return 0;
+    let c = cells::cell_of_key(key);
+    let x = cells::span_of(size, c.x);
+    let y = cells::span_of(size, c.y);
+    let mut j = from;
+    while j < used {
+        let e = pool[j];
+        if e[0] != key {
+            return j;
+        }
+        let s = basics::index_of(e[1]);
+        let p = spots[j];
+        if !entry_ok(
+            nums,
+            reals,
+            ints,
+            size,
+            c,
+            x,
+            y,
+            mark,
+            s,
+            Position { x: p[0], y: p[1] },
+        ) {
+            return j;
+        }
+        if marks[s] {
+            return j;
+        }
+        marks[s] = true;
+        j += 1;
     }
-    let m = row_after(cells, rows, c, e[0]);
-    if m == 0 {
-        return 0;
-    }
-    let n = nums[s];
-    let row = cells[m - 1];
-    if !dirty_ok(n[3], row[1]) {
-        return 0;
-    }
-    m
+    j
 }
 
-// Whether the pool and the cell table are right; the marks are then set for the slots that the entries name.
+// Whether the pool and the cell table are right, and the record of each slot that an entry names; the marks are then set for these slots.
 pub fn pool_ok(
     nums: &[[u32; 4]],
     reals: &[[f32; 4]],
@@ -116,27 +121,43 @@ pub fn pool_ok(
     cells: &[[u64; 2]],
     used: usize,
     rows: usize,
+    size: u64,
     marks: &mut [bool; 4096],
 ) -> bool
-    requires { ⌜ Room (now nums) (now reals) (now ints) (now pool) (now spots) (now cells) used rows × (now marks ≡ replicate 4096 false) ⌝ }
-    ensures says { λ b. ⌜ Says b (Passes (now (nums .entry)) (now (reals .entry)) (now (ints .entry)) (now (pool .entry)) (now (spots .entry)) (now (cells .entry)) used rows) ⌝ }
+    requires { ⌜ Room (now nums) (now reals) (now ints) (now pool) (now spots) (now cells) size used rows × (now marks ≡ replicate 4096 false) ⌝ }
+    ensures says { λ b. ⌜ Says b (Passes (now (nums .entry)) (now (reals .entry)) (now (ints .entry)) (now (pool .entry)) (now (spots .entry)) (now (cells .entry)) size used rows) ⌝ }
     ensures named { λ b. ⌜ (b ≡ true → Named (now (pool .entry)) (now (marks .exit)) used) ⌝ }
 {
-    let mut c = 0;
+    let mut last = 0;
+    let mut r = 0;
     let mut j = 0;
-    while j < used {
-        let m = turn(nums, reals, ints, pool, spots, cells, rows, j, c);
-        if m == 0 {
+    while r < rows {
+        let row = cells[r];
+        if (0 < r) & (row[0] <= last) {
             return false;
         }
-        let e = pool[j];
-        let s = basics::index_of(e[1]);
-        if marks[s] {
+        if 1 < row[1] {
             return false;
         }
-        marks[s] = true;
-        c = m;
-        j += 1;
+        let e = run_end(
+            nums,
+            reals,
+            ints,
+            pool,
+            spots,
+            used,
+            size,
+            row[0],
+            row[1],
+            j,
+            marks,
+        );
+        if e <= j {
+            return false;
+        }
+        last = row[0];
+        j = e;
+        r += 1;
     }
-    c == rows
+    j == used
 }

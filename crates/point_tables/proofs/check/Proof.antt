@@ -27,11 +27,11 @@ read : (c : tie.Else1) → 3 ≤ length (c .before .before .before .args .map .n
 read c = omega (arith, sized c .of-map)
 
 -- the two counts are the head words of the map
-used-is : (c : tie.Else2) → c .before .before .before .before .before .index-of .result ≡ usedOf (at-entry (c .before .before .before .before .before .before .before .before .before .before))
-used-is c = c .before .before .before .before .before .index-of .ensures
+used-is : (c : tie.Else2) → c .before .before .before .before .index-of .result ≡ usedOf (at-entry (c .before .before .before .before .before .before .before .before .before .before))
+used-is c = c .before .before .before .before .index-of .ensures
 
-rows-is : (c : tie.Else2) → c .before .before .before .index-of2 .result ≡ rowsOf (at-entry (c .before .before .before .before .before .before .before .before .before .before))
-rows-is c = c .before .before .before .index-of2 .ensures
+rows-is : (c : tie.Else2) → c .before .before .index-of2 .result ≡ rowsOf (at-entry (c .before .before .before .before .before .before .before .before .before .before))
+rows-is c = c .before .before .index-of2 .ensures
 
 counted : (c : tie.Else2) → CountsOf (at-entry (c .before .before .before .before .before .before .before .before .before .before))
 counted c =
@@ -45,20 +45,20 @@ returns-2 : tie.Need-returns-2
 returns-2 c =
     let t = at-entry (c .before .before .before .before .before .before .before .before .before .before) in
     said-holds t _ (says-no (λ h. apart (sym (not-true _ (c .if2 .taken)) ∙ c .before .counts-ok .ensures .no
-    (moved (Counts (slotsOf t) (sizeOf t)) (usedOf t) (rowsOf t) _ _ (sym (c .before .before .before .before .before .index-of .ensures)) (sym (c .before .before .before .index-of2 .ensures)) (counts-of t h)))))
+    (moved (Counts (slotsOf t) (sizeOf t)) (usedOf t) (rowsOf t) _ _ (sym (c .before .before .before .before .index-of .ensures)) (sym (c .before .before .index-of2 .ensures)) (counts-of t h)))))
 
 pool-ok-requires : tie.Need-pool-ok-requires
 pool-ok-requires c κs =
     let d = c .before in
     let t = at-entry (d .before .before .before .before .before .before .before .before .before .before) in
-    (moved (Pass.Room (t .nums) (t .reals) (t .ints) (t .pool) (t .spots) (t .cells)) (usedOf t) (rowsOf t) _ _ (sym (used-is d)) (sym (rows-is d)) (pool-room t (sized (d .before .before .before .before .before .before .before)) (counted d)), refl)
+    (moved (Pass.Room (t .nums) (t .reals) (t .ints) (t .pool) (t .spots) (t .cells) (sizeOf t)) (usedOf t) (rowsOf t) _ _ (sym (used-is d)) (sym (rows-is d)) (pool-room t (sized (d .before .before .before .before .before .before .before)) (counted d)), refl)
 
 returns-3 : tie.Need-returns-3
 returns-3 c =
     let d = c .before .before .before in
     let t = at-entry (d .before .before .before .before .before .before .before .before .before .before) in
     said-holds t _ (says-no (λ h. apart (sym (not-true _ (c .if3 .taken)) ∙ c .before .pool-ok .ensures .0 .no
-    (moved (Passes (t .nums) (t .reals) (t .ints) (t .pool) (t .spots) (t .cells)) (usedOf t) (rowsOf t) _ _ (sym (used-is d)) (sym (rows-is d)) (passes-of t h)))))
+    (moved (Passes (t .nums) (t .reals) (t .ints) (t .pool) (t .spots) (t .cells) (sizeOf t)) (usedOf t) (rowsOf t) _ _ (sym (used-is d)) (sym (rows-is d)) (passes-of t h)))))
 
 slots-ok-requires : tie.Need-slots-ok-requires
 slots-ok-requires c κs =
@@ -72,7 +72,7 @@ returns-4 c =
     let d = p .before .before in
     let t = at-entry (d .before .before .before .before .before .before .before .before .before .before) in
     let y = not-false _ (c .before .before .if3 .left) in
-    let v : PassesOf t = moved (Passes (t .nums) (t .reals) (t .ints) (t .pool) (t .spots) (t .cells)) _ _ (usedOf t) (rowsOf t) (used-is d) (rows-is d) (p .pool-ok .ensures .0 .yes y) in
+    let v : PassesOf t = moved (Passes (t .nums) (t .reals) (t .ints) (t .pool) (t .spots) (t .cells) (sizeOf t)) _ _ (usedOf t) (rowsOf t) (used-is d) (rows-is d) (p .pool-ok .ensures .0 .yes y) in
     let n = named-all _ (usedOf t) (used-is d) (p .pool-ok .ensures .1 y) in
     said-holds t _ (record { yes = λ e. whole t (sized (d .before .before .before .before .before .before .before)) (counted d) _ v n (c .slots-ok .ensures .yes e); no = λ h. c .slots-ok .ensures .no (slots-of t h _ n) })
 
@@ -83,10 +83,10 @@ check-spec =
     (λ c κs. search needs)
     returns
     (λ c. omega (arith, read (c .before)))
+    (λ c. omega (arith, read (c .before .before)))
     (λ c κs. search needs)
-    (λ c. omega (arith, read (c .before .before .before)))
+    (λ c. omega (arith, read (c .before .before .before .before)))
     (λ c κs. search needs)
-    (λ c. omega (arith, read (c .before .before .before .before .before)))
     (λ c κs. search needs)
     returns-2
     pool-ok-requires

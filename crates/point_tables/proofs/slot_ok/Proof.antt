@@ -23,11 +23,8 @@ returns-2 c = says-yes (record { slot = told (c .before .before) .yes (not-false
 
 returns-3 : tie.Need-returns-3
 returns-3 c =
-    let d = c .before .before in
-    record {
-      yes = λ e. record { slot = told (d .before) .yes (not-false _ (d .if1 .left)); if-live = λ p. c .live-ok .ensures .yes e };
-      no = λ h. c .live-ok .ensures .no (h .if-live (c .before .if2 .left));
-    }
+    let d = c .before in
+    record { yes = λ e. record { slot = told (d .before) .yes (not-false _ (d .if1 .left)); if-live = λ p. e }; no = λ h. h .if-live (c .if2 .left) }
 
 pub slot-ok-spec : {M : Type 1} → statement M
 slot-ok-spec =
@@ -42,5 +39,4 @@ slot-ok-spec =
     returns
     (λ c. search needs)
     returns-2
-    (λ c κs. search needs)
     returns-3)

@@ -13,16 +13,13 @@ use Rattle.point_tables.proofs.slots_ok.Statement.{statement}
 use Rattle.point_tables.proofs.slots_ok.Tie as tie
 
 abbrev Inv-loop : tie.InvT-loop
-Inv-loop nums reals ints map marks size i₀ i = (i ≤ length nums) × ((s : ℕ) → s < i → SlotOk nums reals ints map (getD map 0 0) s (getD marks s false))
+Inv-loop nums map marks i₀ i = (i ≤ length nums) × ((s : ℕ) → s < i → SlotOk nums map s (getD marks s false))
 
 abbrev μ-loop : tie.MeasureT-loop
-μ-loop nums reals ints map marks size i₀ i = length nums - i
+μ-loop nums map marks i₀ i = length nums - i
 
 slot-ok-requires : tie.Need-slot-ok-requires Inv-loop μ-loop
-slot-ok-requires c κs =
-    let p = c .before .before .before .before .before .pre in
-    let t = c .before .loop-test .taken in
-    (t, omega (arith, t, p .of-reals), omega (arith, t, p .of-ints), p .size, omega (arith, t, p .of-map))
+slot-ok-requires c κs = let t = c .before .loop-test .taken in (t, omega (arith, t, c .before .before .before .before .pre .of-map))
 
 returns : tie.Need-returns Inv-loop μ-loop
 returns c =
@@ -46,13 +43,12 @@ slots-ok-spec =
     (tie.spec
     Inv-loop
     μ-loop
-    (λ c. omega (arith, c .before .before .pre .of-map))
     (λ c. (omega arith, below-none _))
-    (λ c. omega (arith, c .loop-test .taken, c .before .before .before .before .pre .most))
+    (λ c. omega (arith, c .loop-test .taken, c .before .before .before .pre .most))
     slot-ok-requires
     returns
     (λ c. omega arith)
     (λ c. omega arith)
     loop-again
-    (λ c κs. c .before .before .before .before .pre .of-map)
+    (λ c κs. c .before .before .before .pre .of-map)
     returns-2)

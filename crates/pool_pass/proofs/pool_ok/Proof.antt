@@ -1,84 +1,111 @@
--- `pool_pass::pool_ok` meets its contract. Up to entry j all is right, c rows are met, and the marks say which slots were named.
--- The measure is what is left of the entries. Assumes nothing.
+-- `pool_pass::pool_ok` meets its contract. With r rows met, all is right up to entry j, the marks say which slots were named, and entry j is not right in
+-- the list of the last row. The measure is what is left of the rows. Assumes nothing.
 use Prim.Native.Nat.{ℕ, _+_, _-_, _≤_, _<_}
 use mathlib.Core.Path.{_≡_, refl, sym, _∙_, ap, subst}
-use mathlib.Core.Bool.{true, false}
+use mathlib.Core.Bool.{Bool, true, false, _&&_}
 use mathlib.Core.Logic.{⊎-elim}
 use native.Mathlib.Omega.{arith}
-use borrow.Author.Tests.{eqb-true, eq-eqb}
-use lib.ListN.{length, length-set, length-replicate}
-use Rattle.basics.specs.Says.{says-no, apart, d-eq}
-use Rattle.storage.specs.Packed.{second}
-use Rattle.pool_pass.specs.Pass.{Turn, Named}
-use Rattle.pool_pass.specs.MarkLaws.{named-none, named-more, named-new}
-use Rattle.pool_pass.specs.PassLaws.{Passed, passed-none, passed-more, passed-all, passed-next, met-short}
+use lib.Dec.{ltb, leb}
+use lib.ListN.{length, length-replicate}
+use borrow.Author.Tests.{eqb-true, eq-eqb, lt-ltb, ltb-true, leb-true, leb-false}
 use borrow.Author.Needs.{needs}
+use Rattle.basics.specs.Says.{says-no, apart}
+use Rattle.storage.specs.Packed.{first, second}
+use Rattle.pool_pass.specs.Pass.{Here, Passes, Named}
+use Rattle.pool_pass.specs.MarkLaws.{named-none}
+use Rattle.pool_pass.specs.PassLaws.{below-or, Passed, passed-none, passed-all}
+use Rattle.pool_pass.specs.RunLaws.{passed-run, next-row, next-entry}
 use Rattle.pool_pass.proofs.pool_ok.Statement.{statement}
 use Rattle.pool_pass.proofs.pool_ok.Tie as tie
 
 abbrev Inv-loop : tie.InvT-loop
-Inv-loop nums reals ints pool spots cells used rows marks₀ c₀ j₀ marks c j = (j ≤ used) × (length marks ≡ 4096) × Passed nums reals ints pool spots cells rows j c × Named pool marks j
+Inv-loop nums reals ints pool spots cells used rows size marks₀ last₀ r₀ j₀ marks last r j = (r ≤ rows) × (j ≤ used) × (length marks ≡ 4096) × Passed nums reals ints pool spots cells size rows j r × Named pool marks j × (0 < r → last ≡ first cells (r - 1)) × (0 < r → j < used → Here nums reals ints pool spots size (first cells (r - 1)) (second cells (r - 1)) j → ⊥)
 
 abbrev μ-loop : tie.MeasureT-loop
-μ-loop nums reals ints pool spots cells used rows marks₀ c₀ j₀ marks c j = used - j
-
--- past its test, the turn of entry j
-turned : (c : tie.Else1 Inv-loop μ-loop) → let a = c .before .before .before .before .args in let l = c .before .before .before .loop in Turn (a .nums .now) (a .reals .now) (a .ints .now) (a .pool .now) (a .spots .now) (a .cells .now) (a .rows) (l .j) (l .c) (c .before .turn .result)
-turned c = c .before .turn .ensures .some (c .if1 .left)
-
-slot-in : (c : tie.After-index-of Inv-loop μ-loop) → c .index-of .result < 4096
-slot-in c = omega (arith, turned (c .before .before) .fits .inside, c .index-of .ensures, c .before .before .before .before .before .before .pre .0 .most)
+μ-loop nums reals ints pool spots cells used rows size marks₀ last₀ r₀ j₀ marks last r j = rows - r
 
 loop-holds : tie.Need-loop-holds Inv-loop μ-loop
 loop-holds c =
     let a = c .args in
-    (omega arith, ap length (c .pre .1) ∙ length-replicate 4096 false, passed-none (a .nums .now) (a .reals .now) (a .ints .now) (a .pool .now) (a .spots .now) (a .cells .now) (a .rows), subst (λ m. Named (a .pool .now) m 0) (sym (c .pre .1)) (named-none (a .pool .now) 4096))
+    (omega arith, omega arith, ap length (c .pre .1) ∙ length-replicate 4096 false, passed-none (a .nums .now) (a .reals .now) (a .ints .now) (a .pool .now) (a .spots .now) (a .cells .now) (a .size) (a .rows), subst (λ m. Named (a .pool .now) m 0) (sym (c .pre .1)) (named-none (a .pool .now) 4096), (λ h. absurd (omega arith)), (λ h. absurd (omega arith)))
 
-turn-requires : tie.Need-turn-requires Inv-loop μ-loop
-turn-requires c κs =
-    let p = c .before .before .pre .0 in
-    (p .of-reals, p .of-ints, omega (arith, c .loop-test .taken, p .in-pool), omega (arith, c .loop-test .taken, p .in-spots), p .in-cells, c .before .loop .inv .2 .met .most)
+-- ---- the order of the rows, as it is tested
+both : (a b : Bool) → (a && b) ≡ true → (a ≡ true) × (b ≡ true)
+both true b e = (refl, e)
+both false b e = absurd (apart e)
+
+not-second : (a b : Bool) → a ≡ true → (a && b) ≡ false → b ≡ false
+not-second true b e g = g
+not-second false b e g = absurd (apart e)
 
 returns : tie.Need-returns Inv-loop μ-loop
 returns c =
     let l = c .before .before .before .loop in
-    let a = c .before .before .before .before .args in (
-      says-no (λ v.
-          let o = passed-next (a .nums .now) (a .reals .now) (a .ints .now) (a .pool .now) (a .spots .now) (a .cells .now) (a .used) (a .rows) v (l .j) (l .c) (c .before .before .loop-test .taken) (l .inv .2) in
-          c .before .turn .ensures .none (c .if1 .taken) (o .0) (o .1)),
-      λ e. absurd (apart e),
-    )
+    let a = c .before .before .before .before .args in
+    let w = both (ltb 0 (l .r)) (leb (first (a .cells .now) (l .r)) (l .last)) (c .if1 .taken) in
+    let h = ltb-true 0 (l .r) (w .0) in
+    (says-no (λ t. omega (arith, t .packed .ascending (l .r - 1) (l .r) (c .before .before .loop-test .taken) (omega (arith, h)), leb-true (first (a .cells .now) (l .r)) (l .last) (w .1), l .inv .5 h)), λ e. absurd (apart e))
+
+rises : (c : tie.Else1 Inv-loop μ-loop) → let l = c .before .before .before .loop in let a = c .before .before .before .before .args in 0 < l .r → first (a .cells .now) (l .r - 1) < first (a .cells .now) (l .r)
+rises c h = let l = c .before .before .before .loop in let k = first (c .before .before .before .before .args .cells .now) (l .r) in omega (arith, leb-false k (l .last) (not-second (ltb 0 (l .r)) (leb k (l .last)) (lt-ltb 0 (l .r) h) (c .if1 .left)), l .inv .5 h)
 
 returns-2 : tie.Need-returns-2 Inv-loop μ-loop
 returns-2 c =
-    let d = c .before .before .before .before .before .before in
-    let o = d .before .loop .inv .3 .only (c .before .before .index-of .result) (c .if2 .taken) in
-    (says-no (λ v. v .once (o .0) (d .before .loop .j) (d .loop-test .taken) (o .1) (o .2 ∙ c .before .before .index-of .ensures)), λ e. absurd (apart e))
+    let d = c .before .before .before in
+    (says-no (λ t. omega (arith, t .packed .marks (d .before .loop .r) (d .loop-test .taken), c .if2 .taken)), λ e. absurd (apart e))
 
-loop-again : tie.Need-loop-again Inv-loop μ-loop
-loop-again c =
-    let w = c .before .before .index-of in
-    let d = c .before .before .before .before in
-    let l = d .before .before .before .loop in
-    let a = d .before .before .before .before .args in (
-      omega arith,
-      length-set (l .marks) (w .result) _ ∙ l .inv .1,
-      passed-more (a .nums .now) (a .reals .now) (a .ints .now) (a .pool .now) (a .spots .now) (a .cells .now) (a .rows) (l .j) (l .c) (d .before .turn .result) (l .inv .2) (turned d)
-          (λ i h q. named-new (a .pool .now) (l .marks) (l .j) (w .result) (c .if2 .left) (l .inv .3) i h (q ∙ sym (w .ensures))),
-      named-more (a .pool .now) (l .marks) (l .j) (w .result) (w .ensures) (omega (arith, slot-in (c .before .before), l .inv .1)) (l .inv .3),
-    )
+run-end-requires : tie.Need-run-end-requires Inv-loop μ-loop
+run-end-requires c κs =
+    let l = c .before .before .before .before .before in
+    let p = l .before .pre .0 in
+    (p .most, p .of-reals, p .of-ints, p .in-pool, p .in-spots, p .of-size, l .loop .inv .1, l .loop .inv .4, l .loop .inv .2)
 
 returns-3 : tie.Need-returns-3 Inv-loop μ-loop
 returns-3 c =
+    let d = c .before .before .before .before .before .before in
+    let l = d .before .loop in
+    let a = d .before .before .args in
+    let u = c .before .run-end .ensures .0 in (
+      says-no (λ t.
+          let o = next-entry (a .nums .now) (a .reals .now) (a .ints .now) (a .pool .now) (a .spots .now) (a .cells .now) (a .size) (a .used) (a .rows) t (l .j) (l .r) (l .inv .3) (l .inv .6) (l .inv .1) (d .loop-test .taken) in
+          let e : l .j ≡ c .before .run-end .result = omega (arith, c .if3 .taken, u .up) in
+          u .stop (omega (arith, o .0, e)) (subst (Here (a .nums .now) (a .reals .now) (a .ints .now) (a .pool .now) (a .spots .now) (a .size) (first (a .cells .now) (l .r)) (second (a .cells .now) (l .r))) e (o .1))),
+      λ e. absurd (apart e),
+    )
+
+loop-again : tie.Need-loop-again Inv-loop μ-loop
+loop-again c =
+    let g = c .before .before .before in
+    let d = g .before .before .before in
+    let l = d .before .loop in
+    let a = d .before .before .args in
+    let n = c .before .run-end .ensures in
+    let f : l .r + 1 - 1 ≡ l .r = omega arith in (
+      omega (arith, d .loop-test .taken),
+      n .0 .most,
+      n .1 .1,
+      passed-run (a .nums .now) (a .reals .now) (a .ints .now) (a .pool .now) (a .spots .now) (a .cells .now) (a .size) (a .used) (a .rows) (l .j) (l .r) (c .before .run-end .result) (l .inv .3) (rises (g .before)) (d .loop-test .taken) (g .if2 .left) (n .0) (c .if3 .left),
+      n .1 .0,
+      λ h. ap (first (a .cells .now)) (sym f),
+      λ h i w. n .0 .stop i (subst (λ (r : ℕ). Here (a .nums .now) (a .reals .now) (a .ints .now) (a .pool .now) (a .spots .now) (a .size) (first (a .cells .now) r) (second (a .cells .now) r) (c .before .run-end .result)) f w),
+    )
+
+returns-4 : tie.Need-returns-4 Inv-loop μ-loop
+returns-4 c =
     let l = c .before .loop in
     let a = c .before .before .args in
-    let q : l .j ≡ a .used = omega (arith, l .inv .0, c .loop-test .left) in
-    let v : Passed (a .nums .now) (a .reals .now) (a .ints .now) (a .pool .now) (a .spots .now) (a .cells .now) (a .rows) (a .used) (l .c) = subst (λ (j : ℕ). Passed (a .nums .now) (a .reals .now) (a .ints .now) (a .pool .now) (a .spots .now) (a .cells .now) (a .rows) j (l .c)) q (l .inv .2) in (
+    let q : l .r ≡ a .rows = omega (arith, l .inv .0, c .loop-test .left) in (
       record {
-        yes = λ e. passed-all (a .nums .now) (a .reals .now) (a .ints .now) (a .pool .now) (a .spots .now) (a .cells .now) (a .used) (a .rows) (l .c) (eqb-true _ _ e) v;
-        no = λ t. ⊎-elim (λ e. eq-eqb _ _ e) (λ n. absurd (met-short (a .pool .now) (a .cells .now) (a .used) (a .rows) (t .packed) (l .c) n (v .met))) (d-eq (l .c) (a .rows));
+        yes = λ e.
+            passed-all (a .nums .now) (a .reals .now) (a .ints .now) (a .pool .now) (a .spots .now) (a .cells .now) (a .size) (a .used) (a .rows) (l .r) q
+            (subst (λ (j : ℕ). Passed (a .nums .now) (a .reals .now) (a .ints .now) (a .pool .now) (a .spots .now) (a .cells .now) (a .size) (a .rows) j (l .r)) (eqb-true _ _ e) (l .inv .3));
+        no = λ t.
+            ⊎-elim
+            (λ h. absurd (omega (arith, q, next-row (a .nums .now) (a .reals .now) (a .ints .now) (a .pool .now) (a .spots .now) (a .cells .now) (a .size) (a .used) (a .rows) t (l .j) (l .r) (l .inv .3) (l .inv .6) h .0)))
+            (λ h. eq-eqb (l .j) (a .used) (omega (arith, h, l .inv .1)))
+            (below-or (l .j) (a .used));
       },
-      λ e. subst (Named (a .pool .now) (l .marks)) q (l .inv .3),
+      λ e. subst (Named (a .pool .now) (l .marks)) (eqb-true _ _ e) (l .inv .4),
     )
 
 pub pool-ok-spec : {M : Type 1} → statement M
@@ -88,16 +115,18 @@ pool-ok-spec =
     Inv-loop
     μ-loop
     loop-holds
-    turn-requires
-    returns
-    (λ c. omega (arith, c .before .before .loop-test .taken, c .before .before .before .before .pre .0 .in-pool))
-    (λ c. omega (arith, c .before .before .loop-test .taken, c .before .before .before .before .pre .0 .in-pool))
+    (λ c. omega (arith, c .loop-test .taken, c .before .before .pre .0 .in-cells))
+    (λ c. omega (arith, c .loop-test .taken, c .before .before .pre .0 .in-cells))
     (λ c. omega arith)
-    (λ c κs. tt)
-    slot-in
+    returns
+    (λ c. omega arith)
     returns-2
-    (λ c. slot-in (c .before .before))
+    (λ c. omega arith)
+    (λ c. omega arith)
+    run-end-requires
+    returns-3
+    (λ c. omega arith)
     (λ c. omega arith)
     (λ c. omega arith)
     loop-again
-    returns-3)
+    returns-4)

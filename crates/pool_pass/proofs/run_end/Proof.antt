@@ -1,0 +1,132 @@
+-- `pool_pass::run_end` meets its contract: up to entry j all is right in the list, and the marks say which slots were named.
+-- The measure is what is left of the entries. Assumes nothing.
+use Prim.Native.Nat.{ℕ, _-_, _≤_, _<_, _+_}
+use mathlib.Core.Path.{_≡_, refl, sym, _∙_, ap, subst}
+use mathlib.Core.Bool.{Bool}
+use mathlib.Core.Logic.{⊎-elim}
+use native.Mathlib.Omega.{arith}
+use lib.IntN.{ℤ}
+use lib.ListN.{length, length-set}
+use borrow.Author.Tests.{not-true, not-false}
+use borrow.Author.Needs.{needs}
+use Rattle.basics.specs.Says.{Says, apart}
+use Rattle.cells.specs.declared.Cell.{Cell}
+use Rattle.cells.specs.Key.{cellOfKey}
+use Rattle.cells.specs.Span.{Spans}
+use Rattle.storage.specs.Packed.{second}
+use Rattle.pool_pass.specs.Pass.{spotAt, Right, Here, Run, Named}
+use Rattle.pool_pass.specs.MarkLaws.{named-more, named-new}
+use Rattle.pool_pass.specs.PassLaws.{below-or}
+use Rattle.pool_pass.proofs.Laws.{back}
+use Rattle.pool_pass.proofs.run_end.Statement.{statement}
+use Rattle.pool_pass.proofs.run_end.Tie as tie
+
+abbrev Inv-loop : tie.InvT-loop
+Inv-loop nums reals ints pool spots used size key mark from marks₀ c x y j₀ marks j = (from ≤ j) × (j ≤ used) × (length marks ≡ 4096) × ((i : ℕ) → from ≤ i → i < j → Here nums reals ints pool spots size key mark i) × Named pool marks j
+
+abbrev μ-loop : tie.MeasureT-loop
+μ-loop nums reals ints pool spots used size key mark from marks₀ c x y j₀ marks j = used - j
+
+abbrev start : tie.After-span-of2 Inv-loop μ-loop → tie.Start Inv-loop μ-loop
+start c = c .before .before .before .before .before
+
+-- the spans are those of the cell of the key
+across : (c : tie.After-span-of2 Inv-loop μ-loop) → let d = c .before .before in Spans (start c .args .size) (d .before .before .cell-of-key .result .x) (d .span-of .result .lo) (d .span-of .result .hi)
+across c = let d = c .before .before in subst (λ (z : ℤ). Spans (start c .args .size) z (d .span-of .result .lo) (d .span-of .result .hi)) (back (d .before .struct-told .given .0 .1)) (d .span-of .ensures)
+
+upright : (c : tie.After-span-of2 Inv-loop μ-loop) → Spans (start c .args .size) (c .before .before .before .before .cell-of-key .result .y) (c .span-of2 .result .lo) (c .span-of2 .result .hi)
+upright c = subst (λ (z : ℤ). Spans (start c .args .size) z (c .span-of2 .result .lo) (c .span-of2 .result .hi)) (back (c .before .struct-told2 .given .1 .0 .1)) (c .span-of2 .ensures)
+
+entry-ok-requires : tie.Need-entry-ok-requires Inv-loop μ-loop
+entry-ok-requires c κs =
+    let d = c .before .before .before .before .before .before in
+    let p = start d .pre in
+    (p .1, p .2, p .5, across d, upright d)
+
+-- what the test of entry j says
+right-of : (c : tie.After-entry-ok Inv-loop μ-loop)
+    → let l = c .before .before .before .before .before in
+    let a = start (l .before .before) .args in
+    Says (c .entry-ok .result) (Right (a .nums .now) (a .reals .now) (a .ints .now) (a .size) (cellOfKey (a .key)) (a .mark) (second (a .pool .now) (l .before .loop .j)) (spotAt (a .spots .now) (l .before .loop .j)))
+right-of c =
+    let l = c .before .before .before .before .before in
+    let a = start (l .before .before) .args in
+    let k = l .before .before .before .before .before .before .cell-of-key in
+    let R : Cell → ℕ → Type 0 = λ d s. Says (c .entry-ok .result) (Right (a .nums .now) (a .reals .now) (a .ints .now) (a .size) d (a .mark) s (spotAt (a .spots .now) (l .before .loop .j))) in
+    subst (R (cellOfKey (a .key))) (c .before .before .index-of .ensures) (subst (λ (d : Cell). R d (c .before .before .index-of .result)) (k .ensures) (c .entry-ok .ensures))
+
+returns : tie.Need-returns Inv-loop μ-loop
+returns c = let l = c .before .before .before .loop in (record { up = l .inv .0; most = l .inv .1; each = l .inv .3; stop = λ h i. c .if1 .taken (i .is-key) }, (l .inv .4, l .inv .2))
+
+returns-2 : tie.Need-returns-2 Inv-loop μ-loop
+returns-2 c =
+    let l = c .before .before .before .before .before .before .before .loop in
+    (record { up = l .inv .0; most = l .inv .1; each = l .inv .3; stop = λ h i. apart (sym (not-true _ (c .if2 .taken)) ∙ right-of (c .before) .no (i .right)) }, (l .inv .4, l .inv .2))
+
+-- past the tests, the entry is right; and its slot can be read
+entered : (c : tie.Else2 Inv-loop μ-loop)
+    → let l = c .before .before .before .before .before .before in
+    let a = start (l .before .before) .args in
+    Right (a .nums .now) (a .reals .now) (a .ints .now) (a .size) (cellOfKey (a .key)) (a .mark) (second (a .pool .now) (l .before .loop .j)) (spotAt (a .spots .now) (l .before .loop .j))
+entered c = right-of (c .before) .yes (not-false _ (c .if2 .left))
+
+slot-in : (c : tie.Else2 Inv-loop μ-loop) → c .before .before .before .index-of .result < 4096
+slot-in c =
+    let l = c .before .before .before .before .before .before in
+    omega (arith, entered c .inside, c .before .before .before .index-of .ensures, start (l .before .before) .pre .0)
+
+returns-3 : tie.Need-returns-3 Inv-loop μ-loop
+returns-3 c =
+    let s = c .before .before .before .before .before .index-of in
+    let l = c .before .before .before .before .before .before .before .before .before .loop in
+    let o = l .inv .4 .only (s .result) (c .if3 .taken) in
+    (record { up = l .inv .0; most = l .inv .1; each = l .inv .3; stop = λ h i. i .fresh (o .0) (o .1) (o .2 ∙ s .ensures) }, (l .inv .4, l .inv .2))
+
+loop-again : tie.Need-loop-again Inv-loop μ-loop
+loop-again c =
+    let d = c .before .before in
+    let s = d .before .before .before .index-of in
+    let g = d .before .before .before .before in
+    let l = g .before .before .before .loop in
+    let a = start (g .before .before .before .before) .args in
+    let H = Here (a .nums .now) (a .reals .now) (a .ints .now) (a .pool .now) (a .spots .now) (a .size) (a .key) (a .mark) in
+    let here : H (l .j) = record { is-key = g .if1 .left; right = entered d; fresh = λ i h q. named-new (a .pool .now) (l .marks) (l .j) (s .result) (c .if3 .left) (l .inv .4) i h (q ∙ sym (s .ensures)) } in (
+      omega (arith, l .inv .0),
+      omega arith,
+      length-set (l .marks) (s .result) _ ∙ l .inv .2,
+      λ i f h. ⊎-elim (λ w. l .inv .3 i f w) (λ w. let e : l .j ≡ i = omega arith in subst H e here) (below-or i (l .j)),
+      named-more (a .pool .now) (l .marks) (l .j) (s .result) (s .ensures) (omega (arith, slot-in d, l .inv .2)) (l .inv .4),
+    )
+
+returns-4 : tie.Need-returns-4 Inv-loop μ-loop
+returns-4 c = let l = c .before .loop in (record { up = l .inv .0; most = l .inv .1; each = l .inv .3; stop = λ h i. omega (arith, h, c .loop-test .left) }, (l .inv .4, l .inv .2))
+
+pub run-end-spec : {M : Type 1} → statement M
+run-end-spec =
+    tie.close
+    (tie.spec
+    Inv-loop
+    μ-loop
+    (λ c κs. tt)
+    (λ c κs. c .before .before .pre .5)
+    (λ c κs. c .before .before .before .before .pre .5)
+    (λ c. let p = start c .pre in (omega arith, p .6, p .8, (λ i f h. absurd (omega arith)), p .7))
+    (λ c. omega (arith, c .loop-test .taken, start (c .before .before) .pre .3))
+    (λ c. omega (arith, c .loop-test .taken, start (c .before .before) .pre .3))
+    (λ c. omega arith)
+    returns
+    (λ c. omega arith)
+    (λ c κs. tt)
+    (λ c. omega (arith, c .before .before .before .loop-test .taken, start (c .before .before .before .before .before) .pre .4))
+    (λ c. omega (arith, c .before .before .before .loop-test .taken, start (c .before .before .before .before .before) .pre .4))
+    (λ c. omega arith)
+    (λ c. omega arith)
+    entry-ok-requires
+    returns-2
+    slot-in
+    returns-3
+    (λ c. slot-in (c .before .before))
+    (λ c. omega arith)
+    (λ c. omega arith)
+    loop-again
+    returns-4)
