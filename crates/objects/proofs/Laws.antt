@@ -1,8 +1,6 @@
 -- What the proofs of objects share. Assumes nothing.
-use Prim.Native.Nat.{ℕ, _≤_, _<_, _^_}
-use mathlib.Core.Path.{_≡_, refl, sym, ap, _∙_, subst}
-use mathlib.Core.List.{List}
-use lib.ListN.{getD}
+use Prim.Native.Nat.{ℕ, _<_, _^_}
+use mathlib.Core.Path.{_≡_, refl, sym, ap, _∙_}
 use lib.Dec.{T}
 use lib.Ieee.{Float}
 use lib.Ieee.Fits.{and-i}
@@ -24,8 +22,7 @@ use Rattle.cells.specs.Numbers.{cell-ext}
 use Rattle.objects.specs.declared.State.the-variants.{NewPos, Relocate}
 use Rattle.objects.specs.Decide.{d-cell}
 use Rattle.objects.specs.States.{aimed}
-use Rattle.objects.specs.Columns.{recordOf}
-use Rattle.objects.specs.Occupied.{InDomain, Agrees, InCell}
+use Rattle.objects.specs.Occupied.{InDomain}
 
 -- a signed number that was read is what it was
 pub back : {z : ℤ} → mag z < 2 ^ hbits w32 → toZ w32 (ofZ w32 z) ≡ z
@@ -63,17 +60,3 @@ module _ (size : ℕ) (c : Cell) (p : Position) where
 
       no : InDomain p × (cellAt size p ≡ c) → On (c .x) (p .x) × On (c .y) (p .y)
       no (d, e) = let (u, v) = position-parts p d in ((u, ap (λ (k : Cell). k .x) e), (v, ap (λ (k : Cell). k .y) e))
-
--- ---- rows of a slot
-module _ (size : ℕ) (c : Cell) (n : List ℕ) (q : List Float) (z : List ℤ) where
-  abbrev at : Position
-  at = recordOf n q z .position
-
-  abbrev Pending : Cell → Type 0
-  Pending d = (getD n 3 0 ≤ 3) × Agrees size d (recordOf n q z .state)
-
-  pub in-cell-says : (b : Bool) → recordOf n q z .cell ≡ c → InDomain at × (cellAt size at ≡ c) → Says b (Pending c) → Says b (InCell size c n q z)
-  in-cell-says b e w =
-      says-via
-      (λ v. record { tagged = v .0; is-cell = e; occupied = record { in-domain = w .0; in-cell = w .1 ∙ sym e; agrees = subst (λ (d : Cell). Agrees size d (recordOf n q z .state)) (sym e) (v .1) } })
-      (λ h. (h .tagged, subst (λ (d : Cell). Agrees size d (recordOf n q z .state)) e (h .occupied .agrees)))

@@ -22,6 +22,10 @@ pickState false a b = b
 abbrev pub stateOf : ℕ → Position → Cell → State
 stateOf tag p c = pickState (eqb tag 0) Unchanged (pickState (eqb tag 1) (NewPos p) (pickState (eqb tag 2) (Relocate p c) Removed))
 
+-- the state that a tag says of rows q and z
+abbrev pub pendingIn : ℕ → List Float → List ℤ → State
+pendingIn tag q z = stateOf tag (record { x = getD q 2 nan; y = getD q 3 nan }) (record { x = getD z 2 (pos 0); y = getD z 3 (pos 0) })
+
 -- the record whose rows are n, q and z
 abbrev pub recordOf : List ℕ → List Float → List ℤ → Record
 recordOf n q z =
@@ -31,7 +35,7 @@ recordOf n q z =
       obj = getD n 2 0;
       position = record { x = getD q 0 nan; y = getD q 1 nan };
       cell = record { x = getD z 0 (pos 0); y = getD z 1 (pos 0) };
-      state = stateOf (getD n 3 0) (record { x = getD q 2 nan; y = getD q 3 nan }) (record { x = getD z 2 (pos 0); y = getD z 3 (pos 0) });
+      state = pendingIn (getD n 3 0) q z;
     }
 
 -- the record at index i of the columns

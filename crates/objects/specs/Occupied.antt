@@ -1,12 +1,11 @@
 -- What an occupied record is to be: its numbers are in the domain, its cell is that of its position, and what is pending agrees with the
 -- cell rule. Assumes nothing.
-use Prim.Native.Nat.{ℕ, _≤_}
+use Prim.Native.Nat.{ℕ}
 use mathlib.Core.Path.{_≡_}
-use mathlib.Core.List.{List}
+use mathlib.Core.List.{List, []}
 use lib.Dec.{T}
 use lib.IntN.{ℤ}
 use lib.Ieee.{Float}
-use lib.ListN.{getD}
 use Rattle.geometry.specs.Domain.{positionInDomain}
 use Rattle.geometry.specs.declared.Position.{Position}
 use Rattle.cells.specs.declared.Cell.{Cell}
@@ -31,8 +30,8 @@ pub record Occupied (size : ℕ) (r : Record) : Type 0 where
   pub in-cell : cellAt size (r .position) ≡ r .cell
   pub agrees : Agrees size (r .cell) (r .state)
 
--- the rows of a slot make a record that holds, of an object of cell c, and the tag is one of four
-pub record InCell (size : ℕ) (c : Cell) (n : List ℕ) (q : List Float) (z : List ℤ) : Type 0 where
-  pub tagged : getD n 3 0 ≤ 3
-  pub is-cell : recordOf n q z .cell ≡ c
-  pub occupied : Occupied size (recordOf n q z)
+-- the rows of a slot are those of an object of cell c, at a position of the cell: the numbers do not matter to that
+pub record InCell (size : ℕ) (c : Cell) (q : List Float) (z : List ℤ) : Type 0 where
+  pub is-cell : recordOf [] q z .cell ≡ c
+  pub in-domain : InDomain (recordOf [] q z .position)
+  pub in-cell : cellAt size (recordOf [] q z .position) ≡ c

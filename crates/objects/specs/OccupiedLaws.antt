@@ -1,6 +1,10 @@
 -- What `set_position` makes pending agrees with the cell rule. Assumes nothing.
 use Prim.Native.Nat.{ℕ}
-use mathlib.Core.Path.{_≡_, refl}
+use mathlib.Core.Path.{_≡_, refl, sym, _∙_, subst}
+use mathlib.Core.List.{List}
+use lib.IntN.{ℤ}
+use lib.Ieee.{Float}
+use lib.ListN.{getD}
 use mathlib.Core.Logic.{inl, inr}
 use Rattle.basics.specs.Says.{Decided, said}
 use Rattle.basics.specs.Refusals.{pick}
@@ -8,7 +12,8 @@ use Rattle.geometry.specs.declared.Position.{Position}
 use Rattle.cells.specs.declared.Cell.{Cell}
 use Rattle.cells.specs.CellRule.{cellAt}
 use Rattle.objects.specs.declared.State.the-variants.{NewPos, Relocate}
-use Rattle.objects.specs.Occupied.{InDomain, Agrees}
+use Rattle.objects.specs.Columns.{pendingIn, recordOf}
+use Rattle.objects.specs.Occupied.{InDomain, Agrees, Occupied, InCell}
 use Rattle.objects.specs.Decide.{d-cell}
 use Rattle.objects.specs.States.{aimed}
 
@@ -19,3 +24,11 @@ pick-agrees size c p d (inr n) = (d, refl, n)
 pub aimed-agrees : (size : ℕ) (c : Cell) (p : Position) → InDomain p → Agrees size c (aimed size c p)
 unfolding aimed
 aimed-agrees size c p d = pick-agrees size c p d (d-cell (cellAt size p) c)
+
+-- ---- a record holds by its parts: the object is of cell c, its position is of the cell, and what is pending agrees
+module _ (size : ℕ) (c : Cell) (n : List ℕ) (q : List Float) (z : List ℤ) where
+  pub to-occupied : InCell size c q z → Agrees size c (pendingIn (getD n 3 0) q z) → Occupied size (recordOf n q z)
+  to-occupied h a = record { in-domain = h .in-domain; in-cell = h .in-cell ∙ sym (h .is-cell); agrees = subst (λ (d : Cell). Agrees size d (pendingIn (getD n 3 0) q z)) (sym (h .is-cell)) a }
+
+  pub of-occupied : recordOf n q z .cell ≡ c → Occupied size (recordOf n q z) → InCell size c q z × Agrees size c (pendingIn (getD n 3 0) q z)
+  of-occupied e o = (record { is-cell = e; in-domain = o .in-domain; in-cell = o .in-cell ∙ e }, subst (λ (d : Cell). Agrees size d (pendingIn (getD n 3 0) q z)) e (o .agrees))

@@ -9,7 +9,7 @@ ghost use Rattle.cells.specs.Span.{Spans};
 ghost use Rattle.cells.specs.Key.{keyOf};
 ghost use Rattle.objects.specs.Occupied.{InDomain, Agrees, InCell};
 ghost use Rattle.objects.specs.States.{isRemoved, aimed, withState};
-ghost use Rattle.objects.specs.Columns.{tagOf, pendingOf, targetOf, stateOf, recordAt, numsOf, realsOf, intsOf};
+ghost use Rattle.objects.specs.Columns.{tagOf, pendingOf, targetOf, stateOf, recordAt, numsOf, realsOf, intsOf, pendingIn};
 use cells::Cell;
 use cells::Span;
 use geometry::Position;
@@ -156,14 +156,22 @@ fn inside(size: u64, c: Cell, x: Span, y: Span, p: Position) -> bool
     cells::in_span(x, p.x) & cells::in_span(y, p.y)
 }
 
-// Whether the tag is one of four, and what is pending for an object of cell c agrees with the cell rule.
-fn pending_ok(size: u64, c: Cell, x: Span, y: Span, tag: u32, p: Position, to: Cell) -> bool
-    requires { ⌜ SizeInDomain size × Spans size (c .x) (x .lo) (x .hi) × Spans size (c .y) (y .lo) (y .hi) ⌝ }
+// Whether rows are those of an object of cell c, which has these spans, at a position of the cell.
+pub fn in_cell(size: u64, c: Cell, x: Span, y: Span, q: [f32; 4], z: [i32; 4]) -> bool
+    requires { ⌜ Spans size (c .x) (x .lo) (x .hi) × Spans size (c .y) (y .lo) (y .hi) ⌝ }
+    ensures { λ b. ⌜ Says b (InCell size c q z) ⌝ }
+{
+    if !cells::same_cell(Cell { x: z[0], y: z[1] }, c) {
+        return false;
+    }
+    inside(size, c, x, y, Position { x: q[0], y: q[1] })
+}
+
+// Whether what is pending, by a tag that is not 0, agrees with the cell rule for an object of cell c.
+fn agrees(size: u64, c: Cell, x: Span, y: Span, tag: u32, p: Position, to: Cell) -> bool
+    requires { ⌜ SizeInDomain size × Spans size (c .x) (x .lo) (x .hi) × Spans size (c .y) (y .lo) (y .hi) × (tag ≡ 0 → ⊥) ⌝ }
     ensures { λ b. ⌜ Says b ((tag ≤ 3) × Agrees size c (stateOf tag p to)) ⌝ }
 {
-    if tag == 0 {
-        return true;
-    }
     if tag == 1 {
         return inside(size, c, x, y, p);
     }
@@ -173,23 +181,16 @@ fn pending_ok(size: u64, c: Cell, x: Span, y: Span, tag: u32, p: Position, to: C
     tag == 3
 }
 
-// Whether the rows of an occupied slot hold, and are those of an object of cell c, which has these spans.
-pub fn rows_ok(size: u64, c: Cell, x: Span, y: Span, n: [u32; 4], q: [f32; 4], z: [i32; 4]) -> bool
-    requires { ⌜ SizeInDomain size × Spans size (c .x) (x .lo) (x .hi) × Spans size (c .y) (y .lo) (y .hi) ⌝ }
-    ensures { λ b. ⌜ Says b (InCell size c n q z) ⌝ }
+pub fn pending_ok(size: u64, c: Cell, x: Span, y: Span, tag: u32, q: [f32; 4], z: [i32; 4]) -> bool
+    requires { ⌜ SizeInDomain size × Spans size (c .x) (x .lo) (x .hi) × Spans size (c .y) (y .lo) (y .hi) × (tag ≡ 0 → ⊥) ⌝ }
+    ensures { λ b. ⌜ Says b ((tag ≤ 3) × Agrees size c (pendingIn tag q z)) ⌝ }
 {
-    if !cells::same_cell(Cell { x: z[0], y: z[1] }, c) {
-        return false;
-    }
-    if !inside(size, c, x, y, Position { x: q[0], y: q[1] }) {
-        return false;
-    }
-    pending_ok(
+    agrees(
         size,
         c,
         x,
         y,
-        n[3],
+        tag,
         Position { x: q[2], y: q[3] },
         Cell { x: z[2], y: z[3] },
     )

@@ -12,16 +12,6 @@ use cells::Cell;
 use cells::Span;
 use geometry::Position;
 
-// A pending object stands in a cell that is marked dirty.
-fn dirty_ok(tag: u32, mark: u64) -> bool
-    ensures { λ b. ⌜ Says b ((tag ≡ 0 → ⊥) → mark ≡ 1) ⌝ }
-{
-    if tag == 0 {
-        return true;
-    }
-    mark == 1
-}
-
 // Whether an entry of this position is that of slot s, and the slot's record holds, in the list of cell c with this mark.
 fn entry_ok(
     nums: &[[u32; 4]],
@@ -48,15 +38,22 @@ fn entry_ok(
     if n[0] == 0 {
         return false;
     }
-    if !dirty_ok(n[3], mark) {
-        return false;
-    }
     let q = reals[s];
     if !geometry::same_position(p, Position { x: q[0], y: q[1] }) {
         return false;
     }
     let z = ints[s];
-    objects::rows_ok(size, c, x, y, n, q, z)
+    if !objects::in_cell(size, c, x, y, q, z) {
+        return false;
+    }
+    let tag = n[3];
+    if tag == 0 {
+        return true;
+    }
+    if mark != 1 {
+        return false;
+    }
+    objects::pending_ok(size, c, x, y, tag, q, z)
 }
 
 // The end of the run of entries from entry `from` on that are right in the list of this key and mark; the marks are set for the slots that they name.

@@ -1,39 +1,23 @@
--- `objects::pending_ok` meets its contract: by the tag, which is a number wherever the state is looked at. Assumes nothing.
-use Prim.Native.Nat.{ℕ, _≤_}
-use mathlib.Core.Path.{_≡_, sym, subst}
-use mathlib.Core.Bool.{Bool}
-use native.Mathlib.Omega.{arith}
-use borrow.Author.Tests.{eqb-true, eq-eqb}
+-- `objects::pending_ok` meets its contract. Assumes nothing.
+use Prim.Native.Nat.{_≤_}
+use mathlib.Core.Path.{subst}
+use lib.Ieee.{nan}
+use lib.ListN.{getD}
 use borrow.Author.Needs.{needs}
-use Rattle.basics.specs.Says.{Says, says-yes, says-via}
+use Rattle.basics.specs.Says.{Says}
+use Rattle.cells.specs.declared.Cell.{Cell}
+use Rattle.cells.specs.Numbers.{cell-ext}
 use Rattle.objects.specs.Columns.{stateOf}
 use Rattle.objects.specs.Occupied.{Agrees}
+use Rattle.objects.proofs.Laws.{back}
 use Rattle.objects.proofs.pending_ok.Statement.{statement}
 use Rattle.objects.proofs.pending_ok.Tie as tie
 
--- what is asked, of a tag in the tag's place
-abbrev Asked : tie.Start → ℕ → Type 0
-Asked s t = (t ≤ 3) × Agrees (s .args .size) (s .args .c) (stateOf t (s .args .p) (s .args .to))
-
-at : (s : tie.Start) (b : Bool) (t : ℕ) → s .args .tag ≡ t → Says b (Asked s t) → Says b (Asked s (s .args .tag))
-at s b t e = subst (λ (k : ℕ). Says b (Asked s k)) (sym e)
-
 returns : tie.Need-returns
-returns c = at (c .before) _ 0 (c .if1 .taken) (says-yes (omega arith, tt))
-
-returns-2 : tie.Need-returns-2
-returns-2 c = at (c .before .before .before) _ 1 (c .before .if2 .taken) (says-via (λ w. (omega arith, w)) (λ w. w .1) (c .inside .ensures))
-
-returns-3 : tie.Need-returns-3
-returns-3 c = at (c .before .before .before .before) _ 2 (c .before .if3 .taken) (says-via (λ w. (omega arith, w)) (λ w. w .1) (c .relocated .ensures))
-
-returns-4 : tie.Need-returns-4
-returns-4 c =
-    let s = c .before .before .before in
-    record {
-      yes = λ e. subst (Asked s) (sym (eqb-true _ _ e)) (omega arith, tt);
-      no = λ w. eq-eqb (s .args .tag) 3 (omega (arith, w .0, c .if3 .left, c .before .if2 .left, c .before .before .if1 .left));
-    }
+returns c =
+    let t = c .before .before in
+    let a = t .before .args in
+    subst (λ (to : Cell). Says (c .agrees .result) ((a .tag ≤ 3) × Agrees (a .size) (a .c) (stateOf (a .tag) (record { x = getD (a .t6) 2 nan; y = getD (a .t6) 3 nan }) to))) (cell-ext (back (t .t19 .given)) (back (c .before .t22 .given))) (c .agrees .ensures)
 
 pub pending-ok-spec : {M : Type 1} → statement M
-pending-ok-spec = tie.close (tie.spec returns (λ c κs. search needs) returns-2 (λ c κs. search needs) returns-3 returns-4)
+pending-ok-spec = tie.close (tie.spec (λ c. search needs) (λ c. search needs) (λ c. search needs) (λ c. search needs) (λ c κs. search needs) returns)

@@ -1,9 +1,16 @@
 -- `pool_pass::entry_ok` meets its contract: each test says one part of what is asked. Assumes nothing.
-use mathlib.Core.Path.{sym, _∙_}
+use Prim.Native.Nat.{ℕ, _≤_}
+use mathlib.Core.Path.{_≡_, sym, _∙_, subst}
+use mathlib.Core.List.{[]}
 use native.Mathlib.Omega.{arith}
+use lib.ListN.{getD}
 use borrow.Author.Tests.{not-true, not-false}
 use borrow.Author.Needs.{needs}
-use Rattle.basics.specs.Says.{says-no, apart}
+use Rattle.basics.specs.Says.{says-yes, says-no, apart}
+use Rattle.objects.specs.Columns.{pendingIn}
+use Rattle.objects.specs.Occupied.{Agrees, InCell}
+use Rattle.objects.specs.OccupiedLaws.{to-occupied, of-occupied}
+use Rattle.pool_pass.specs.Pass.{tagAt, Right}
 use Rattle.pool_pass.proofs.entry_ok.Statement.{statement}
 use Rattle.pool_pass.proofs.entry_ok.Tie as tie
 
@@ -17,32 +24,53 @@ returns-3 : tie.Need-returns-3
 returns-3 c = says-no (λ h. h .whole .versioned (c .if3 .taken))
 
 returns-4 : tie.Need-returns-4
-returns-4 c = says-no (λ h. apart (sym (not-true _ (c .if4 .taken)) ∙ c .before .dirty-ok .ensures .no (h .marked)))
+returns-4 c = says-no (λ h. apart (sym (not-true _ (c .if4 .taken)) ∙ c .before .same-position .ensures .no (h .at, h .number-x, h .number-y)))
+
+abbrev start : tie.Else5 → tie.Start
+start c = c .before .before .before .before .before .before .before .before .before .before
+
+abbrev Rightly : tie.Start → Type 0
+Rightly s = let a = s .args in Right (a .nums .now) (a .reals .now) (a .ints .now) (a .size) (a .c) (a .mark) (a .s) (a .p)
+
+-- the state that the rows of the slot say
+abbrev Agreeing : tie.Start → ℕ → Type 0
+Agreeing s t = let a = s .args in Agrees (a .size) (a .c) (pendingIn t (getD (a .reals .now) (a .s) []) (getD (a .ints .now) (a .s) []))
+
+parts : (s : tie.Start) → let a = s .args in Rightly s → InCell (a .size) (a .c) (getD (a .reals .now) (a .s) []) (getD (a .ints .now) (a .s) []) × Agreeing s (tagAt (a .nums .now) (a .s))
+parts s h = let a = s .args in of-occupied (a .size) (a .c) (getD (a .nums .now) (a .s) []) (getD (a .reals .now) (a .s) []) (getD (a .ints .now) (a .s) []) (h .is-cell) (h .whole .occupied)
 
 returns-5 : tie.Need-returns-5
-returns-5 c = says-no (λ h. apart (sym (not-true _ (c .if5 .taken)) ∙ c .before .same-position .ensures .no (h .at, h .number-x, h .number-y)))
+returns-5 c = let s = c .before .before .before .before .before .before .before .before .before .before in says-no (λ h. apart (sym (not-true _ (c .if5 .taken)) ∙ c .before .in-cell .ensures .no (parts s h .0)))
+
+-- past the tests of the slot, what is left is what is pending
+built : (c : tie.Else5) → let a = start c .args in let t = tagAt (a .nums .now) (a .s) in t ≤ 3 → ((t ≡ 0 → ⊥) → a .mark ≡ 1) → Agreeing (start c) t → Rightly (start c)
+built c l m g =
+    let a = start c .args in
+    let d = c .before .before .before in
+    let e = d .before .before .before in
+    let v = d .before .same-position .ensures .yes (not-false _ (d .if4 .left)) in
+    let o = c .before .in-cell .ensures .yes (not-false _ (c .if5 .left)) in
+    record {
+      inside = e .before .before .before .if1 .left;
+      occupied = e .before .if2 .left;
+      is-cell = o .is-cell;
+      at = v .0;
+      number-x = v .1;
+      number-y = v .2;
+      whole = record { versioned = e .if3 .left; tagged = l; occupied = to-occupied (a .size) (a .c) (getD (a .nums .now) (a .s) []) (getD (a .reals .now) (a .s) []) (getD (a .ints .now) (a .s) []) o g };
+      marked = m;
+    }
 
 returns-6 : tie.Need-returns-6
-returns-6 c =
-    let w = c .before .before in
-    let d = w .before .before .before in
-    let e = d .before .before in
-    let v = w .before .same-position .ensures .yes (not-false _ (w .if5 .left)) in
-    record {
-      yes = λ t.
-          let o = c .rows-ok .ensures .yes t in
-          record {
-            inside = e .before .before .before .if1 .left;
-            occupied = e .before .if2 .left;
-            is-cell = o .is-cell;
-            at = v .0;
-            number-x = v .1;
-            number-y = v .2;
-            whole = record { versioned = e .if3 .left; tagged = o .tagged; occupied = o .occupied };
-            marked = d .before .dirty-ok .ensures .yes (not-false _ (d .if4 .left));
-          };
-      no = λ h. c .rows-ok .ensures .no (record { tagged = h .whole .tagged; is-cell = h .is-cell; occupied = h .whole .occupied });
-    }
+returns-6 c = let t = c .if6 .taken in says-yes (built (c .before) (omega (arith, t)) (λ n. absurd (n t)) (subst (Agreeing (start (c .before))) (sym t) tt))
+
+returns-7 : tie.Need-returns-7
+returns-7 c = says-no (λ h. c .if7 .taken (h .marked (c .before .if6 .left)))
+
+returns-8 : tie.Need-returns-8
+returns-8 c =
+    let d = c .before .before .before in
+    record { yes = λ e. let w = c .pending-ok .ensures .yes e in built d (w .0) (λ n. c .before .if7 .left) (w .1); no = λ h. c .pending-ok .ensures .no (h .whole .tagged, parts (start d) h .1) }
 
 pub entry-ok-spec : {M : Type 1} → statement M
 entry-ok-spec =
@@ -56,15 +84,17 @@ entry-ok-spec =
     (λ c. search needs)
     returns-3
     (λ c. search needs)
+    (λ c. search needs)
+    (λ c. search needs)
+    (λ c. search needs)
     (λ c κs. search needs)
     returns-4
-    (λ c. search needs)
-    (λ c. search needs)
     (λ c. search needs)
     (λ c. search needs)
     (λ c κs. search needs)
     returns-5
     (λ c. search needs)
-    (λ c. search needs)
+    returns-6
+    returns-7
     (λ c κs. search needs)
-    returns-6)
+    returns-8)

@@ -1,0 +1,36 @@
+-- `objects::agrees` meets its contract: by the tag, which is a number wherever the state is looked at. Assumes nothing.
+use Prim.Native.Nat.{ℕ, _≤_}
+use mathlib.Core.Path.{_≡_, sym, subst}
+use mathlib.Core.Bool.{Bool}
+use native.Mathlib.Omega.{arith}
+use borrow.Author.Tests.{eqb-true, eq-eqb}
+use borrow.Author.Needs.{needs}
+use Rattle.basics.specs.Says.{Says, says-via}
+use Rattle.objects.specs.Columns.{stateOf}
+use Rattle.objects.specs.Occupied.{Agrees}
+use Rattle.objects.proofs.agrees.Statement.{statement}
+use Rattle.objects.proofs.agrees.Tie as tie
+
+-- what is asked, of a tag in the tag's place
+abbrev Asked : tie.Start → ℕ → Type 0
+Asked s t = (t ≤ 3) × Agrees (s .args .size) (s .args .c) (stateOf t (s .args .p) (s .args .to))
+
+at : (s : tie.Start) (b : Bool) (t : ℕ) → s .args .tag ≡ t → Says b (Asked s t) → Says b (Asked s (s .args .tag))
+at s b t e = subst (λ (k : ℕ). Says b (Asked s k)) (sym e)
+
+returns : tie.Need-returns
+returns c = at (c .before .before) _ 1 (c .before .if1 .taken) (says-via (λ w. (omega arith, w)) (λ w. w .1) (c .inside .ensures))
+
+returns-2 : tie.Need-returns-2
+returns-2 c = at (c .before .before .before) _ 2 (c .before .if2 .taken) (says-via (λ w. (omega arith, w)) (λ w. w .1) (c .relocated .ensures))
+
+returns-3 : tie.Need-returns-3
+returns-3 c =
+    let s = c .before .before in
+    record {
+      yes = λ e. subst (Asked s) (sym (eqb-true _ _ e)) (omega arith, tt);
+      no = λ w. eq-eqb (s .args .tag) 3 (omega (arith, w .0, c .if2 .left, c .before .if1 .left, s .pre .3));
+    }
+
+pub agrees-spec : {M : Type 1} → statement M
+agrees-spec = tie.close (tie.spec (λ c κs. search needs) returns (λ c κs. search needs) returns-2 returns-3)
