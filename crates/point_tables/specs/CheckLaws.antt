@@ -14,7 +14,8 @@ use Rattle.geometry.specs.Domain.{inDomain}
 use Rattle.geometry.specs.DomainLaws.{domain-finite, position-parts}
 use Rattle.cells.specs.declared.Cell.{Cell}
 use Rattle.cells.specs.Key.{keyOf}
-use Rattle.slots.specs.Slot.{live, phaseAt}
+use Rattle.basics.specs.Counting.{named-count}
+use Rattle.slots.specs.Slot.{live, versionAt, phaseAt}
 use Rattle.storage.specs.Packed.{first, second}
 use Rattle.objects.specs.declared.State.the-variants.{Unchanged, NewPos, Relocate, Removed}
 use Rattle.objects.specs.Columns.{tagOf, stateOf, pickState}
@@ -22,7 +23,7 @@ use Rattle.pool_pass.specs.Pass as Pass
 use Rattle.pool_pass.specs.Pass.{Fits, spotAt, tagAt, Passes, Named}
 use Rattle.point_tables.specs.Tables.{Tables, sizeOf, usedOf, rowsOf, slotsOf, recordOn, Sized}
 use Rattle.point_tables.specs.Holds.{Counted, RecordHolds, EntryHolds, ListsHold, Pending, Holds}
-use Rattle.point_tables.specs.Check.{Counts, SlotsOk, Room}
+use Rattle.point_tables.specs.Check.{Counts, SlotsOk, Room, Listed}
 
 -- ---- a tag of 0 is that of a state that is unchanged, and no other is
 tag-pick : (b c d : Bool) (p : Position) (q : Cell) → tagOf (pickState b Unchanged (pickState c (NewPos p) (pickState d (Relocate p q) Removed))) ≡ 0 → b ≡ true
@@ -61,6 +62,16 @@ module _ (t : Tables) where
 
     pub slot-room : Room (t .nums) (t .map)
     slot-room = record { most = s .most; of-map = s .of-map }
+
+  -- ---- the marked slots, once the pool is passed
+  pub listed : CountsOf → (marks : List Bool) → PassesOf → Named (t .pool) marks (usedOf t) → Listed (t .nums) marks (usedOf t)
+  listed c marks p n =
+      record {
+        count = named-count (usedOf t) (λ s. getD marks s false) (slotsOf t) (second (t .pool)) (record { inside = λ j l. p .each j l .inside; passes = n .all; once = p .once; every = λ s l e. n .only s e });
+        most = c .used-most;
+        occupied = λ s e. let i = n .only s e in subst (λ (k : ℕ). phaseAt (t .nums) k ≡ live) (i .2) (p .each (i .0) (i .1) .occupied);
+        versioned = λ s e. let i = n .only s e in subst (λ (k : ℕ). versionAt (t .nums) k ≡ 0 → ⊥) (i .2) (p .whole (i .0) (i .1) .versioned);
+      }
 
   -- ---- from the parts to the whole
   module _ (s : Sized t) (c : CountsOf) (marks : List Bool) (p : PassesOf) (n : Named (t .pool) marks (usedOf t)) (o : SlotsOf marks) where

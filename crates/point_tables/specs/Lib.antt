@@ -3,6 +3,7 @@ pub mod Tables
 pub mod Holds
 pub mod Decide
 pub mod Check
+pub mod CoverLaws
 pub mod CheckLaws
 pub mod HoldsLaws
 pub mod Outcome

@@ -4,9 +4,10 @@ ghost use mathlib.Core.Bool.{true, false};
 ghost use Prim.Native.Nat.{ℕ, _+_, _/_, _≤_, _<_};
 ghost use lib.ListN.{length, getD};
 ghost use Rattle.basics.specs.Says.{Says};
+ghost use Rattle.slots.specs.Map.{usable};
 ghost use Rattle.point_tables.specs.Tables.{tables, Lengths};
 ghost use Rattle.point_tables.specs.Decide.{holds};
-ghost use Rattle.point_tables.specs.Check.{Counts, SlotOk, SlotsOk, Room};
+ghost use Rattle.point_tables.specs.Check.{Counts, SlotOk, EachOk, SlotsOk, Room, FreeAt, Listed};
 
 // Whether the tables have the lengths of n slots.
 pub fn lengths_ok(
@@ -73,10 +74,10 @@ fn slot_ok(nums: &[[u32; 4]], map: &[u64], s: usize, listed: bool) -> bool
     listed
 }
 
-// Whether every slot holds, and every occupied one is marked as named by an entry.
-fn slots_ok(nums: &[[u32; 4]], map: &[u64], marks: &[bool; 4096]) -> bool
+// Whether each slot holds, and each occupied one is marked as named by an entry.
+fn each_ok(nums: &[[u32; 4]], map: &[u64], marks: &[bool; 4096]) -> bool
     requires { ⌜ Room (now nums) (now map) ⌝ }
-    ensures { λ b. ⌜ Says b (SlotsOk (now (nums .entry)) (now (map .entry)) (now (marks .entry))) ⌝ }
+    ensures { λ b. ⌜ Says b (EachOk (now (nums .entry)) (now (map .entry)) (now (marks .entry))) ⌝ }
 {
     let mut i = 0;
     while i < nums.len() {
@@ -86,7 +87,63 @@ fn slots_ok(nums: &[[u32; 4]], map: &[u64], marks: &[bool; 4096]) -> bool
         }
         i += 1;
     }
-    slots::past_ok(map, nums.len())
+    true
+}
+
+// Whether slot s is free, if the map has it.
+fn free_at(nums: &[[u32; 4]], map: &[u64], s: usize) -> bool
+    requires { ⌜ (s < length (now nums)) × (3 + s / 64 < length (now map)) ⌝ }
+    ensures { λ b. ⌜ Says b (FreeAt (now (nums .entry)) (now (map .entry)) s) ⌝ }
+{
+    if !slots::is_usable(map, s) {
+        return true;
+    }
+    let n = nums[s];
+    if n[0] == 0 {
+        return false;
+    }
+    n[1] == 0
+}
+
+// The next slot that the map may have: a word with no bit is passed at once.
+fn next_after(map: &[u64], s: usize) -> usize
+    requires { ⌜ (s < 4096) × (3 + s / 64 < length (now map)) ⌝ }
+    ensures { λ r. ⌜ (s < r) × ((k : ℕ) → s < k → k < r → usable (now (map .entry)) k ≡ 0) ⌝ }
+{
+    if map[3 + s / 64] == 0 {
+        return s + 64 - s % 64;
+    }
+    s + 1
+}
+
+// Whether each slot that the map has is free.
+fn free_ok(nums: &[[u32; 4]], map: &[u64]) -> bool
+    requires { ⌜ Room (now nums) (now map) ⌝ }
+    ensures { λ b. ⌜ Says b ((s : ℕ) → s < length (now (nums .entry)) → FreeAt (now (nums .entry)) (now (map .entry)) s) ⌝ }
+{
+    let mut i = 0;
+    while i < nums.len() {
+        if !free_at(nums, map, i) {
+            return false;
+        }
+        i = next_after(map, i);
+    }
+    true
+}
+
+// Whether every slot holds, and every occupied one is marked; `used` slots are. Where these and the slots that the map has are all, it is enough that the latter are free.
+fn slots_ok(nums: &[[u32; 4]], map: &[u64], used: usize, marks: &[bool; 4096]) -> bool
+    requires { ⌜ Room (now nums) (now map) × Listed (now nums) (now marks) used ⌝ }
+    ensures { λ b. ⌜ Says b (SlotsOk (now (nums .entry)) (now (map .entry)) (now (marks .entry))) ⌝ }
+{
+    if !slots::past_ok(map, nums.len()) {
+        return false;
+    }
+    let free = slots::count_usable(map, nums.len());
+    if used + free == nums.len() {
+        return free_ok(nums, map);
+    }
+    each_ok(nums, map, marks)
 }
 
 // Whether the tables hold a grid.
@@ -133,5 +190,5 @@ pub fn check(
     ) {
         return false;
     }
-    slots_ok(nums, map, &marks)
+    slots_ok(nums, map, used, &marks)
 }

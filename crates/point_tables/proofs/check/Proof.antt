@@ -1,6 +1,6 @@
 -- `point_tables::check` meets its contract. Past each test stands what it says, and the parts make up the whole. Assumes nothing.
 use Prim.Native.Nat.{ℕ, _≤_}
-use mathlib.Core.Path.{_≡_, refl, sym, _∙_}
+use mathlib.Core.Path.{_≡_, refl, sym, _∙_, subst}
 use native.Mathlib.Omega.{arith}
 use lib.ListN.{length}
 use borrow.Author.Tests.{not-true, not-false}
@@ -8,8 +8,8 @@ use Rattle.basics.specs.Says.{says-no, apart}
 use Rattle.pool_pass.specs.Pass as Pass
 use Rattle.pool_pass.specs.Pass.{Passes}
 use Rattle.point_tables.specs.Tables.{Tables, tables, sizeOf, usedOf, rowsOf, slotsOf, Sized}
-use Rattle.point_tables.specs.Check.{Counts}
-use Rattle.point_tables.specs.CheckLaws.{CountsOf, PassesOf, pool-room, slot-room, whole, counts-of, passes-of, slots-of}
+use Rattle.point_tables.specs.Check.{Counts, Listed}
+use Rattle.point_tables.specs.CheckLaws.{CountsOf, PassesOf, pool-room, slot-room, listed, whole, counts-of, passes-of, slots-of}
 use Rattle.point_tables.proofs.Laws.{moved, named-all, said-holds}
 use borrow.Author.Needs.{needs}
 use Rattle.point_tables.proofs.check.Statement.{statement}
@@ -60,21 +60,28 @@ returns-3 c =
     said-holds t _ (says-no (λ h. apart (sym (not-true _ (c .if3 .taken)) ∙ c .before .pool-ok .ensures .0 .no
     (moved (Passes (t .nums) (t .reals) (t .ints) (t .pool) (t .spots) (t .cells) (sizeOf t)) (usedOf t) (rowsOf t) _ _ (sym (used-is d)) (sym (rows-is d)) (passes-of t h)))))
 
+-- past the pool's test, what it says of the tables and of the marks
+passes : (c : tie.Else3) → PassesOf (at-entry (c .before .before .before .before .before .before .before .before .before .before .before .before .before))
+passes c =
+    let d = c .before .before .before in
+    let t = at-entry (d .before .before .before .before .before .before .before .before .before .before) in
+    moved (Passes (t .nums) (t .reals) (t .ints) (t .pool) (t .spots) (t .cells) (sizeOf t)) _ _ (usedOf t) (rowsOf t) (used-is d) (rows-is d) (c .before .pool-ok .ensures .0 .yes (not-false _ (c .if3 .left)))
+
 slots-ok-requires : tie.Need-slots-ok-requires
 slots-ok-requires c κs =
-    let d = c .before .before .before .before in
+    let e = c .before in
+    let d = e .before .before .before in
     let t = at-entry (d .before .before .before .before .before .before .before .before .before .before) in
-    slot-room t (sized (d .before .before .before .before .before .before .before)) (counted d)
+    let n = named-all _ (usedOf t) (used-is d) (e .before .pool-ok .ensures .1 (not-false _ (e .if3 .left))) in
+    (slot-room t (sized (d .before .before .before .before .before .before .before)) (counted d), subst (Listed (t .nums) _) (sym (used-is d)) (listed t (counted d) _ (passes e) n))
 
 returns-4 : tie.Need-returns-4
 returns-4 c =
-    let p = c .before .before .before in
-    let d = p .before .before in
+    let e = c .before .before in
+    let d = e .before .before .before in
     let t = at-entry (d .before .before .before .before .before .before .before .before .before .before) in
-    let y = not-false _ (c .before .before .if3 .left) in
-    let v : PassesOf t = moved (Passes (t .nums) (t .reals) (t .ints) (t .pool) (t .spots) (t .cells) (sizeOf t)) _ _ (usedOf t) (rowsOf t) (used-is d) (rows-is d) (p .pool-ok .ensures .0 .yes y) in
-    let n = named-all _ (usedOf t) (used-is d) (p .pool-ok .ensures .1 y) in
-    said-holds t _ (record { yes = λ e. whole t (sized (d .before .before .before .before .before .before .before)) (counted d) _ v n (c .slots-ok .ensures .yes e); no = λ h. c .slots-ok .ensures .no (slots-of t h _ n) })
+    let n = named-all _ (usedOf t) (used-is d) (e .before .pool-ok .ensures .1 (not-false _ (e .if3 .left))) in
+    said-holds t _ (record { yes = λ y. whole t (sized (d .before .before .before .before .before .before .before)) (counted d) _ (passes e) n (c .slots-ok .ensures .yes y); no = λ h. c .slots-ok .ensures .no (slots-of t h _ n) })
 
 pub check-spec : {M : Type 1} → statement M
 check-spec =

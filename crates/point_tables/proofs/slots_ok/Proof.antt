@@ -1,54 +1,42 @@
--- `point_tables::slots_ok` meets its contract: every slot before i holds. The measure is what is left of the slots. Assumes nothing.
-use Prim.Native.Nat.{ℕ, _-_, _≤_, _<_}
-use mathlib.Core.Path.{sym, _∙_}
-use mathlib.Core.Bool.{false}
+-- `point_tables::slots_ok` meets its contract. Assumes nothing.
+use mathlib.Core.Path.{sym, ap, _∙_}
+use Prim.Native.Nat.{ℕ, _+_, _*_}
+use lib.ListN.{length}
 use native.Mathlib.Omega.{arith}
-use lib.ListN.{length, getD}
-use borrow.Author.Count.{below-none, below-more}
 use borrow.Author.Tests.{not-true, not-false}
-use Rattle.basics.specs.Says.{says-no, apart}
-use Rattle.point_tables.specs.Check.{SlotOk}
 use borrow.Author.Needs.{needs}
+use Rattle.basics.specs.Says.{says-no, apart}
+use Rattle.slots.specs.Map.{wordsFor, NonePast}
+use Rattle.slots.specs.CountLaws.{usable-most, usable-of-n}
+use Rattle.point_tables.specs.CoverLaws.{each-of, each-free}
 use Rattle.point_tables.proofs.slots_ok.Statement.{statement}
 use Rattle.point_tables.proofs.slots_ok.Tie as tie
 
-abbrev Inv-loop : tie.InvT-loop
-Inv-loop nums map marks i₀ i = (i ≤ length nums) × ((s : ℕ) → s < i → SlotOk nums map s (getD marks s false))
+returns : tie.Need-returns
+returns c = says-no (λ h. apart (sym (not-true _ (c .if1 .taken)) ∙ c .before .past-ok .ensures .no (h .past)))
 
-abbrev μ-loop : tie.MeasureT-loop
-μ-loop nums map marks i₀ i = length nums - i
+-- past the test of the last word
+past : (c : tie.Else1) → let a = c .before .before .before .args in NonePast (a .map .now) (length (a .nums .now))
+past c = c .before .past-ok .ensures .yes (not-false _ (c .if1 .left))
 
-slot-ok-requires : tie.Need-slot-ok-requires Inv-loop μ-loop
-slot-ok-requires c κs = let t = c .before .loop-test .taken in (t, omega (arith, t, c .before .before .before .before .pre .of-map))
+add-if2 : tie.Need-add-if2
+add-if2 c =
+    let s = c .before .before .before .before in
+    record { fits = omega (arith, s .pre .0 .most, s .pre .1 .most, c .count-usable .ensures, usable-most (s .args .map .now) (wordsFor (length (s .args .nums .now)) * 64)) }
 
-returns : tie.Need-returns Inv-loop μ-loop
-returns c =
-    let l = c .before .before .before in
-    says-no (λ h. apart (sym (not-true _ (c .if1 .taken)) ∙ c .before .slot-ok .ensures .no (h .each (l .before .loop .i) (l .loop-test .taken))))
-
-loop-again : tie.Need-loop-again Inv-loop μ-loop
-loop-again c = (omega arith, below-more _ _ (c .before .before .before .before .loop .inv .1) (c .before .slot-ok .ensures .yes (not-false _ (c .if1 .left))))
-
-returns-2 : tie.Need-returns-2 Inv-loop μ-loop
+returns-2 : tie.Need-returns-2
 returns-2 c =
-    let l = c .before in
+    let u = c .before .before in
+    let s = u .before .before .before .before in
+    let a = s .args in
+    let e = ap (λ (n : ℕ). a .used + n) (sym (u .count-usable .ensures ∙ usable-of-n (a .map .now) (length (a .nums .now)) (past (u .before)))) ∙ c .before .if2 .taken in
     record {
-      yes = λ e. record { each = λ s h. l .before .loop .inv .1 s (omega (arith, h, l .loop-test .left)); past = c .past-ok .ensures .yes e };
-      no = λ h. c .past-ok .ensures .no (h .past);
+      yes = λ y. record { each = each-of (a .nums .now) (a .map .now) (a .marks .now) (a .used) (s .pre .1) e (c .free-ok .ensures .yes y); past = past (u .before) };
+      no = λ h. c .free-ok .ensures .no (each-free (a .nums .now) (a .map .now) (a .marks .now) (h .each));
     }
 
+returns-3 : tie.Need-returns-3
+returns-3 c = record { yes = λ y. record { each = c .each-ok .ensures .yes y; past = past (c .before .before .before) }; no = λ h. c .each-ok .ensures .no (h .each) }
+
 pub slots-ok-spec : {M : Type 1} → statement M
-slots-ok-spec =
-    tie.close
-    (tie.spec
-    Inv-loop
-    μ-loop
-    (λ c. (omega arith, below-none _))
-    (λ c. omega (arith, c .loop-test .taken, c .before .before .before .pre .most))
-    slot-ok-requires
-    returns
-    (λ c. omega arith)
-    (λ c. omega arith)
-    loop-again
-    (λ c κs. c .before .before .before .pre .of-map)
-    returns-2)
+slots-ok-spec = tie.close (tie.spec (λ c κs. search needs) returns (λ c κs. search needs) add-if2 (λ c κs. search needs) returns-2 (λ c κs. search needs) returns-3)
