@@ -133,7 +133,7 @@ fn exactly(n: u64) -> f32
     requires { ⌜ n ≤ 16777216 ⌝ }
     ensures { λ r. ⌜ r ≡ ofInt binary32 (pos n) ⌝ }
 {
-    (n as u32) as f32
+    (n as i64) as f32
 }
 
 // Whether a coordinate of the domain stands in cell c, by comparison with the edges of the cell: nothing is divided.

@@ -6,6 +6,7 @@ ghost use Prim.Native.Nat.{ℕ, _≤_, _<_};
 ghost use lib.ListN.{length, getD, replicate};
 ghost use Rattle.basics.specs.Says.{Says};
 ghost use Rattle.cells.specs.Size.{SizeInDomain};
+ghost use Rattle.cells.specs.Key.{cellOfKey};
 ghost use Rattle.cells.specs.Span.{Spans};
 ghost use Rattle.pool_pass.specs.Pass.{Right, Run, Passes, Room, Named};
 use cells::Cell;
@@ -66,17 +67,18 @@ fn run_end(
     used: usize,
     size: u64,
     key: u64,
+    c: Cell,
+    y: Span,
     mark: u64,
     from: usize,
     marks: &mut [bool; 4096],
 ) -> usize
+    requires cell { ⌜ (c ≡ cellOfKey key) × Spans size (c .y) (y .lo) (y .hi) ⌝ }
     requires { ⌜ (length (now nums) ≤ 4096) × (length (now reals) ≡ length (now nums)) × (length (now ints) ≡ length (now nums)) × (used ≤ length (now pool)) × (used ≤ length (now spots)) × SizeInDomain size × (from ≤ used) × Named (now pool) (now marks) from × (length (now marks) ≡ 4096) ⌝ }
     ensures run { λ e. ⌜ Run (now (nums .entry)) (now (reals .entry)) (now (ints .entry)) (now (pool .entry)) (now (spots .entry)) size used key mark from e ⌝ }
     ensures named { λ e. ⌜ Named (now (pool .entry)) (now (marks .exit)) e × (length (now (marks .exit)) ≡ 4096) ⌝ }
 {
-    let c = cells::cell_of_key(key);
     let x = cells::span_of(size, c.x);
-    let y = cells::span_of(size, c.y);
     let mut j = from;
     while j < used {
         let e = pool[j];
@@ -108,6 +110,17 @@ fn run_end(
     j
 }
 
+// The span of the cells c, where s is that of the cells `line`: most rows of the cell table have the line of the row before.
+fn line_span(size: u64, s: Span, line: i32, c: i32) -> Span
+    requires { ⌜ SizeInDomain size × Spans size line (s .lo) (s .hi) ⌝ }
+    ensures { λ r. ⌜ Spans size c (r .lo) (r .hi) ⌝ }
+{
+    if line == c {
+        return s;
+    }
+    cells::span_of(size, c)
+}
+
 // Whether the pool and the cell table are right, and the record of each slot that an entry names; the marks are then set for these slots.
 pub fn pool_ok(
     nums: &[[u32; 4]],
@@ -126,6 +139,8 @@ pub fn pool_ok(
     ensures named { λ b. ⌜ (b ≡ true → Named (now (pool .entry)) (now (marks .exit)) used) ⌝ }
 {
     let mut last = 0;
+    let mut line = 0;
+    let mut y = cells::span_of(size, line);
     let mut r = 0;
     let mut j = 0;
     while r < rows {
@@ -136,6 +151,9 @@ pub fn pool_ok(
         if 1 < row[1] {
             return false;
         }
+        let c = cells::cell_of_key(row[0]);
+        y = line_span(size, y, line, c.y);
+        line = c.y;
         let e = run_end(
             nums,
             reals,
@@ -145,6 +163,8 @@ pub fn pool_ok(
             used,
             size,
             row[0],
+            c,
+            y,
             row[1],
             j,
             marks,

@@ -1,13 +1,32 @@
 -- `cells::exactly` meets its contract. Assumes nothing.
-use lib.Dec.{le→leb}
-use lib.Ieee.{inFloat}
+use Prim.Native.Nat.{ℕ, _≤_, _<_, _^_}
+use mathlib.Core.Path.{_≡_, sym, ap, subst}
+use native.Mathlib.Omega.{arith}
+use lib.Dec.{T, le→leb}
+use lib.IntN.{ℤ, pos}
+use lib.Ieee.{binary32, inFloat, ofInt}
+use mir.Syntax.{w64}
+use mir.Val.{toZ}
+use mir.ValLaws.{toZ-pos}
 use borrow.Author.Needs.{needs}
 use Rattle.cells.proofs.exactly.Statement.{statement}
 use Rattle.cells.proofs.exactly.Tie as tie
 
-int-to-float-result : tie.Need-int-to-float-result
+-- the number as a signed one
+signed : (n : ℕ) → n ≤ 16777216 → toZ w64 n ≡ pos n
+signed n h = toZ-pos w64 n (go h)
+  where
+    go : n ≤ 16777216 → n < 2 ^ 63
+    go h = omega arith
+
+held : (n : ℕ) → n ≤ 16777216 → T (inFloat binary32 (pos n))
 unfolding inFloat
-int-to-float-result c = le→leb _ _ (c .before .pre)
+held n h = le→leb n 16777216 h
 
 pub exactly-spec : {M : Type 1} → statement M
-exactly-spec = tie.close (tie.spec (λ c. search needs) int-to-float-result (λ c. search needs))
+exactly-spec =
+    tie.close
+    (tie.spec
+    (λ c. search needs)
+    (λ c. subst (λ (z : ℤ). T (inFloat binary32 z)) (sym (signed (c .before .args .n) (c .before .pre))) (held (c .before .args .n) (c .before .pre)))
+    (λ c. ap (ofInt binary32) (signed (c .before .args .n) (c .before .pre))))

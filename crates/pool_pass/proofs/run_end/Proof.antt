@@ -22,26 +22,23 @@ use Rattle.pool_pass.proofs.run_end.Statement.{statement}
 use Rattle.pool_pass.proofs.run_end.Tie as tie
 
 abbrev Inv-loop : tie.InvT-loop
-Inv-loop nums reals ints pool spots used size key mark from marks₀ c x y j₀ marks j = (from ≤ j) × (j ≤ used) × (length marks ≡ 4096) × ((i : ℕ) → from ≤ i → i < j → Here nums reals ints pool spots size key mark i) × Named pool marks j
+Inv-loop nums reals ints pool spots used size key c y mark from marks₀ x j₀ marks j = (from ≤ j) × (j ≤ used) × (length marks ≡ 4096) × ((i : ℕ) → from ≤ i → i < j → Here nums reals ints pool spots size key mark i) × Named pool marks j
 
 abbrev μ-loop : tie.MeasureT-loop
-μ-loop nums reals ints pool spots used size key mark from marks₀ c x y j₀ marks j = used - j
+μ-loop nums reals ints pool spots used size key c y mark from marks₀ x j₀ marks j = used - j
 
-abbrev start : tie.After-span-of2 Inv-loop μ-loop → tie.Start Inv-loop μ-loop
-start c = c .before .before .before .before .before
+abbrev start : tie.After-span-of Inv-loop μ-loop → tie.Start Inv-loop μ-loop
+start c = c .before .before
 
--- the spans are those of the cell of the key
-across : (c : tie.After-span-of2 Inv-loop μ-loop) → let d = c .before .before in Spans (start c .args .size) (d .before .before .cell-of-key .result .x) (d .span-of .result .lo) (d .span-of .result .hi)
-across c = let d = c .before .before in subst (λ (z : ℤ). Spans (start c .args .size) z (d .span-of .result .lo) (d .span-of .result .hi)) (back (d .before .struct-told .given .0 .1)) (d .span-of .ensures)
-
-upright : (c : tie.After-span-of2 Inv-loop μ-loop) → Spans (start c .args .size) (c .before .before .before .before .cell-of-key .result .y) (c .span-of2 .result .lo) (c .span-of2 .result .hi)
-upright c = subst (λ (z : ℤ). Spans (start c .args .size) z (c .span-of2 .result .lo) (c .span-of2 .result .hi)) (back (c .before .struct-told2 .given .1 .0 .1)) (c .span-of2 .ensures)
+-- the span is that of the cell
+across : (c : tie.After-span-of Inv-loop μ-loop) → Spans (start c .args .size) (start c .args .c .x) (c .span-of .result .lo) (c .span-of .result .hi)
+across c = subst (λ (z : ℤ). Spans (start c .args .size) z (c .span-of .result .lo) (c .span-of .result .hi)) (back (c .before .struct-told .given .0 .1)) (c .span-of .ensures)
 
 entry-ok-requires : tie.Need-entry-ok-requires Inv-loop μ-loop
 entry-ok-requires c κs =
     let d = c .before .before .before .before .before .before in
     let p = start d .pre in
-    (p .1, p .2, p .5, across d, upright d)
+    (p .1 .1, p .1 .2, p .1 .5, across d, p .0 .1)
 
 -- what the test of entry j says
 right-of : (c : tie.After-entry-ok Inv-loop μ-loop)
@@ -51,9 +48,8 @@ right-of : (c : tie.After-entry-ok Inv-loop μ-loop)
 right-of c =
     let l = c .before .before .before .before .before in
     let a = start (l .before .before) .args in
-    let k = l .before .before .before .before .before .before .cell-of-key in
     let R : Cell → ℕ → Type 0 = λ d s. Says (c .entry-ok .result) (Right (a .nums .now) (a .reals .now) (a .ints .now) (a .size) d (a .mark) s (spotAt (a .spots .now) (l .before .loop .j))) in
-    subst (R (cellOfKey (a .key))) (c .before .before .index-of .ensures) (subst (λ (d : Cell). R d (c .before .before .index-of .result)) (k .ensures) (c .entry-ok .ensures))
+    subst (R (cellOfKey (a .key))) (c .before .before .index-of .ensures) (subst (λ (d : Cell). R d (c .before .before .index-of .result)) (start (l .before .before) .pre .0 .0) (c .entry-ok .ensures))
 
 returns : tie.Need-returns Inv-loop μ-loop
 returns c = let l = c .before .before .before .loop in (record { up = l .inv .0; most = l .inv .1; each = l .inv .3; stop = λ h i. c .if1 .taken (i .is-key) }, (l .inv .4, l .inv .2))
@@ -73,7 +69,7 @@ entered c = right-of (c .before) .yes (not-false _ (c .if2 .left))
 slot-in : (c : tie.Else2 Inv-loop μ-loop) → c .before .before .before .index-of .result < 4096
 slot-in c =
     let l = c .before .before .before .before .before .before in
-    omega (arith, entered c .inside, c .before .before .before .index-of .ensures, start (l .before .before) .pre .0)
+    omega (arith, entered c .inside, c .before .before .before .index-of .ensures, start (l .before .before) .pre .1 .0)
 
 returns-3 : tie.Need-returns-3 Inv-loop μ-loop
 returns-3 c =
@@ -107,18 +103,16 @@ run-end-spec =
     (tie.spec
     Inv-loop
     μ-loop
-    (λ c κs. tt)
-    (λ c κs. c .before .before .pre .5)
-    (λ c κs. c .before .before .before .before .pre .5)
-    (λ c. let p = start c .pre in (omega arith, p .6, p .8, (λ i f h. absurd (omega arith)), p .7))
-    (λ c. omega (arith, c .loop-test .taken, start (c .before .before) .pre .3))
-    (λ c. omega (arith, c .loop-test .taken, start (c .before .before) .pre .3))
+    (λ c κs. c .before .pre .1 .5)
+    (λ c. let p = start c .pre .1 in (omega arith, p .6, p .8, (λ i f h. absurd (omega arith)), p .7))
+    (λ c. omega (arith, c .loop-test .taken, start (c .before .before) .pre .1 .3))
+    (λ c. omega (arith, c .loop-test .taken, start (c .before .before) .pre .1 .3))
     (λ c. omega arith)
     returns
     (λ c. omega arith)
     (λ c κs. tt)
-    (λ c. omega (arith, c .before .before .before .loop-test .taken, start (c .before .before .before .before .before) .pre .4))
-    (λ c. omega (arith, c .before .before .before .loop-test .taken, start (c .before .before .before .before .before) .pre .4))
+    (λ c. omega (arith, c .before .before .before .loop-test .taken, start (c .before .before .before .before .before) .pre .1 .4))
+    (λ c. omega (arith, c .before .before .before .loop-test .taken, start (c .before .before .before .before .before) .pre .1 .4))
     (λ c. omega arith)
     (λ c. omega arith)
     entry-ok-requires
