@@ -1,23 +1,29 @@
 -- A deferred call on tables that are known to hold a grid: what the working code does. `HeldLaws` shows that it is the call. The pool and
 -- its positions are neither read nor written, so that the tables may be without them. Assumes nothing.
 use Prim.Native.Nat.{ℕ}
+use mathlib.Core.Path.{_≡_}
 use mathlib.Core.Bool.{not}
 use mathlib.Core.List.{List, [], _∷_}
 use lib.Dec.{eqb}
 use denote.Ref.{RefT, now}
 use lib.IntN.{ℤ}
 use lib.Ieee.{Float}
+use lib.ListN.{set}
+use Rattle.basics.specs.Says.{said}
 use Rattle.basics.specs.Refusals.{unless, firstOf, pick}
 use Rattle.geometry.specs.Domain.{positionInDomain}
 use Rattle.geometry.specs.declared.Position.{Position}
+use Rattle.cells.specs.declared.Cell.{Cell}
 use Rattle.slots.specs.declared.Handle.{Handle}
 use Rattle.slots.specs.Slot.{good}
 use Rattle.objects.specs.declared.State.{State}
 use Rattle.objects.specs.declared.State.the-variants.{Removed}
 use Rattle.objects.specs.declared.Record.{Record}
-use Rattle.objects.specs.States.{isRemoved, aimed}
+use Rattle.objects.specs.Columns.{recordAt, numsOf, realsOf, intsOf}
+use Rattle.objects.specs.States.{isRemoved, aimed, withState}
+use Rattle.objects.specs.Decide.{d-cell}
 use Rattle.point_tables.specs.Tables.{Tables, tables, sizeOf, recordOn}
-use Rattle.point_tables.specs.Outcome.{Outcome, outcome}
+use Rattle.point_tables.specs.Outcome.{Outcome, outcome, stored}
 use Rattle.replies.specs.declared.Reply.{Reply}
 use Rattle.moves.specs.Moves.{pended}
 use Rattle.moves.specs.Batch.{Call}
@@ -62,6 +68,17 @@ nextState size r kind at = pick (eqb kind 0) (aimed size (r .cell) at) Removed
 abbrev pub returned : Record → ℕ → ℕ
 returned r kind = pick (eqb kind 0) 0 (r .obj)
 
+-- the tag of a new position: the target cell is the recorded one, or not
+abbrev pub tagTo : Cell → Cell → ℕ
+tagTo d c = pick (said (d-cell d c)) 1 2
+
+-- the columns with what a call makes pending for slot s, and what it returns
+pub record PendedRows (ns : List (List ℕ)) (qs : List (List Float)) (zs : List (List ℤ)) (size s kind : ℕ) (at : Position) (d : ℕ) (ns′ : List (List ℕ)) (qs′ : List (List Float)) (zs′ : List (List ℤ)) : Type 0 where
+  pub answer : d ≡ returned (recordAt ns qs zs s) kind
+  pub nums : ns′ ≡ set ns s (numsOf (withState (recordAt ns qs zs s) (nextState size (recordAt ns qs zs s) kind at)))
+  pub reals : qs′ ≡ set qs s (realsOf (withState (recordAt ns qs zs s) (nextState size (recordAt ns qs zs s) kind at)))
+  pub ints : zs′ ≡ set zs s (intsOf (withState (recordAt ns qs zs s) (nextState size (recordAt ns qs zs s) kind at)))
+
 -- ---- the work of a call for slot s: what is returned, and the tables after it
 unfoldable pub worked : Tables → ℕ → ℕ → Position → Outcome ℕ
 unfolding pended
@@ -85,3 +102,15 @@ unfoldable pub heldReplies : Tables → List Call → List Reply
 unfolding heldOf
 heldReplies t [] = []
 heldReplies t (c ∷ cs) = heldOf t c .result ∷ heldReplies (heldOf t c .after) cs
+
+-- ---- the same, but for the mark of the object's cell
+unfoldable pub pendedOnly : Tables → ℕ → State → Tables
+pendedOnly t s state = stored t s (withState (recordOn t s) state) (t .cells)
+
+unfoldable pub unmarkedOf : Tables → Call → Outcome Reply
+unfolding pendedOnly
+unmarkedOf t c =
+    let s = c .handle .slot in
+    pick (eqb (heldAnswer t c) 0)
+    (outcome (reply 0 (returned (recordOn t s) (c .kind))) (pendedOnly t s (nextState (sizeOf t) (recordOn t s) (c .kind) (c .at))))
+    (outcome (reply (heldAnswer t c) 0) t)

@@ -1,5 +1,7 @@
 // One deferred call on tables that hold a grid: kind 0 is `set_position`, any other `remove`. The pool is neither read nor written.
 ghost use mathlib.Core.Path.{_≡_};
+ghost use mathlib.Core.List.{[], _∷_};
+ghost use Prim.Native.Nat.{_<_};
 ghost use lib.ListN.{length};
 ghost use Rattle.cells.specs.Size.{SizeInDomain};
 ghost use Rattle.objects.specs.Columns.{recordAt};
@@ -7,10 +9,9 @@ ghost use Rattle.objects.specs.Occupied.{InDomain};
 ghost use Rattle.point_tables.specs.Outcome.{outcome};
 ghost use Rattle.moves.specs.Ready.{Ready, Workable};
 ghost use Rattle.moves.specs.Held as Held;
-ghost use Rattle.moves.specs.Held.{lentPoolless, setRefusal, removeRefusal, refusalOf, nextState, worked, heldOf};
+ghost use Rattle.moves.specs.Held.{poolless, lentPoolless, setRefusal, removeRefusal, refusalOf, tagTo, PendedRows, worked, heldOf, unmarkedOf};
+use cells::Cell;
 use geometry::Position;
-use objects::Record;
-use objects::State;
 use replies::Reply;
 use slots::Handle;
 
@@ -31,9 +32,8 @@ fn set_refusal(
         return 5;
     }
     let s = basics::wide(h.slot);
-    let r = objects::load(nums, reals, ints, s);
-    let state = r.state;
-    if objects::is_removed(state) {
+    let tag = nums[s][3];
+    if 2 < tag {
         return 1;
     }
     0
@@ -66,25 +66,43 @@ fn refusal(
     remove_refusal(nums, h)
 }
 
-// What becomes pending for an object.
-fn next_state(size: u64, r: Record, kind: u32, at: Position) -> State
-    requires { ⌜ SizeInDomain size × (kind ≡ 0 → InDomain at) ⌝ }
-    ensures { λ s. ⌜ s ≡ nextState size r kind at ⌝ }
+// The tag of what becomes pending for an object of cell c that moves to cell d.
+fn tag_to(d: Cell, c: Cell) -> u32
+    ensures { λ r. ⌜ r ≡ tagTo d c ⌝ }
 {
-    if kind != 0 {
-        return State::Removed;
+    if cells::same_cell(d, c) {
+        return 1;
     }
-    let c = r.cell;
-    objects::aim(size, c, at)
+    2
 }
 
-// What the call returns of an object: a removal its data.
-fn returned(r: Record, kind: u32) -> u32
-    ensures { λ d. ⌜ d ≡ Held.returned r kind ⌝ }
+// The object at slot s has something pending.
+fn pend(
+    nums: &mut [[u32; 4]],
+    reals: &mut [[f32; 4]],
+    ints: &mut [[i32; 4]],
+    size: u64,
+    s: usize,
+    kind: u32,
+    at: Position,
+) -> u32
+    requires { ⌜ (s < length (now nums)) × (s < length (now reals)) × (s < length (now ints)) × SizeInDomain size × (kind ≡ 0 → InDomain at) ⌝ }
+    ensures { λ r. ⌜ PendedRows (now (nums .entry)) (now (reals .entry)) (now (ints .entry)) size s kind at r (now (nums .exit)) (now (reals .exit)) (now (ints .exit)) ⌝ }
 {
+    let n = nums[s];
+    let q = reals[s];
+    let z = ints[s];
     if kind != 0 {
-        return r.obj;
+        nums[s] = [n[0], n[1], n[2], 3];
+        reals[s] = [q[0], q[1], q[0], q[1]];
+        ints[s] = [z[0], z[1], z[0], z[1]];
+        return n[2];
     }
+    let d = cells::cell_at(size, at);
+    let t = tag_to(d, Cell { x: z[0], y: z[1] });
+    nums[s] = [n[0], n[1], n[2], t];
+    reals[s] = [q[0], q[1], at.x, at.y];
+    ints[s] = [z[0], z[1], d.x, d.y];
     0
 }
 
@@ -102,14 +120,33 @@ fn work(
     requires { ⌜ Ready (lentPoolless nums reals ints map cells) × Workable (lentPoolless nums reals ints map cells) s kind at ⌝ }
     ensures { λ r. ⌜ outcome r (lentPoolless (nums .exit) (reals .exit) (ints .exit) (map .entry) (cells .exit)) ≡ worked (lentPoolless (nums .entry) (reals .entry) (ints .entry) (map .entry) (cells .entry)) s kind at ⌝ }
 {
-    let r = objects::load(nums, reals, ints, s);
-    let k = objects::key_of(r);
+    let z = ints[s];
+    let k = cells::key_of(Cell { x: z[0], y: z[1] });
     let rows = basics::index_of(map[2]);
     storage::mark_cell(cells, rows, k);
-    let state = next_state(map[0], r, kind, at);
-    let q = objects::with_state(r, state);
-    objects::store(nums, reals, ints, s, q);
-    returned(r, kind)
+    pend(nums, reals, ints, map[0], s, kind, at)
+}
+
+// One deferred call, but for the mark of the object's cell.
+pub fn unmarked(
+    nums: &mut [[u32; 4]],
+    reals: &mut [[f32; 4]],
+    ints: &mut [[i32; 4]],
+    size: u64,
+    kind: u32,
+    h: Handle,
+    at: Position,
+) -> Reply
+    requires { ⌜ (length (now reals) ≡ length (now nums)) × (length (now ints) ≡ length (now nums)) × SizeInDomain size ⌝ }
+    ensures { λ r. ⌜ outcome r (poolless (now (nums .exit)) (now (reals .exit)) (now (ints .exit)) (size ∷ []) []) ≡ unmarkedOf (poolless (now (nums .entry)) (now (reals .entry)) (now (ints .entry)) (size ∷ []) []) (Held.call kind h at) ⌝ }
+{
+    let a = refusal(nums, reals, ints, kind, h, at);
+    if a != 0 {
+        return Reply { answer: a, obj: 0 };
+    }
+    let s = basics::wide(h.slot);
+    let d = pend(nums, reals, ints, size, s, kind, at);
+    Reply { answer: 0, obj: d }
 }
 
 pub fn deferred(
