@@ -37,7 +37,7 @@ module _ (t u : Tables) (pool : List (List ℕ)) (spots : List (List Float)) (ki
     pub refused : (a ≡ 0 → ⊥) → (a ≡ 9 → ⊥) → outcome (batched a 0 out) all ≡ batchOf all kinds handles positions out
     refused z m = ap (λ (k : ℕ). outcome (batched k 0 out) all) e ∙ sym (batch-refused all kinds handles positions out (λ q. z (e ∙ q)) (λ q. m (e ∙ q)))
 
-    found : a ≡ 0 → Holds all
+    pub found : a ≡ 0 → Holds all
     found z = holds-says all .yes (batch-accepted all kinds handles positions out (sym e ∙ z) .held)
 
     pub readied : a ≡ 0 → Ready t

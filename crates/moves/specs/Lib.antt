@@ -11,5 +11,8 @@ pub mod Ready
 pub mod ReadyLaws
 pub mod PendedLaws
 pub mod Held
+pub mod Marks
+pub mod MarkLaws
 pub mod HeldLaws
 pub mod BatchLaws
+pub mod ManyLaws

@@ -89,10 +89,10 @@ module _ (t : Tables) (s : ℕ) (state : State) where
       pub cells-long : length (pended t s state .cells) ≡ length (t .cells)
       cells-long = ap length cells-set ∙ simp length-set
 
-      row-same : getD (pended t s state .cells) rowOf [] ≡ keyOf (recordOn t s .cell) ∷ 1 ∷ []
+      pub row-same : getD (pended t s state .cells) rowOf [] ≡ keyOf (recordOn t s .cell) ∷ 1 ∷ []
       row-same = rw cells-set (getD-set-same (t .cells) rowOf (keyOf (recordOn t s .cell) ∷ 1 ∷ []) [] row-inside)
 
-      row-other : (r : ℕ) → (r ≡ rowOf → ⊥) → getD (pended t s state .cells) r [] ≡ getD (t .cells) r []
+      pub row-other : (r : ℕ) → (r ≡ rowOf → ⊥) → getD (pended t s state .cells) r [] ≡ getD (t .cells) r []
       row-other r n = rw cells-set (getD-set-other (t .cells) rowOf r (keyOf (recordOn t s .cell) ∷ 1 ∷ []) [] n)
 
       pub key-kept : (r : ℕ) → first (pended t s state .cells) r ≡ first (t .cells) r

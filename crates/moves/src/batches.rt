@@ -9,12 +9,15 @@ ghost use Rattle.basics.specs.Refusals.{unless, firstOf};
 ghost use Rattle.storage.specs.Keyed.{written};
 ghost use Rattle.point_tables.specs.Lent.{lent};
 ghost use Rattle.point_tables.specs.Decide.{holds};
+ghost use Rattle.point_tables.specs.Holds.{Holds};
 ghost use Rattle.point_tables.specs.Outcome.{outcome};
 ghost use Rattle.moves.specs.Batch.{callsOf, replyRows, batched, batchOf};
 ghost use Rattle.moves.specs.Ready.{Ready};
 ghost use Rattle.moves.specs.Held.{lentPoolless, heldAfter, heldReplies};
 use crate::BatchReply;
 use crate::call::deferred;
+use crate::call::unmarked;
+use crate::marks::mark_all;
 use geometry::Position;
 use slots::Handle;
 
@@ -75,6 +78,50 @@ fn run(
     }
 }
 
+// As `run`, for many calls: the marks come last.
+fn run_many(
+    nums: &mut [[u32; 4]],
+    reals: &mut [[f32; 4]],
+    ints: &mut [[i32; 4]],
+    map: &[u64],
+    pool: &[[u64; 2]],
+    spots: &[[f32; 2]],
+    cells: &mut [[u64; 2]],
+    kinds: &[u32],
+    handles: &[[u32; 2]],
+    positions: &[[f32; 2]],
+    out: &mut [[u32; 2]],
+)
+    requires grid { ⌜ Holds (lent nums reals ints map pool spots cells) ⌝ }
+    requires long { ⌜ (length (now handles) ≡ length (now kinds)) × (length (now positions) ≡ length (now kinds)) × (length (now kinds) ≤ length (now out)) ⌝ }
+    ensures after { λ _. ⌜ lentPoolless (nums .exit) (reals .exit) (ints .exit) (map .entry) (cells .exit) ≡ heldAfter (lentPoolless (nums .entry) (reals .entry) (ints .entry) (map .entry) (cells .entry)) (callsOf (now (kinds .entry)) (now (handles .entry)) (now (positions .entry))) ⌝ }
+    ensures out { λ _. ⌜ now (out .exit) ≡ written (replyRows (heldReplies (lentPoolless (nums .entry) (reals .entry) (ints .entry) (map .entry) (cells .entry)) (callsOf (now (kinds .entry)) (now (handles .entry)) (now (positions .entry))))) (now (out .entry)) ⌝ }
+{
+    let size = map[0];
+    let mut i = 0;
+    while i < kinds.len() {
+        let h = handles[i];
+        let p = positions[i];
+        let r = unmarked(
+            nums,
+            reals,
+            ints,
+            size,
+            kinds[i],
+            Handle {
+                slot: h[0],
+                version: h[1],
+            },
+            Position { x: p[0], y: p[1] },
+        );
+        out[i] = [r.answer, r.obj];
+        i += 1;
+    }
+    let used = basics::index_of(map[1]);
+    let rows = basics::index_of(map[2]);
+    mark_all(nums, pool, used, cells, rows);
+}
+
 // As `set_position` and `remove` one after the other, but with one verdict for all.
 pub fn batch(
     nums: &mut [[u32; 4]],
@@ -104,6 +151,23 @@ pub fn batch(
             answer: a,
             count: 0,
         };
+    }
+    let used = basics::index_of(map[1]);
+    if used / 8 < n {
+        run_many(
+            nums,
+            reals,
+            ints,
+            map,
+            pool,
+            spots,
+            cells,
+            kinds,
+            handles,
+            positions,
+            out,
+        );
+        return BatchReply { answer: 0, count };
     }
     run(
         nums,

@@ -9,6 +9,7 @@ ghost use Rattle.replies.specs.Replies.{reply};
 
 mod batches;
 mod call;
+mod marks;
 
 pub use batches::batch;
 use geometry::Position;
