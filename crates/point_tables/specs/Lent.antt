@@ -1,10 +1,21 @@
--- The tables behind seven references, so that a contract takes two lines. Assumes nothing.
+-- The tables behind seven references: as a contract sees them at one moment (`lent`), and before and after a call. Assumes nothing.
 use Prim.Native.Nat.{ℕ}
 use mathlib.Core.List.{List}
 use lib.IntN.{ℤ}
 use lib.Ieee.{Float}
 use denote.Ref.{RefT, now}
+use denote.Triple.Both.{Both}
 use Rattle.point_tables.specs.Tables.{Tables, tables}
 
 abbrev pub lent : RefT (List (List ℕ)) → RefT (List (List Float)) → RefT (List (List ℤ)) → RefT (List ℕ) → RefT (List (List ℕ)) → RefT (List (List Float)) → RefT (List (List ℕ)) → Tables
 lent a b c d e f g = tables (now a) (now b) (now c) (now d) (now e) (now f) (now g)
+
+-- ---- a parameter in an `ensures` is a pair, what it was and what it is; behind a `&` the two are the same
+abbrev Lent : Type 0 → Type 0
+Lent A = Both (RefT A) (RefT A)
+
+abbrev pub before : Lent (List (List ℕ)) → Lent (List (List Float)) → Lent (List (List ℤ)) → Lent (List ℕ) → Lent (List (List ℕ)) → Lent (List (List Float)) → Lent (List (List ℕ)) → Tables
+before a b c d e f g = lent (a .entry) (b .entry) (c .entry) (d .entry) (e .entry) (f .entry) (g .entry)
+
+abbrev pub after : Lent (List (List ℕ)) → Lent (List (List Float)) → Lent (List (List ℤ)) → Lent (List ℕ) → Lent (List (List ℕ)) → Lent (List (List Float)) → Lent (List (List ℕ)) → Tables
+after a b c d e f g = lent (a .exit) (b .exit) (c .exit) (d .exit) (e .exit) (f .exit) (g .exit)

@@ -1,6 +1,6 @@
 // Reading a point grid: `get`, `len`, `handles`. Each takes the verdict of the check on the tables, `held`.
 ghost use mathlib.Core.Path.{_≡_};
-ghost use Rattle.point_tables.specs.Tables.{tables};
+ghost use Rattle.point_tables.specs.Lent.{lent, before};
 ghost use Rattle.point_tables.specs.Decide.{holds};
 ghost use Rattle.reads.specs.Reads.{getOf, lenOf, handlesOf, listing};
 use geometry::Position;
@@ -25,8 +25,8 @@ pub fn get(
     held: bool,
     h: Handle,
 ) -> Got
-    requires { ⌜ held ≡ holds (tables (now nums) (now reals) (now ints) (now map) (now pool) (now spots) (now cells)) ⌝ }
-    ensures { λ r. ⌜ r ≡ getOf (tables (now (nums .entry)) (now (reals .entry)) (now (ints .entry)) (now (map .entry)) (now (pool .entry)) (now (spots .entry)) (now (cells .entry))) h ⌝ }
+    requires { ⌜ held ≡ holds (lent nums reals ints map pool spots cells) ⌝ }
+    ensures { λ r. ⌜ r ≡ getOf (before nums reals ints map pool spots cells) h ⌝ }
 {
     if !held {
         return Got {
@@ -63,8 +63,8 @@ pub fn len(
     cells: &[[u64; 2]],
     held: bool,
 ) -> Count
-    requires { ⌜ held ≡ holds (tables (now nums) (now reals) (now ints) (now map) (now pool) (now spots) (now cells)) ⌝ }
-    ensures { λ r. ⌜ r ≡ lenOf (tables (now (nums .entry)) (now (reals .entry)) (now (ints .entry)) (now (map .entry)) (now (pool .entry)) (now (spots .entry)) (now (cells .entry))) ⌝ }
+    requires { ⌜ held ≡ holds (lent nums reals ints map pool spots cells) ⌝ }
+    ensures { λ r. ⌜ r ≡ lenOf (before nums reals ints map pool spots cells) ⌝ }
 {
     if !held {
         return Count {
@@ -91,8 +91,8 @@ pub fn handles(
     held: bool,
     out: &mut [[u32; 2]],
 ) -> Count
-    requires { ⌜ held ≡ holds (tables (now nums) (now reals) (now ints) (now map) (now pool) (now spots) (now cells)) ⌝ }
-    ensures { λ r. ⌜ listing r (now (out .exit)) ≡ handlesOf (tables (now (nums .entry)) (now (reals .entry)) (now (ints .entry)) (now (map .entry)) (now (pool .entry)) (now (spots .entry)) (now (cells .entry))) (now (out .entry)) ⌝ }
+    requires { ⌜ held ≡ holds (lent nums reals ints map pool spots cells) ⌝ }
+    ensures { λ r. ⌜ listing r (now (out .exit)) ≡ handlesOf (before nums reals ints map pool spots cells) (now (out .entry)) ⌝ }
 {
     let found = len(nums, reals, ints, map, pool, spots, cells, held);
     if found.answer != 0 {

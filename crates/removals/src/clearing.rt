@@ -5,7 +5,8 @@ ghost use Prim.Native.Nat.{_+_, _≤_, _<_};
 ghost use lib.ListN.{length, getD};
 ghost use Rattle.slots.specs.Map.{wordsFor};
 ghost use Rattle.storage.specs.Keyed.{written};
-ghost use Rattle.point_tables.specs.Tables.{tables, counting};
+ghost use Rattle.point_tables.specs.Lent.{lent, before, after};
+ghost use Rattle.point_tables.specs.Tables.{counting};
 ghost use Rattle.point_tables.specs.Decide.{holds};
 ghost use Rattle.point_tables.specs.Outcome.{outcome};
 ghost use Rattle.slot_walks.specs.Live.{liveFrom};
@@ -89,8 +90,8 @@ pub fn clear(
     places: &mut [[f32; 2]],
     objs: &mut [u32],
 ) -> Count
-    requires { ⌜ held ≡ holds (tables (now nums) (now reals) (now ints) (now map) (now pool) (now spots) (now cells)) ⌝ }
-    ensures { λ r. ⌜ outcome (wrote r (now (places .exit)) (now (objs .exit))) (tables (now (nums .exit)) (now (reals .entry)) (now (ints .entry)) (now (map .exit)) (now (pool .entry)) (now (spots .entry)) (now (cells .entry))) ≡ clearOf (tables (now (nums .entry)) (now (reals .entry)) (now (ints .entry)) (now (map .entry)) (now (pool .entry)) (now (spots .entry)) (now (cells .entry))) (now (places .entry)) (now (objs .entry)) ⌝ }
+    requires { ⌜ held ≡ holds (lent nums reals ints map pool spots cells) ⌝ }
+    ensures { λ r. ⌜ outcome (wrote r (now (places .exit)) (now (objs .exit))) (after nums reals ints map pool spots cells) ≡ clearOf (before nums reals ints map pool spots cells) (now (places .entry)) (now (objs .entry)) ⌝ }
 {
     let c = answer(map, held, places.len(), objs.len());
     if c.answer != 0 {

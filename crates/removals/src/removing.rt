@@ -8,7 +8,8 @@ ghost use Rattle.slots.specs.Slot.{good, emptiedNums, emptiedMap};
 ghost use Rattle.storage.specs.Keyed.{Sorted, under, written};
 ghost use Rattle.storage.specs.Entries.{rowKey};
 ghost use Rattle.storage.specs.Tables.{Rising};
-ghost use Rattle.point_tables.specs.Tables.{tables, counting, recordOn};
+ghost use Rattle.point_tables.specs.Lent.{lent, before, after};
+ghost use Rattle.point_tables.specs.Tables.{counting, recordOn};
 ghost use Rattle.point_tables.specs.Decide.{holds};
 ghost use Rattle.point_tables.specs.Outcome.{outcome};
 ghost use Rattle.removals.specs.RemoveMaintain.{isEmpty, takenOut, removeMaintainOf};
@@ -70,8 +71,8 @@ fn take_out(
     cells: &mut [[u64; 2]],
     s: usize,
 ) -> u32
-    requires { ⌜ Object (tables (now nums) (now reals) (now ints) (now map) (now pool) (now spots) (now cells)) s ⌝ }
-    ensures { λ r. ⌜ outcome r (tables (now (nums .exit)) (now (reals .entry)) (now (ints .entry)) (now (map .exit)) (now (pool .exit)) (now (spots .exit)) (now (cells .exit))) ≡ outcome (recordOn (tables (now (nums .entry)) (now (reals .entry)) (now (ints .entry)) (now (map .entry)) (now (pool .entry)) (now (spots .entry)) (now (cells .entry))) s .obj) (takenOut (tables (now (nums .entry)) (now (reals .entry)) (now (ints .entry)) (now (map .entry)) (now (pool .entry)) (now (spots .entry)) (now (cells .entry))) s) ⌝ }
+    requires { ⌜ Object (lent nums reals ints map pool spots cells) s ⌝ }
+    ensures { λ r. ⌜ outcome r (after nums reals ints map pool spots cells) ≡ outcome (recordOn (before nums reals ints map pool spots cells) s .obj) (takenOut (before nums reals ints map pool spots cells) s) ⌝ }
 {
     let r = objects::load(nums, reals, ints, s);
     let key = objects::key_of(r);
@@ -95,8 +96,8 @@ pub fn remove_maintain(
     held: bool,
     h: Handle,
 ) -> Reply
-    requires { ⌜ held ≡ holds (tables (now nums) (now reals) (now ints) (now map) (now pool) (now spots) (now cells)) ⌝ }
-    ensures { λ r. ⌜ outcome r (tables (now (nums .exit)) (now (reals .entry)) (now (ints .entry)) (now (map .exit)) (now (pool .exit)) (now (spots .exit)) (now (cells .exit))) ≡ removeMaintainOf (tables (now (nums .entry)) (now (reals .entry)) (now (ints .entry)) (now (map .entry)) (now (pool .entry)) (now (spots .entry)) (now (cells .entry))) h ⌝ }
+    requires { ⌜ held ≡ holds (lent nums reals ints map pool spots cells) ⌝ }
+    ensures { λ r. ⌜ outcome r (after nums reals ints map pool spots cells) ≡ removeMaintainOf (before nums reals ints map pool spots cells) h ⌝ }
 {
     let a = answer(nums, held, h);
     if a != 0 {
