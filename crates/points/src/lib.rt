@@ -7,16 +7,12 @@ ghost use Rattle.inserts.specs.New.{newOf};
 ghost use Rattle.inserts.specs.Insert.{insertOf};
 ghost use Rattle.moves.specs.Moves.{setPositionOf, removeOf};
 ghost use Rattle.moves.specs.Batch.{batched, batchOf};
-ghost use Rattle.removals.specs.RemoveMaintain.{removeMaintainOf};
-ghost use Rattle.removals.specs.Clear.{wrote, clearOf};
 ghost use Rattle.queries.specs.Queries.{findings, queryOf, aroundOf, aabbOf};
 ghost use Rattle.maintain.specs.Maintain.{maintainOf};
-ghost use Rattle.reads.specs.Reads.{getOf, lenOf, handlesOf, listing};
 ghost use Rattle.replies.specs.Replies.{reply};
 use geometry::Position;
 use maintain::Maintained;
 use moves::BatchReply;
-use reads::Got;
 use replies::Count;
 use replies::Inserted;
 use replies::Reply;
@@ -125,100 +121,19 @@ pub fn batch(
 }
 
 // The recorded position and the data. 3, 5.
-pub fn get(
-    nums: &[[u32; 4]],
-    reals: &[[f32; 4]],
-    ints: &[[i32; 4]],
-    map: &[u64],
-    pool: &[[u64; 2]],
-    spots: &[[f32; 2]],
-    cells: &[[u64; 2]],
-    h: Handle,
-) -> Got
-    ensures { λ r. ⌜ r ≡ getOf (lent (nums .entry) (reals .entry) (ints .entry) (map .entry) (pool .entry) (spots .entry) (cells .entry)) h ⌝ }
-{
-    let held = point_tables::check(nums, reals, ints, map, pool, spots, cells);
-    reads::get(nums, reals, ints, map, pool, spots, cells, held, h)
-}
+pub use reads::get;
 
 // The number of objects; removed ones count until maintain. 3.
-pub fn len(
-    nums: &[[u32; 4]],
-    reals: &[[f32; 4]],
-    ints: &[[i32; 4]],
-    map: &[u64],
-    pool: &[[u64; 2]],
-    spots: &[[f32; 2]],
-    cells: &[[u64; 2]],
-) -> Count
-    ensures { λ r. ⌜ r ≡ lenOf (lent (nums .entry) (reals .entry) (ints .entry) (map .entry) (pool .entry) (spots .entry) (cells .entry)) ⌝ }
-{
-    let held = point_tables::check(nums, reals, ints, map, pool, spots, cells);
-    reads::len(nums, reals, ints, map, pool, spots, cells, held)
-}
+pub use reads::len;
 
 // The handles of the objects, ascending by slot. 3, 9 with the number found.
-pub fn handles(
-    nums: &[[u32; 4]],
-    reals: &[[f32; 4]],
-    ints: &[[i32; 4]],
-    map: &[u64],
-    pool: &[[u64; 2]],
-    spots: &[[f32; 2]],
-    cells: &[[u64; 2]],
-    out: &mut [[u32; 2]],
-) -> Count
-    ensures { λ r. ⌜ listing r (now (out .exit)) ≡ handlesOf (lent (nums .entry) (reals .entry) (ints .entry) (map .entry) (pool .entry) (spots .entry) (cells .entry)) (now (out .entry)) ⌝ }
-{
-    let held = point_tables::check(nums, reals, ints, map, pool, spots, cells);
-    reads::handles(nums, reals, ints, map, pool, spots, cells, held, out)
-}
+pub use reads::handles;
 
 // Takes the object out now, whatever its state. Gives the data. 3, 5.
-pub fn remove_maintain(
-    nums: &mut [[u32; 4]],
-    reals: &[[f32; 4]],
-    ints: &[[i32; 4]],
-    map: &mut [u64],
-    pool: &mut [[u64; 2]],
-    spots: &mut [[f32; 2]],
-    cells: &mut [[u64; 2]],
-    h: Handle,
-) -> Reply
-    ensures { λ r. ⌜ outcome r (lent (nums .exit) (reals .entry) (ints .entry) (map .exit) (pool .exit) (spots .exit) (cells .exit)) ≡ removeMaintainOf (lent (nums .entry) (reals .entry) (ints .entry) (map .entry) (pool .entry) (spots .entry) (cells .entry)) h ⌝ }
-{
-    let held = point_tables::check(nums, reals, ints, map, pool, spots, cells);
-    removals::remove_maintain(nums, reals, ints, map, pool, spots, cells, held, h)
-}
+pub use removals::remove_maintain;
 
 // Writes recorded position and data of every object, ascending by slot, and empties the grid. 3, 9 with the number of objects.
-pub fn clear(
-    nums: &mut [[u32; 4]],
-    reals: &[[f32; 4]],
-    ints: &[[i32; 4]],
-    map: &mut [u64],
-    pool: &[[u64; 2]],
-    spots: &[[f32; 2]],
-    cells: &[[u64; 2]],
-    places: &mut [[f32; 2]],
-    objs: &mut [u32],
-) -> Count
-    ensures { λ r. ⌜ outcome (wrote r (now (places .exit)) (now (objs .exit))) (lent (nums .exit) (reals .entry) (ints .entry) (map .exit) (pool .entry) (spots .entry) (cells .entry)) ≡ clearOf (lent (nums .entry) (reals .entry) (ints .entry) (map .entry) (pool .entry) (spots .entry) (cells .entry)) (now (places .entry)) (now (objs .entry)) ⌝ }
-{
-    let held = point_tables::check(nums, reals, ints, map, pool, spots, cells);
-    removals::clear(
-        nums,
-        reals,
-        ints,
-        map,
-        pool,
-        spots,
-        cells,
-        held,
-        places,
-        objs,
-    )
-}
+pub use removals::clear;
 
 // All entries of the range from the cell of ll to that of ur: handles, and positions beside them. 3, 6, 7, 9 with the number found.
 pub fn query(

@@ -1,7 +1,6 @@
-// Reading a point grid: `get`, `len`, `handles`. Each takes the verdict of the check on the tables, `held`.
+// Reading a point grid: `get`, `len`, `handles`. Each checks the tables first.
 ghost use mathlib.Core.Path.{_≡_};
-ghost use Rattle.point_tables.specs.Lent.{lent, before};
-ghost use Rattle.point_tables.specs.Decide.{holds};
+ghost use Rattle.point_tables.specs.Lent.{before};
 ghost use Rattle.reads.specs.Reads.{getOf, lenOf, handlesOf, listing};
 use geometry::Position;
 use replies::Count;
@@ -22,13 +21,11 @@ pub fn get(
     pool: &[[u64; 2]],
     spots: &[[f32; 2]],
     cells: &[[u64; 2]],
-    held: bool,
     h: Handle,
 ) -> Got
-    requires { ⌜ held ≡ holds (lent nums reals ints map pool spots cells) ⌝ }
     ensures { λ r. ⌜ r ≡ getOf (before nums reals ints map pool spots cells) h ⌝ }
 {
-    if !held {
+    if !point_tables::check(nums, reals, ints, map, pool, spots, cells) {
         return Got {
             answer: 3,
             position: Position { x: 0.0, y: 0.0 },
@@ -61,12 +58,10 @@ pub fn len(
     pool: &[[u64; 2]],
     spots: &[[f32; 2]],
     cells: &[[u64; 2]],
-    held: bool,
 ) -> Count
-    requires { ⌜ held ≡ holds (lent nums reals ints map pool spots cells) ⌝ }
     ensures { λ r. ⌜ r ≡ lenOf (before nums reals ints map pool spots cells) ⌝ }
 {
-    if !held {
+    if !point_tables::check(nums, reals, ints, map, pool, spots, cells) {
         return Count {
             answer: 3,
             count: 0,
@@ -88,13 +83,11 @@ pub fn handles(
     pool: &[[u64; 2]],
     spots: &[[f32; 2]],
     cells: &[[u64; 2]],
-    held: bool,
     out: &mut [[u32; 2]],
 ) -> Count
-    requires { ⌜ held ≡ holds (lent nums reals ints map pool spots cells) ⌝ }
     ensures { λ r. ⌜ listing r (now (out .exit)) ≡ handlesOf (before nums reals ints map pool spots cells) (now (out .entry)) ⌝ }
 {
-    let found = len(nums, reals, ints, map, pool, spots, cells, held);
+    let found = len(nums, reals, ints, map, pool, spots, cells);
     if found.answer != 0 {
         return found;
     }

@@ -5,9 +5,8 @@ ghost use Prim.Native.Nat.{_+_, _≤_, _<_};
 ghost use lib.ListN.{length, getD};
 ghost use Rattle.slots.specs.Map.{wordsFor};
 ghost use Rattle.storage.specs.Keyed.{written};
-ghost use Rattle.point_tables.specs.Lent.{lent, before, after};
+ghost use Rattle.point_tables.specs.Lent.{before, after};
 ghost use Rattle.point_tables.specs.Tables.{counting};
-ghost use Rattle.point_tables.specs.Decide.{holds};
 ghost use Rattle.point_tables.specs.Outcome.{outcome};
 ghost use Rattle.slot_walks.specs.Live.{liveFrom};
 ghost use Rattle.slot_walks.specs.Cleared.{clearedRows, clearedMap};
@@ -86,13 +85,12 @@ pub fn clear(
     pool: &[[u64; 2]],
     spots: &[[f32; 2]],
     cells: &[[u64; 2]],
-    held: bool,
     places: &mut [[f32; 2]],
     objs: &mut [u32],
 ) -> Count
-    requires { ⌜ held ≡ holds (lent nums reals ints map pool spots cells) ⌝ }
     ensures { λ r. ⌜ outcome (wrote r (now (places .exit)) (now (objs .exit))) (after nums reals ints map pool spots cells) ≡ clearOf (before nums reals ints map pool spots cells) (now (places .entry)) (now (objs .entry)) ⌝ }
 {
+    let held = point_tables::check(nums, reals, ints, map, pool, spots, cells);
     let c = answer(map, held, places.len(), objs.len());
     if c.answer != 0 {
         return c;

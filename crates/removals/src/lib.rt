@@ -1,5 +1,5 @@
 // Taking objects out at once: `remove_maintain` and `clear`.
-// The caller has checked whether the tables hold a grid, and hands the verdict down as `held`.
+// Each checks the tables first.
 mod clearing;
 mod removing;
 

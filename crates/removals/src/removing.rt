@@ -10,7 +10,6 @@ ghost use Rattle.storage.specs.Entries.{rowKey};
 ghost use Rattle.storage.specs.Tables.{Rising};
 ghost use Rattle.point_tables.specs.Lent.{lent, before, after};
 ghost use Rattle.point_tables.specs.Tables.{counting, recordOn};
-ghost use Rattle.point_tables.specs.Decide.{holds};
 ghost use Rattle.point_tables.specs.Outcome.{outcome};
 ghost use Rattle.removals.specs.RemoveMaintain.{isEmpty, takenOut, removeMaintainOf};
 ghost use Rattle.removals.specs.DropLaws.{rowsBy};
@@ -93,12 +92,11 @@ pub fn remove_maintain(
     pool: &mut [[u64; 2]],
     spots: &mut [[f32; 2]],
     cells: &mut [[u64; 2]],
-    held: bool,
     h: Handle,
 ) -> Reply
-    requires { ⌜ held ≡ holds (lent nums reals ints map pool spots cells) ⌝ }
     ensures { λ r. ⌜ outcome r (after nums reals ints map pool spots cells) ≡ removeMaintainOf (before nums reals ints map pool spots cells) h ⌝ }
 {
+    let held = point_tables::check(nums, reals, ints, map, pool, spots, cells);
     let a = answer(nums, held, h);
     if a != 0 {
         return Reply { answer: a, obj: 0 };
