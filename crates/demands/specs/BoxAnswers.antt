@@ -2,13 +2,12 @@
 -- does. Assumes nothing.
 use Prim.Native.Nat.{ℕ, min}
 use mathlib.Core.Path.{_≡_, refl, sym, ap, _∙_}
-use mathlib.Core.Bool.{not}
-use mathlib.Core.List.{List}
+use mathlib.Core.List.{List, [], _∷_}
 use lib.Dec.{eqb, leb}
 use lib.Ieee.{Float}
 use lib.ListN.{length}
 use borrow.Author.Tests.{ne-eqb}
-use Rattle.basics.specs.Refusals.{pick}
+use Rattle.basics.specs.Refusals.{Refusal, unless, pick}
 use Rattle.geometry.specs.declared.Aabb.{Aabb}
 use Rattle.geometry.specs.Domain.{aabbInDomain}
 use Rattle.slots.specs.declared.Handle.{Handle}
@@ -33,96 +32,96 @@ use Rattle.box_reads.specs.Clear.{wrote, clearOf}
 use Rattle.box_reads.specs.ClearLaws.{clear-returned, clear-no}
 use Rattle.box_queries.specs.Queries as Queries
 use Rattle.box_queries.specs.Queries.{Handles, Findings, findings, broad, narrow, roomOf, answerOf, broadOf, queryOf}
-use Rattle.demands.specs.Answers.{Applies, applies, no, firstThat}
-use Rattle.demands.specs.AnswerLaws.{by-answer, by-refusal, by-held, not-held, two, with-5, with-9, with-679, with-6748, with-6578}
+use Rattle.demands.specs.Answers.{firstThat}
+use Rattle.demands.specs.AnswerLaws.{in-order, answered, refused, by-held, not-held}
 use Rattle.replies.specs.Replies.{count, inserted, reply}
 
--- ---- when each number applies, in the order of `applies`: 3, 2, 6, 5, 1, 7, 4, 8, 9
-abbrev pub newApplies : Tables → ℕ → Applies
-newApplies t size = applies (not (sized t)) (not (sizeOk size)) no no no no no no no
+-- ---- the tests of each call, with their numbers
+abbrev pub newApplies : Tables → ℕ → List Refusal
+newApplies t size = unless (sized t) 3 ∷ unless (sizeOk size) 2 ∷ []
 
-abbrev pub insertApplies : Tables → Aabb → Applies
+abbrev pub insertApplies : Tables → Aabb → List Refusal
 insertApplies t b =
-    applies (not (holds t)) no (not (aabbInDomain b)) no no (not (fewCells (sizeOf t) b)) (not (isSome (usableSlot t))) (not (hasRoom t b)) no
+    unless (holds t) 3 ∷ unless (aabbInDomain b) 6 ∷ unless (fewCells (sizeOf t) b) 7 ∷ unless (isSome (usableSlot t)) 4 ∷ unless (hasRoom t b) 8 ∷ []
 
-abbrev pub setAabbApplies : Tables → Handle → Aabb → Applies
+abbrev pub setAabbApplies : Tables → Handle → Aabb → List Refusal
 setAabbApplies t h b =
-    applies (not (holds t)) no (not (aabbInDomain b)) (not (good (t .nums) (h .slot) (h .version))) no (not (fewCells (sizeOf t) b)) no (not (hasRoomFor t (h .slot) b)) no
+    unless (holds t) 3 ∷ unless (aabbInDomain b) 6 ∷ unless (good (t .nums) (h .slot) (h .version)) 5 ∷ unless (fewCells (sizeOf t) b) 7 ∷ unless (hasRoomFor t (h .slot) b) 8 ∷ []
 
 -- `remove` and `get`
-abbrev pub handleApplies : Tables → Handle → Applies
-handleApplies t h = applies (not (holds t)) no no (not (good (t .nums) (h .slot) (h .version))) no no no no no
+abbrev pub handleApplies : Tables → Handle → List Refusal
+handleApplies t h = unless (holds t) 3 ∷ unless (good (t .nums) (h .slot) (h .version)) 5 ∷ []
 
 -- `len`
-abbrev pub tablesApply : Tables → Applies
-tablesApply t = applies (not (holds t)) no no no no no no no no
+abbrev pub tablesApply : Tables → List Refusal
+tablesApply t = unless (holds t) 3 ∷ []
 
 -- `handles` and `clear`
-abbrev pub roomApplies : Tables → ℕ → Applies
-roomApplies t room = applies (not (holds t)) no no no no no no no (not (leb (length (liveSlots t)) room))
+abbrev pub roomApplies : Tables → ℕ → List Refusal
+roomApplies t room = unless (holds t) 3 ∷ unless (leb (length (liveSlots t)) room) 9 ∷ []
 
 -- the queries, with so many findings and so much room
-abbrev pub queryApplies : Tables → Aabb → ℕ → ℕ → Applies
-queryApplies t q n room = applies (not (holds t)) no (not (aabbInDomain q)) no no (not (fewCells (sizeOf t) q)) no no (not (leb n room))
+abbrev pub queryApplies : Tables → Aabb → ℕ → ℕ → List Refusal
+queryApplies t q n room = unless (holds t) 3 ∷ unless (aabbInDomain q) 6 ∷ unless (fewCells (sizeOf t) q) 7 ∷ unless (leb n room) 9 ∷ []
 
 -- ---- each call: its answer is the first that applies, and a refused call returns that number, zeros, and the tables and outputs as they
 -- were; 9 also returns the number found
 module _ (t : Tables) where
   pub new-answer : (size : ℕ) → newOf t size .result ≡ firstThat (newApplies t size)
   unfolding newOf newAnswer
-  new-answer size = by-answer (λ (o : Outcome ℕ). o .result) (newAnswer t size) (firstThat (newApplies t size)) _ (λ a. outcome a t) (two (sized t) (sizeOk size)) refl refl
+  new-answer size = answered (λ (o : Outcome ℕ). o .result) (newApplies t size) _ (λ a. outcome a t) refl refl refl
 
   pub new-refused : (size : ℕ) → (firstThat (newApplies t size) ≡ 0 → ⊥) → newOf t size ≡ outcome (firstThat (newApplies t size)) t
   unfolding newOf newAnswer
-  new-refused size n = by-refusal (newAnswer t size) (firstThat (newApplies t size)) _ (λ a. outcome a t) (two (sized t) (sizeOk size)) n
+  new-refused size n = refused (newApplies t size) _ (λ a. outcome a t) refl n
 
   pub insert-answer : (b : Aabb) (d : ℕ) → insertOf t b d .result .answer ≡ firstThat (insertApplies t b)
   unfolding insertOf insertAnswer
-  insert-answer b d = by-answer (λ (o : Outcome Inserted). o .result .answer) (insertAnswer t b) (firstThat (insertApplies t b)) _ (λ a. outcome (inserted a 0 0) t) (with-6748 (holds t) (aabbInDomain b) (fewCells (sizeOf t) b) (isSome (usableSlot t)) (hasRoom t b)) refl refl
+  insert-answer b d = answered (λ (o : Outcome Inserted). o .result .answer) (insertApplies t b) _ (λ a. outcome (inserted a 0 0) t) refl refl refl
 
   pub insert-refused : (b : Aabb) (d : ℕ) → (firstThat (insertApplies t b) ≡ 0 → ⊥) → insertOf t b d ≡ outcome (inserted (firstThat (insertApplies t b)) 0 0) t
   unfolding insertOf insertAnswer
-  insert-refused b d n = by-refusal (insertAnswer t b) (firstThat (insertApplies t b)) _ (λ a. outcome (inserted a 0 0) t) (with-6748 (holds t) (aabbInDomain b) (fewCells (sizeOf t) b) (isSome (usableSlot t)) (hasRoom t b)) n
+  insert-refused b d n = refused (insertApplies t b) _ (λ a. outcome (inserted a 0 0) t) refl n
 
   pub set-aabb-answer : (h : Handle) (b : Aabb) → setAabbOf t h b .result ≡ firstThat (setAabbApplies t h b)
   unfolding setAabbOf setAabbAnswer
-  set-aabb-answer h b = by-answer (λ (o : Outcome ℕ). o .result) (setAabbAnswer t h b) (firstThat (setAabbApplies t h b)) _ (λ a. outcome a t) (with-6578 (holds t) (aabbInDomain b) (good (t .nums) (h .slot) (h .version)) (fewCells (sizeOf t) b) (hasRoomFor t (h .slot) b)) refl refl
+  set-aabb-answer h b = answered (λ (o : Outcome ℕ). o .result) (setAabbApplies t h b) _ (λ a. outcome a t) refl refl refl
 
   pub set-aabb-refused : (h : Handle) (b : Aabb) → (firstThat (setAabbApplies t h b) ≡ 0 → ⊥) → setAabbOf t h b ≡ outcome (firstThat (setAabbApplies t h b)) t
   unfolding setAabbOf setAabbAnswer
-  set-aabb-refused h b n = by-refusal (setAabbAnswer t h b) (firstThat (setAabbApplies t h b)) _ (λ a. outcome a t) (with-6578 (holds t) (aabbInDomain b) (good (t .nums) (h .slot) (h .version)) (fewCells (sizeOf t) b) (hasRoomFor t (h .slot) b)) n
+  set-aabb-refused h b n = refused (setAabbApplies t h b) _ (λ a. outcome a t) refl n
 
   pub remove-answer : (h : Handle) → removeOf t h .result .answer ≡ firstThat (handleApplies t h)
   unfolding removeOf removeAnswer
-  remove-answer h = by-answer (λ (o : Outcome Reply). o .result .answer) (removeAnswer t h) (firstThat (handleApplies t h)) _ (λ a. outcome (reply a 0) t) (with-5 (holds t) (good (t .nums) (h .slot) (h .version))) refl refl
+  remove-answer h = answered (λ (o : Outcome Reply). o .result .answer) (handleApplies t h) _ (λ a. outcome (reply a 0) t) refl refl refl
 
   pub remove-refused : (h : Handle) → (firstThat (handleApplies t h) ≡ 0 → ⊥) → removeOf t h ≡ outcome (reply (firstThat (handleApplies t h)) 0) t
   unfolding removeOf removeAnswer
-  remove-refused h n = by-refusal (removeAnswer t h) (firstThat (handleApplies t h)) _ (λ a. outcome (reply a 0) t) (with-5 (holds t) (good (t .nums) (h .slot) (h .version))) n
+  remove-refused h n = refused (handleApplies t h) _ (λ a. outcome (reply a 0) t) refl n
 
   pub get-answer : (h : Handle) → getOf t h .answer ≡ firstThat (handleApplies t h)
   unfolding getOf getAnswer
-  get-answer h = by-answer (λ (o : Got). o .answer) (getAnswer t h) (firstThat (handleApplies t h)) _ (λ a. got a zero-aabb 0) (with-5 (holds t) (good (t .nums) (h .slot) (h .version))) refl refl
+  get-answer h = answered (λ (o : Got). o .answer) (handleApplies t h) _ (λ a. got a zero-aabb 0) refl refl refl
 
   pub get-refused : (h : Handle) → (firstThat (handleApplies t h) ≡ 0 → ⊥) → getOf t h ≡ got (firstThat (handleApplies t h)) zero-aabb 0
   unfolding getOf getAnswer
-  get-refused h n = by-refusal (getAnswer t h) (firstThat (handleApplies t h)) _ (λ a. got a zero-aabb 0) (with-5 (holds t) (good (t .nums) (h .slot) (h .version))) n
+  get-refused h n = refused (handleApplies t h) _ (λ a. got a zero-aabb 0) refl n
 
   pub broad-answer : (q : Aabb) (hs : List (List ℕ)) → broadOf t q hs .returned .answer ≡ firstThat (queryApplies t q (length (broad t q)) (length hs))
   unfolding broadOf answerOf
-  broad-answer q hs = by-answer (λ (o : Handles). o .returned .answer) (answerOf t q (length (broad t q)) (length hs)) (firstThat (queryApplies t q (length (broad t q)) (length hs))) _ (λ a. Queries.handlesOf (count a (pick (eqb a 9) (length (broad t q)) 0)) hs) (with-679 (holds t) (aabbInDomain q) (fewCells (sizeOf t) q) (leb (length (broad t q)) (length hs))) refl refl
+  broad-answer q hs = answered (λ (o : Handles). o .returned .answer) (queryApplies t q (length (broad t q)) (length hs)) _ (λ a. Queries.handlesOf (count a (pick (eqb a 9) (length (broad t q)) 0)) hs) refl refl refl
 
   pub broad-refused : (q : Aabb) (hs : List (List ℕ)) → (firstThat (queryApplies t q (length (broad t q)) (length hs)) ≡ 0 → ⊥) → broadOf t q hs ≡ Queries.handlesOf (count (firstThat (queryApplies t q (length (broad t q)) (length hs))) (pick (eqb (firstThat (queryApplies t q (length (broad t q)) (length hs))) 9) (length (broad t q)) 0)) hs
   unfolding broadOf answerOf
-  broad-refused q hs n = by-refusal (answerOf t q (length (broad t q)) (length hs)) (firstThat (queryApplies t q (length (broad t q)) (length hs))) _ (λ a. Queries.handlesOf (count a (pick (eqb a 9) (length (broad t q)) 0)) hs) (with-679 (holds t) (aabbInDomain q) (fewCells (sizeOf t) q) (leb (length (broad t q)) (length hs))) n
+  broad-refused q hs n = refused (queryApplies t q (length (broad t q)) (length hs)) _ (λ a. Queries.handlesOf (count a (pick (eqb a 9) (length (broad t q)) 0)) hs) refl n
 
   pub query-answer : (q : Aabb) (hs : List (List ℕ)) (bs : List (List Float)) (os : List ℕ) → queryOf t q hs bs os .returned .answer ≡ firstThat (queryApplies t q (length (narrow t q)) (roomOf hs bs os))
   unfolding queryOf answerOf
-  query-answer q hs bs os = by-answer (λ (o : Findings). o .returned .answer) (answerOf t q (length (narrow t q)) (roomOf hs bs os)) (firstThat (queryApplies t q (length (narrow t q)) (roomOf hs bs os))) _ (λ a. findings (count a (pick (eqb a 9) (length (narrow t q)) 0)) hs bs os) (with-679 (holds t) (aabbInDomain q) (fewCells (sizeOf t) q) (leb (length (narrow t q)) (roomOf hs bs os))) refl refl
+  query-answer q hs bs os = answered (λ (o : Findings). o .returned .answer) (queryApplies t q (length (narrow t q)) (roomOf hs bs os)) _ (λ a. findings (count a (pick (eqb a 9) (length (narrow t q)) 0)) hs bs os) refl refl refl
 
   pub query-refused : (q : Aabb) (hs : List (List ℕ)) (bs : List (List Float)) (os : List ℕ) → (firstThat (queryApplies t q (length (narrow t q)) (roomOf hs bs os)) ≡ 0 → ⊥) → queryOf t q hs bs os ≡ findings (count (firstThat (queryApplies t q (length (narrow t q)) (roomOf hs bs os))) (pick (eqb (firstThat (queryApplies t q (length (narrow t q)) (roomOf hs bs os))) 9) (length (narrow t q)) 0)) hs bs os
   unfolding queryOf answerOf
-  query-refused q hs bs os n = by-refusal (answerOf t q (length (narrow t q)) (roomOf hs bs os)) (firstThat (queryApplies t q (length (narrow t q)) (roomOf hs bs os))) _ (λ a. findings (count a (pick (eqb a 9) (length (narrow t q)) 0)) hs bs os) (with-679 (holds t) (aabbInDomain q) (fewCells (sizeOf t) q) (leb (length (narrow t q)) (roomOf hs bs os))) n
+  query-refused q hs bs os n = refused (queryApplies t q (length (narrow t q)) (roomOf hs bs os)) _ (λ a. findings (count a (pick (eqb a 9) (length (narrow t q)) 0)) hs bs os) refl n
 
   pub len-answer : lenOf t .answer ≡ firstThat (tablesApply t)
   unfolding lenOf
@@ -135,7 +134,7 @@ module _ (t : Tables) where
   -- a row for each object into outputs of so many places
   listed : (room : ℕ) → listAnswer t room ≡ firstThat (roomApplies t room)
   unfolding listAnswer
-  listed room = with-9 (holds t) (leb (length (liveSlots t)) room)
+  listed room = in-order (roomApplies t room) refl
 
   pub handles-answer : (out : List (List ℕ)) → handlesOf t out .returned .answer ≡ firstThat (roomApplies t (length out))
   unfolding handlesOf

@@ -14,7 +14,7 @@ use Rattle.box_changes.specs.Remove.{removeOf}
 use Rattle.box_reads.specs.Reads.{getOf, lenOf, handlesOf}
 use Rattle.box_reads.specs.Clear.{clearOf}
 use Rattle.box_queries.specs.Queries.{broad, narrow, roomOf, broadOf, queryOf}
-use Rattle.demands.specs.Answers.{Applies}
+use Rattle.basics.specs.Refusals.{Refusal}
 use Rattle.demands.specs.PointCalls.{Outputs, outputs, none}
 use Rattle.demands.specs.BoxAnswers.{newApplies, insertApplies, setAabbApplies, handleApplies, tablesApply, roomApplies, queryApplies}
 
@@ -65,7 +65,7 @@ leaves t (queryBroad q hs) = let o = broadOf t q hs in left (o .returned .answer
 leaves t (query q hs bs os) = let o = queryOf t q hs bs os in left (o .returned .answer) t (outputs (o .handles) (o .boxes) (o .objs))
 
 -- ---- document 01's refusals of each call
-unfoldable pub refusals : Tables → BoxCall → Applies
+unfoldable pub refusals : Tables → BoxCall → List Refusal
 refusals t (new size) = newApplies t size
 refusals t (insert b d) = insertApplies t b
 refusals t (setAabb h b) = setAabbApplies t h b

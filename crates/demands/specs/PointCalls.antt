@@ -17,7 +17,7 @@ use Rattle.removals.specs.RemoveMaintain.{removeMaintainOf}
 use Rattle.removals.specs.Clear.{liveSlots, clearOf}
 use Rattle.reads.specs.Reads.{liveHandles, getOf, lenOf, handlesOf}
 use Rattle.queries.specs.Queries.{Findings, queryOf, aroundOf, aabbOf}
-use Rattle.demands.specs.Answers.{Applies}
+use Rattle.basics.specs.Refusals.{Refusal}
 use Rattle.demands.specs.PointAnswers.{newApplies, insertApplies, setPositionApplies, handleApplies, batchApplies, tablesApply, roomApplies, queryTests, aroundTests, aabbTests}
 
 pub data PointCall : Type 0 where
@@ -94,7 +94,7 @@ leaves t (queryAround c r hs ps) = found t (aroundOf t c r hs ps)
 leaves t (queryAabb a b hs ps) = found t (aabbOf t a b hs ps)
 
 -- ---- document 01's refusals of each call
-unfoldable pub refusals : Tables → PointCall → Applies
+unfoldable pub refusals : Tables → PointCall → List Refusal
 refusals t (new size) = newApplies t size
 refusals t (insert p d) = insertApplies t p
 refusals t (setPosition h p) = setPositionApplies t h p
