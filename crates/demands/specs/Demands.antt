@@ -20,12 +20,12 @@ use Rattle.inserts.specs.NewLaws.{built-holds, new-holds, new-refused}
 use Rattle.inserts.specs.InsertLaws.{insert-holds}
 use Rattle.moves.specs.MovesKeeps.{set-position-keeps, remove-keeps}
 use Rattle.moves.specs.BatchAnswerLaws.{batch-keeps}
-use Rattle.removals.specs.RemoveLaws.{remove-holds}
-use Rattle.removals.specs.ClearLaws.{clear-holds}
+use Rattle.removals.proofs.laws.RemoveLaws.{remove-holds}
+use Rattle.removals.proofs.laws.ClearLaws.{clear-holds}
 use Rattle.maintain.specs.MaintainLaws.{maintain-keeps}
 use Rattle.moves.specs.Batch.{Call, callOf, tablesAfter, Batched}
-use Rattle.removals.specs.Clear.{Written}
-use Rattle.reads.specs.Reads.{Listing}
+use Rattle.removals.specs.Meaning.Clear.{Written}
+use Rattle.reads.specs.Meaning.{Listing}
 use Rattle.maintain.specs.Maintain.{maintainOf}
 use Rattle.queries.specs.Queries.{Findings, aroundOf}
 use Rattle.trackers.specs.Merges.{Turn, calls, Merge, NotShared, Alike, batchFor, SameBatch}

@@ -17,11 +17,11 @@ use Rattle.moves.specs.Moves.{setPositionOf, removeOf}
 use Rattle.moves.specs.Batch.{Batched, batchOf}
 use Rattle.maintain.specs.declared.Maintained.{Maintained}
 use Rattle.maintain.specs.Maintain.{maintainOf}
-use Rattle.removals.specs.RemoveMaintain.{removeMaintainOf}
-use Rattle.removals.specs.Clear.{Written, clearOf}
+use Rattle.removals.specs.Meaning.RemoveMaintain.{removeMaintainOf}
+use Rattle.removals.specs.Meaning.Clear.{Written, clearOf}
 use Rattle.reads.specs.declared.Got.{Got}
 use Rattle.replies.specs.declared.Count.{Count}
-use Rattle.reads.specs.Reads.{Listing, getOf, lenOf, handlesOf}
+use Rattle.reads.specs.Meaning.{Listing, getOf, lenOf, handlesOf}
 use Rattle.queries.specs.Queries.{Findings, queryOf, aroundOf, aabbOf}
 use Rattle.replies.specs.Replies.{reply}
 use Rattle.box_tables.specs.Tables as BoxTables

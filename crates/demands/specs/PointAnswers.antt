@@ -28,11 +28,11 @@ use Rattle.moves.specs.Moves.{setPositionAnswer, setPositionOf, removeAnswer, r
 use Rattle.moves.specs.Batch.{Batched, batched, even, batchAnswer, batchOf}
 use Rattle.maintain.specs.declared.Maintained.{Maintained}
 use Rattle.maintain.specs.Maintain.{maintainedCounts, maintainOf}
-use Rattle.removals.specs.RemoveMaintain.{removeMaintainAnswer, removeMaintainOf}
-use Rattle.removals.specs.Clear.{Written, wrote, liveSlots, clearAnswer, clearOf}
+use Rattle.removals.specs.Meaning.RemoveMaintain.{removeMaintainAnswer, removeMaintainOf}
+use Rattle.removals.specs.Meaning.Clear.{Written, wrote, liveSlots, clearAnswer, clearOf}
 use Rattle.reads.specs.declared.Got.{Got}
 use Rattle.replies.specs.declared.Count.{Count}
-use Rattle.reads.specs.Reads.{zero-position, got, Listing, listing, liveHandles, getAnswer, getOf, lenOf, handlesAnswer, handlesOf}
+use Rattle.reads.specs.Meaning.{zero-position, got, Listing, listing, liveHandles, getAnswer, getOf, lenOf, handlesAnswer, handlesOf}
 use Rattle.queries.specs.declared.Test.{Test}
 use Rattle.queries.specs.declared.Test.the-variants.{Any, Circle, Rectangle}
 use Rattle.queries.specs.Queries.{Findings, findings, mostCells, found, searchAnswer, searchOf, queryOf, cornerBelow, cornerAbove, aroundOf, aabbOf}

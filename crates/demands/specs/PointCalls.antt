@@ -13,9 +13,9 @@ use Rattle.inserts.specs.Insert.{insertOf}
 use Rattle.moves.specs.Moves.{setPositionOf, removeOf}
 use Rattle.moves.specs.Batch.{batchOf}
 use Rattle.maintain.specs.Maintain.{maintainOf}
-use Rattle.removals.specs.RemoveMaintain.{removeMaintainOf}
-use Rattle.removals.specs.Clear.{liveSlots, clearOf}
-use Rattle.reads.specs.Reads.{liveHandles, getOf, lenOf, handlesOf}
+use Rattle.removals.specs.Meaning.RemoveMaintain.{removeMaintainOf}
+use Rattle.removals.specs.Meaning.Clear.{liveSlots, clearOf}
+use Rattle.reads.specs.Meaning.{liveHandles, getOf, lenOf, handlesOf}
 use Rattle.queries.specs.Queries.{Findings, queryOf, aroundOf, aabbOf}
 use Rattle.basics.specs.Refusals.{Refusal}
 use Rattle.demands.specs.PointAnswers.{newApplies, insertApplies, setPositionApplies, handleApplies, batchApplies, tablesApply, roomApplies, queryTests, aroundTests, aabbTests}

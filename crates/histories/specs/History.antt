@@ -11,8 +11,8 @@ use Rattle.point_tables.specs.Tables.{Tables}
 use Rattle.inserts.specs.Insert.{insertOf}
 use Rattle.moves.specs.Moves.{setPositionOf, removeOf}
 use Rattle.moves.specs.Batch.{batchOf}
-use Rattle.removals.specs.RemoveMaintain.{removeMaintainOf}
-use Rattle.removals.specs.Clear.{clearOf}
+use Rattle.removals.specs.Meaning.RemoveMaintain.{removeMaintainOf}
+use Rattle.removals.specs.Meaning.Clear.{clearOf}
 use Rattle.maintain.specs.Maintain.{maintainOf}
 
 -- a call with all that it is handed besides the tables

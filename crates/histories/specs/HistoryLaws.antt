@@ -34,15 +34,15 @@ use Rattle.moves.specs.Moves.{pended, setPositionAnswer, setPositionOf, removeA
 use Rattle.moves.specs.Batch.{Call, callOf, callsOf, tablesAfter, replies, replyRows, batched, batchAnswer, batchOf}
 use Rattle.moves.specs.MovesKeeps.{set-position-keeps, remove-keeps}
 use Rattle.moves.specs.BatchAnswerLaws.{batch-keeps}
-use Rattle.removals.specs.RemoveMaintain.{removeMaintainOf}
-use Rattle.removals.specs.RemoveLaws.{isGood, remove-done, remove-lost, remove-holds, remove-count}
-use Rattle.removals.specs.Clear.{clearOf}
-use Rattle.removals.specs.ClearLaws.{clear-refused, clear-holds, clear-counts, clear-empty}
+use Rattle.removals.specs.Meaning.RemoveMaintain.{removeMaintainOf}
+use Rattle.removals.proofs.laws.RemoveLaws.{isGood, remove-done, remove-lost, remove-holds, remove-count}
+use Rattle.removals.specs.Meaning.Clear.{clearOf}
+use Rattle.removals.proofs.laws.ClearLaws.{clear-refused, clear-holds, clear-counts, clear-empty}
 use Rattle.maintain.specs.MaintainLaws.{maintain-keeps, maintain-length}
 use Rattle.maintain.specs.Maintain.{maintainOf}
-use Rattle.reads.specs.Reads.{lenOf, liveHandles}
-use Rattle.reads.specs.ReadsLaws.{len-0}
-use Rattle.reads.specs.LenLaws.{len-used}
+use Rattle.reads.specs.Meaning.{lenOf, liveHandles}
+use Rattle.reads.proofs.laws.ReadsLaws.{len-0}
+use Rattle.reads.proofs.laws.LenLaws.{len-used}
 use Rattle.histories.specs.History.{Op, insert, setPosition, remove, batch, maintain, removeMaintain, clear, after, afterAll, accepted, putIn, takenOut, allIn, allOut}
 use Rattle.replies.specs.Replies.{count, reply}
 

@@ -5,7 +5,7 @@ use Rattle.point_tables.specs.Tables.{Tables}
 use Rattle.point_tables.specs.Outcome.{Outcome, outcome}
 use Rattle.inserts.specs.Insert.{insertOf}
 use Rattle.moves.specs.Moves.{setPositionOf, removeOf}
-use Rattle.removals.specs.RemoveMaintain.{removeMaintainOf}
+use Rattle.removals.specs.Meaning.RemoveMaintain.{removeMaintainOf}
 use Rattle.maintain.specs.Maintain.{maintainOf}
 use Rattle.printing.specs.declared.Said.{Said}
 use Rattle.printing.specs.declared.Said.the-variants.{Refused}

@@ -21,7 +21,7 @@ use Rattle.point_tables.specs.Tables.{Tables, sizeOf}
 use Rattle.point_tables.specs.Decide.{holds}
 use Rattle.inserts.specs.Insert.{insertOf}
 use Rattle.moves.specs.Moves.{setPositionOf, removeOf}
-use Rattle.removals.specs.RemoveMaintain.{removeMaintainOf}
+use Rattle.removals.specs.Meaning.RemoveMaintain.{removeMaintainOf}
 use Rattle.maintain.specs.Maintain.{maintainOf}
 use Rattle.sixteenths.specs.Sixteenth.{sixteenth}
 use Rattle.telling.specs.Places.{placeOf}

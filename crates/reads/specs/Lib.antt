@@ -1,4 +1,2 @@
 -- What the reading calls answer.
-pub mod Reads
-pub mod ReadsLaws
-pub mod LenLaws
+pub mod Meaning

@@ -1,7 +1,7 @@
 // Reading a point grid: `get`, `len`, `handles`. Each checks the tables first.
 ghost use mathlib.Core.Path.{_≡_};
 ghost use Rattle.point_tables.specs.Lent.{before};
-ghost use Rattle.reads.specs.Reads.{getOf, lenOf, handlesOf, listing};
+ghost use Rattle.reads.specs.Meaning.{getOf, lenOf, handlesOf, listing};
 use geometry::Position;
 use replies::Count;
 use slots::Handle;

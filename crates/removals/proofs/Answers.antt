@@ -11,9 +11,9 @@ use Rattle.slots.specs.HandleLaws.{good-says}
 use Rattle.point_tables.specs.Tables.{Tables, recordOn}
 use Rattle.point_tables.specs.Decide.{holds, holds-says}
 use Rattle.point_tables.specs.Outcome.{Outcome, outcome}
-use Rattle.removals.specs.RemoveMaintain.{takenOut, removeMaintainOf}
-use Rattle.removals.specs.RemoveLaws.{isGood, remove-unheld, remove-lost, remove-done}
-use Rattle.removals.specs.Steps.{Object, roomAnswer, countBy}
+use Rattle.removals.specs.Meaning.RemoveMaintain.{takenOut, removeMaintainOf}
+use Rattle.removals.proofs.laws.RemoveLaws.{isGood, remove-unheld, remove-lost, remove-done}
+use Rattle.removals.specs.Inner.{Object, roomAnswer, countBy}
 use Rattle.replies.specs.Replies.{count, reply}
 
 -- ---- `remove_maintain`: the tests

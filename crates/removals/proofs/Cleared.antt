@@ -17,10 +17,10 @@ use Rattle.point_tables.specs.Outcome.{outcome}
 use Rattle.slot_walks.specs.Live.{liveFrom}
 use Rattle.slot_walks.specs.Cleared.{clearedRows, clearedMap}
 use Rattle.replies.specs.declared.Count.{Count}
-use Rattle.removals.specs.Clear.{liveSlots, cleared, wrote, clearOf}
-use Rattle.removals.specs.LiveLaws.{live-used}
-use Rattle.removals.specs.ClearLaws.{clear-unheld, clear-short, clear-done}
-use Rattle.removals.specs.Steps.{countBy, placesOf, objsOf}
+use Rattle.removals.specs.Meaning.Clear.{liveSlots, cleared, wrote, clearOf}
+use Rattle.removals.proofs.laws.LiveLaws.{live-used}
+use Rattle.removals.proofs.laws.ClearLaws.{clear-unheld, clear-short, clear-done}
+use Rattle.removals.specs.Inner.{countBy, placesOf, objsOf}
 use Rattle.replies.specs.Replies.{count}
 
 module _ (t : Tables) (places : List (List Float)) (objs : List ℕ) (held : Bool) (e : held ≡ holds t) where

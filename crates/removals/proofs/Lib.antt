@@ -2,3 +2,4 @@
 pub mod Taken
 pub mod Answers
 pub mod Cleared
+pub mod laws

@@ -22,12 +22,12 @@ use Rattle.storage.specs.PackedLaws.{ascending-rising}
 use Rattle.objects.specs.declared.Record.{Record}
 use Rattle.point_tables.specs.Tables.{Tables, tables, counting, usedOf, rowsOf, recordOn, cellRows}
 use Rattle.point_tables.specs.Outcome.{outcome}
-use Rattle.removals.specs.RemoveMaintain.{isEmpty, entriesWithout, rowsWithout, takenOut}
-use Rattle.removals.specs.DropLaws.{rowsBy}
+use Rattle.removals.specs.Meaning.RemoveMaintain.{isEmpty, entriesWithout, rowsWithout, takenOut}
+use Rattle.removals.specs.Inner.{rowsBy}
 use Rattle.point_tables.specs.ListedLaws.{rows-in}
 use Rattle.point_tables.specs.HoldsLaws.{used-in-pool, used-in-spots, rows-in-cells}
-use Rattle.removals.specs.TakenLaws.{one-less, same-empty, new-rows}
-use Rattle.removals.specs.Steps.{Object}
+use Rattle.removals.proofs.laws.TakenLaws.{one-less, same-empty, new-rows}
+use Rattle.removals.specs.Inner.{Object}
 
 -- ---- the row of a cell, by whether its list is empty
 module _ (cells : List (List ℕ)) (rows : ℕ) (pool : List (List ℕ)) (used key : ℕ) (b : Bool) (h : Says b (Filled (under rowKey key (take used pool)))) where

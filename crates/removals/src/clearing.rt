@@ -10,8 +10,8 @@ ghost use Rattle.point_tables.specs.Tables.{counting};
 ghost use Rattle.point_tables.specs.Outcome.{outcome};
 ghost use Rattle.slot_walks.specs.Live.{liveFrom};
 ghost use Rattle.slot_walks.specs.Cleared.{clearedRows, clearedMap};
-ghost use Rattle.removals.specs.Clear.{wrote, clearOf};
-ghost use Rattle.removals.specs.Steps.{roomAnswer, countBy, placesOf, objsOf};
+ghost use Rattle.removals.specs.Meaning.Clear.{wrote, clearOf};
+ghost use Rattle.removals.specs.Inner.{roomAnswer, countBy, placesOf, objsOf};
 use replies::Count;
 
 // 9 if one of the outputs has fewer than n places, else 0.

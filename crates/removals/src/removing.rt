@@ -11,9 +11,8 @@ ghost use Rattle.storage.specs.Tables.{Rising};
 ghost use Rattle.point_tables.specs.Lent.{lent, before, after};
 ghost use Rattle.point_tables.specs.Tables.{counting, recordOn};
 ghost use Rattle.point_tables.specs.Outcome.{outcome};
-ghost use Rattle.removals.specs.RemoveMaintain.{isEmpty, takenOut, removeMaintainOf};
-ghost use Rattle.removals.specs.DropLaws.{rowsBy};
-ghost use Rattle.removals.specs.Steps.{Object};
+ghost use Rattle.removals.specs.Meaning.RemoveMaintain.{isEmpty, takenOut, removeMaintainOf};
+ghost use Rattle.removals.specs.Inner.{Object, rowsBy};
 use replies::Reply;
 use slots::Handle;
 

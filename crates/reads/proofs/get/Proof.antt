@@ -10,8 +10,8 @@ use Rattle.slots.specs.Slot.{good}
 use Rattle.point_tables.specs.Tables.{Tables, tables, recordOn}
 use Rattle.point_tables.specs.Decide.{holds, holds-says}
 use Rattle.reads.specs.declared.Got.{Got}
-use Rattle.reads.specs.Reads.{got}
-use Rattle.reads.specs.ReadsLaws.{good-inside, get-3, get-5, get-0}
+use Rattle.reads.specs.Meaning.{got}
+use Rattle.reads.proofs.laws.ReadsLaws.{good-inside, get-3, get-5, get-0}
 use Rattle.reads.proofs.get.Statement.{statement}
 use Rattle.reads.proofs.get.Tie as tie
 

@@ -9,9 +9,9 @@ use Rattle.point_tables.specs.Tables.{Tables, tables, slotsOf}
 use Rattle.point_tables.specs.Decide.{holds, holds-says}
 use Rattle.storage.specs.WrittenLaws.{length-written}
 use Rattle.replies.specs.declared.Count.{Count}
-use Rattle.reads.specs.Reads.{listing, liveHandles, lenOf}
-use Rattle.reads.specs.ReadsLaws.{len-0, len-3, len-done, len-refused, handles-3, handles-9, handles-0}
-use Rattle.reads.specs.LenLaws.{len-live}
+use Rattle.reads.specs.Meaning.{listing, liveHandles, lenOf}
+use Rattle.reads.proofs.laws.ReadsLaws.{len-0, len-3, len-done, len-refused, handles-3, handles-9, handles-0}
+use Rattle.reads.proofs.laws.LenLaws.{len-live}
 use Rattle.reads.proofs.handles.Statement.{statement}
 use Rattle.reads.proofs.handles.Tie as tie
 use Rattle.replies.specs.Replies.{count}

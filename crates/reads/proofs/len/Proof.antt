@@ -8,8 +8,8 @@ use borrow.Author.Needs.{needs}
 use Rattle.point_tables.specs.Tables.{Tables, tables, usedOf}
 use Rattle.point_tables.specs.Holds.{Holds}
 use Rattle.point_tables.specs.Decide.{holds, holds-says}
-use Rattle.reads.specs.ReadsLaws.{len-3, len-0}
-use Rattle.reads.specs.LenLaws.{len-used}
+use Rattle.reads.proofs.laws.ReadsLaws.{len-3, len-0}
+use Rattle.reads.proofs.laws.LenLaws.{len-used}
 use Rattle.reads.proofs.len.Statement.{statement}
 use Rattle.reads.proofs.len.Tie as tie
 use Rattle.replies.specs.Replies.{count}

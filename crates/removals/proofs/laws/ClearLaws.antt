@@ -17,9 +17,9 @@ use Rattle.point_tables.specs.Tables.{Tables, usedOf}
 use Rattle.point_tables.specs.Holds.{Holds}
 use Rattle.point_tables.specs.Decide.{holds, holds-says}
 use Rattle.point_tables.specs.Outcome.{Outcome, outcome}
-use Rattle.removals.specs.Clear.{liveSlots, cleared, placeOn, objOn, Written, wrote, clearAnswer, clearOf}
-use Rattle.removals.specs.LiveLaws.{live-used}
-use Rattle.removals.specs.ClearKeeps.{cleared-keeps, cleared-used}
+use Rattle.removals.specs.Meaning.Clear.{liveSlots, cleared, placeOn, objOn, Written, wrote, clearAnswer, clearOf}
+use Rattle.removals.proofs.laws.LiveLaws.{live-used}
+use Rattle.removals.proofs.laws.ClearKeeps.{cleared-keeps, cleared-used}
 use Rattle.replies.specs.Replies.{count}
 
 module _ (t : Tables) (places : List (List Float)) (objs : List ℕ) where

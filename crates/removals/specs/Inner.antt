@@ -7,6 +7,7 @@ use lib.Dec.{leb}
 use lib.Ieee.{Float, nan}
 use lib.ListN.{getD}
 use Rattle.basics.specs.Refusals.{pick}
+use Rattle.storage.specs.CellTable.{dropped}
 use Rattle.slots.specs.Slot.{live, phaseAt}
 use Rattle.point_tables.specs.Tables.{Tables, slotsOf}
 use Rattle.point_tables.specs.Holds.{Holds}
@@ -36,3 +37,7 @@ placesOf reals slots = map (placeAt reals) slots
 
 abbrev pub objsOf : List (List ℕ) → List ℕ → List ℕ
 objsOf nums slots = map (objAt nums) slots
+
+-- ---- the rows of the cells, by whether the list of k is empty
+abbrev pub rowsBy : Bool → ℕ → List (List ℕ) → List (List ℕ)
+rowsBy b k c = pick b (dropped k c) c

@@ -6,7 +6,7 @@ use Rattle.point_tables.specs.Holds.{Holds}
 use Rattle.point_tables.specs.CountLaws.{live-count}
 use Rattle.slot_walks.specs.Live.{liveFrom, handleAt}
 use Rattle.slot_walks.specs.LiveLaws as Live
-use Rattle.reads.specs.Reads.{liveHandles}
+use Rattle.reads.specs.Meaning.{liveHandles}
 
 pub len-live : (t : Tables) → length (liveHandles t) ≡ length (liveFrom 0 (t .nums))
 unfolding liveHandles

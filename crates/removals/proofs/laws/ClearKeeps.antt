@@ -16,7 +16,7 @@ use Rattle.point_tables.specs.Holds.{Counted, ListsHold, Holds}
 use Rattle.slot_walks.specs.Cleared.{clearedRow, clearedRows, clearedMap}
 use Rattle.slot_walks.specs.ClearedLaws as Slots
 use Rattle.slot_walks.specs.ClearedLaws.{cleared-map-length, cleared-map-head, cleared-slots}
-use Rattle.removals.specs.Clear.{cleared}
+use Rattle.removals.specs.Meaning.Clear.{cleared}
 use Rattle.point_tables.specs.HeadLaws.{counted-used, counted-rows, counted-size, counted-length, counted-slots}
 
 pub cleared-none : (t : Tables) (s : ℕ) → phaseAt (cleared t .nums) s ≡ live → ⊥

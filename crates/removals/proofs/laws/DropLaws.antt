@@ -17,8 +17,9 @@ use Rattle.storage.specs.Store.{Filled}
 use Rattle.storage.specs.FilterLaws.{by-test, all-map, all-both}
 use Rattle.storage.specs.KeyedLaws.{under-other, sorted-onList, length-onList}
 use Rattle.storage.specs.TakeOutLaws.{all-takeOut, sorted-takeOut, under-takeOut-other}
-use Rattle.removals.specs.RemoveMaintain.{isEmpty}
-use Rattle.removals.specs.GoneLaws.{all-onList, all-apart, pairs-onList}
+use Rattle.removals.specs.Meaning.RemoveMaintain.{isEmpty}
+use Rattle.removals.specs.Inner.{rowsBy}
+use Rattle.removals.proofs.laws.GoneLaws.{all-onList, all-apart, pairs-onList}
 use Rattle.point_tables.specs.RowLaws.{Single, PackedRows}
 
 -- ---- a cell without its row
@@ -54,10 +55,6 @@ no-key k (r ∷ l) e =
     by-test (eqb (rowKey r) k)
     (λ q. absurd (cons≢nil (rw q at e)))
     (λ q. (eqb-false (rowKey r) k q, no-key k l (rw q at e)))
-
--- ---- the rows of the cells, by whether the list of k is empty
-abbrev pub rowsBy : Bool → ℕ → List (List ℕ) → List (List ℕ)
-rowsBy b k c = pick b (dropped k c) c
 
 pub all-rowsBy : (b : Bool) (k : ℕ) (c : List (List ℕ)) (P : List ℕ → Type 0) → All P c → All P (rowsBy b k c)
 all-rowsBy true k c P a = all-dropped k c P a

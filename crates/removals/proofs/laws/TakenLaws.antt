@@ -24,14 +24,15 @@ use Rattle.slot_walks.specs.ClearedLaws.{next-not-live}
 use Rattle.objects.specs.Columns.{recordOf}
 use Rattle.point_tables.specs.Tables.{Tables, sizeOf, usedOf, rowsOf, slotsOf, recordOn, entriesIn, cellRows, Sized}
 use Rattle.point_tables.specs.Holds.{Counted, Holds}
-use Rattle.removals.specs.RemoveMaintain.{isEmpty, entriesWithout, rowsWithout, takenOut}
+use Rattle.removals.specs.Meaning.RemoveMaintain.{isEmpty, entriesWithout, rowsWithout, takenOut}
 use Rattle.point_tables.specs.EntryLaws.{written-entries}
 use Rattle.point_tables.specs.RowLaws.{PackedRows, from-rows}
 use Rattle.point_tables.specs.ListedLaws.{slotOf, Named, listing, rows-in}
 use Rattle.point_tables.specs.HoldsLaws.{used-in-pool, used-in-spots, rows-in-cells, entries-length}
 use Rattle.point_tables.specs.HeadLaws.{counted-used, counted-rows, counted-size, counted-length, counted-slots}
-use Rattle.removals.specs.GoneLaws.{some-both, some-filter, some-has}
-use Rattle.removals.specs.DropLaws.{rowsBy, rowsBy-length, packed-remove}
+use Rattle.removals.proofs.laws.GoneLaws.{some-both, some-filter, some-has}
+use Rattle.removals.proofs.laws.DropLaws.{rowsBy-length, packed-remove}
+use Rattle.removals.specs.Inner.{rowsBy}
 
 empty-rows : (l : List Entry) → isEmpty (map rowOf l) ≡ isEmpty l
 empty-rows [] = refl

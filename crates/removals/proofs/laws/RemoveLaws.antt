@@ -17,8 +17,8 @@ use Rattle.point_tables.specs.Holds.{Holds}
 use Rattle.point_tables.specs.Decide.{holds, holds-says}
 use Rattle.point_tables.specs.Outcome.{Outcome, outcome}
 use Rattle.replies.specs.declared.Reply.{Reply}
-use Rattle.removals.specs.RemoveMaintain.{takenOut, removeMaintainAnswer, removeMaintainOf}
-use Rattle.removals.specs.RemoveKeeps.{taken-keeps, taken-count}
+use Rattle.removals.specs.Meaning.RemoveMaintain.{takenOut, removeMaintainAnswer, removeMaintainOf}
+use Rattle.removals.proofs.laws.RemoveKeeps.{taken-keeps, taken-count}
 use Rattle.replies.specs.Replies.{reply}
 
 -- the handle is that of an object

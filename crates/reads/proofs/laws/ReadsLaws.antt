@@ -16,7 +16,7 @@ use Rattle.point_tables.specs.Decide.{holds, holds-says}
 use Rattle.point_tables.specs.Holds.{Holds}
 use Rattle.basics.specs.Refusals.{pick}
 use Rattle.replies.specs.declared.Count.{Count}
-use Rattle.reads.specs.Reads.{zero-position, got, listing, getAnswer, getOf, liveHandles, lenOf, handlesAnswer, handlesOf}
+use Rattle.reads.specs.Meaning.{zero-position, got, listing, getAnswer, getOf, liveHandles, lenOf, handlesAnswer, handlesOf}
 use Rattle.replies.specs.Replies.{count}
 
 both : (a b : Bool) → (a && b) ≡ true → (a ≡ true) × (b ≡ true)
