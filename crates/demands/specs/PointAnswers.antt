@@ -28,11 +28,11 @@ use Rattle.moves.specs.Moves.{setPositionAnswer, setPositionOf, removeAnswer, r
 use Rattle.moves.specs.Batch.{Batched, batched, even, batchAnswer, batchOf}
 use Rattle.maintain.specs.declared.Maintained.{Maintained}
 use Rattle.maintain.specs.Maintain.{maintainedCounts, maintainOf}
-use Rattle.removals.specs.Meaning.RemoveMaintain.{removeMaintainAnswer, removeMaintainOf}
-use Rattle.removals.specs.Meaning.Clear.{Written, wrote, liveSlots, clearAnswer, clearOf}
+use Rattle.removals.specs.Meaning.RemoveMaintain.{removeMaintainTests, removeMaintainAnswer, removeMaintainOf}
+use Rattle.removals.specs.Meaning.Clear.{Written, wrote, liveSlots, clearTests, clearAnswer, clearOf}
 use Rattle.reads.specs.declared.Got.{Got}
 use Rattle.replies.specs.declared.Count.{Count}
-use Rattle.reads.specs.Meaning.{zero-position, got, Listing, listing, liveHandles, getAnswer, getOf, lenOf, handlesAnswer, handlesOf}
+use Rattle.reads.specs.Meaning.{getTests, handlesTests, zero-position, got, Listing, listing, liveHandles, getAnswer, getOf, lenOf, handlesAnswer, handlesOf}
 use Rattle.queries.specs.declared.Test.{Test}
 use Rattle.queries.specs.declared.Test.the-variants.{Any, Circle, Rectangle}
 use Rattle.queries.specs.Queries.{Findings, findings, mostCells, found, searchAnswer, searchOf, queryOf, cornerBelow, cornerAbove, aroundOf, aabbOf}
@@ -61,10 +61,6 @@ batchApplies t kinds handles positions room = unless (even kinds handles positio
 -- `maintain` and `len`
 abbrev pub tablesApply : Tables → List Refusal
 tablesApply t = unless (holds t) 3 ∷ []
-
--- `handles` and `clear`, for n objects
-abbrev pub roomApplies : Tables → ℕ → ℕ → List Refusal
-roomApplies t n room = unless (holds t) 3 ∷ unless (leb n room) 9 ∷ []
 
 -- the queries: whether their numbers are in the domain, the cells of their range, and the findings
 abbrev pub searchApplies : Tables → Bool → ℕ → ℕ → ℕ → List Refusal
@@ -113,37 +109,37 @@ module _ (t : Tables) where
   unfolding batchOf batchAnswer
   batch-refused ks hs ps out n = refused (batchApplies t ks hs ps (length out)) _ (λ a. outcome (batched a (pick (eqb a 9) (length ks) 0) out) t) refl n
 
-  pub remove-maintain-answer : (h : Handle) → removeMaintainOf t h .result .answer ≡ firstThat (handleApplies t h)
+  pub remove-maintain-answer : (h : Handle) → removeMaintainOf t h .result .answer ≡ firstThat (removeMaintainTests t h)
   unfolding removeMaintainOf removeMaintainAnswer
-  remove-maintain-answer h = answered (λ (o : Outcome Reply). o .result .answer) (handleApplies t h) _ (λ a. outcome (reply a 0) t) refl refl refl
+  remove-maintain-answer h = answered (λ (o : Outcome Reply). o .result .answer) (removeMaintainTests t h) _ (λ a. outcome (reply a 0) t) refl refl refl
 
-  pub remove-maintain-refused : (h : Handle) → (firstThat (handleApplies t h) ≡ 0 → ⊥) → removeMaintainOf t h ≡ outcome (reply (firstThat (handleApplies t h)) 0) t
+  pub remove-maintain-refused : (h : Handle) → (firstThat (removeMaintainTests t h) ≡ 0 → ⊥) → removeMaintainOf t h ≡ outcome (reply (firstThat (removeMaintainTests t h)) 0) t
   unfolding removeMaintainOf removeMaintainAnswer
-  remove-maintain-refused h n = refused (handleApplies t h) _ (λ a. outcome (reply a 0) t) refl n
+  remove-maintain-refused h n = refused (removeMaintainTests t h) _ (λ a. outcome (reply a 0) t) refl n
 
-  pub clear-answer : (ps : List (List Float)) (os : List ℕ) → clearOf t ps os .result .returned .answer ≡ firstThat (roomApplies t (length (liveSlots t)) (min (length ps) (length os)))
+  pub clear-answer : (ps : List (List Float)) (os : List ℕ) → clearOf t ps os .result .returned .answer ≡ firstThat (clearTests t (min (length ps) (length os)))
   unfolding clearOf clearAnswer
-  clear-answer ps os = answered (λ (o : Outcome Written). o .result .returned .answer) (roomApplies t (length (liveSlots t)) (min (length ps) (length os))) _ (λ a. outcome (wrote (count a (pick (eqb a 9) (length (liveSlots t)) 0)) ps os) t) refl refl refl
+  clear-answer ps os = answered (λ (o : Outcome Written). o .result .returned .answer) (clearTests t (min (length ps) (length os))) _ (λ a. outcome (wrote (count a (pick (eqb a 9) (length (liveSlots t)) 0)) ps os) t) refl refl refl
 
-  pub clear-refused : (ps : List (List Float)) (os : List ℕ) → (firstThat (roomApplies t (length (liveSlots t)) (min (length ps) (length os))) ≡ 0 → ⊥) → clearOf t ps os ≡ outcome (wrote (count (firstThat (roomApplies t (length (liveSlots t)) (min (length ps) (length os)))) (pick (eqb (firstThat (roomApplies t (length (liveSlots t)) (min (length ps) (length os)))) 9) (length (liveSlots t)) 0)) ps os) t
+  pub clear-refused : (ps : List (List Float)) (os : List ℕ) → (firstThat (clearTests t (min (length ps) (length os))) ≡ 0 → ⊥) → clearOf t ps os ≡ outcome (wrote (count (firstThat (clearTests t (min (length ps) (length os)))) (pick (eqb (firstThat (clearTests t (min (length ps) (length os)))) 9) (length (liveSlots t)) 0)) ps os) t
   unfolding clearOf clearAnswer
-  clear-refused ps os n = refused (roomApplies t (length (liveSlots t)) (min (length ps) (length os))) _ (λ a. outcome (wrote (count a (pick (eqb a 9) (length (liveSlots t)) 0)) ps os) t) refl n
+  clear-refused ps os n = refused (clearTests t (min (length ps) (length os))) _ (λ a. outcome (wrote (count a (pick (eqb a 9) (length (liveSlots t)) 0)) ps os) t) refl n
 
-  pub get-answer : (h : Handle) → getOf t h .answer ≡ firstThat (handleApplies t h)
+  pub get-answer : (h : Handle) → getOf t h .answer ≡ firstThat (getTests t h)
   unfolding getOf getAnswer
-  get-answer h = answered (λ (o : Got). o .answer) (handleApplies t h) _ (λ a. got a zero-position 0) refl refl refl
+  get-answer h = answered (λ (o : Got). o .answer) (getTests t h) _ (λ a. got a zero-position 0) refl refl refl
 
-  pub get-refused : (h : Handle) → (firstThat (handleApplies t h) ≡ 0 → ⊥) → getOf t h ≡ got (firstThat (handleApplies t h)) zero-position 0
+  pub get-refused : (h : Handle) → (firstThat (getTests t h) ≡ 0 → ⊥) → getOf t h ≡ got (firstThat (getTests t h)) zero-position 0
   unfolding getOf getAnswer
-  get-refused h n = refused (handleApplies t h) _ (λ a. got a zero-position 0) refl n
+  get-refused h n = refused (getTests t h) _ (λ a. got a zero-position 0) refl n
 
-  pub handles-answer : (out : List (List ℕ)) → handlesOf t out .returned .answer ≡ firstThat (roomApplies t (length (liveHandles t)) (length out))
+  pub handles-answer : (out : List (List ℕ)) → handlesOf t out .returned .answer ≡ firstThat (handlesTests t out)
   unfolding handlesOf handlesAnswer
-  handles-answer out = answered (λ (o : Listing). o .returned .answer) (roomApplies t (length (liveHandles t)) (length out)) _ (λ a. listing (count a (pick (eqb a 9) (length (liveHandles t)) 0)) out) refl refl refl
+  handles-answer out = answered (λ (o : Listing). o .returned .answer) (handlesTests t out) _ (λ a. listing (count a (pick (eqb a 9) (length (liveHandles t)) 0)) out) refl refl refl
 
-  pub handles-refused : (out : List (List ℕ)) → (firstThat (roomApplies t (length (liveHandles t)) (length out)) ≡ 0 → ⊥) → handlesOf t out ≡ listing (count (firstThat (roomApplies t (length (liveHandles t)) (length out))) (pick (eqb (firstThat (roomApplies t (length (liveHandles t)) (length out))) 9) (length (liveHandles t)) 0)) out
+  pub handles-refused : (out : List (List ℕ)) → (firstThat (handlesTests t out) ≡ 0 → ⊥) → handlesOf t out ≡ listing (count (firstThat (handlesTests t out)) (pick (eqb (firstThat (handlesTests t out)) 9) (length (liveHandles t)) 0)) out
   unfolding handlesOf handlesAnswer
-  handles-refused out n = refused (roomApplies t (length (liveHandles t)) (length out)) _ (λ a. listing (count a (pick (eqb a 9) (length (liveHandles t)) 0)) out) refl n
+  handles-refused out n = refused (handlesTests t out) _ (λ a. listing (count a (pick (eqb a 9) (length (liveHandles t)) 0)) out) refl n
 
   pub maintain-answer : maintainOf t .result .answer ≡ firstThat (tablesApply t)
   unfolding maintainOf

@@ -13,12 +13,12 @@ use Rattle.inserts.specs.Insert.{insertOf}
 use Rattle.moves.specs.Moves.{setPositionOf, removeOf}
 use Rattle.moves.specs.Batch.{batchOf}
 use Rattle.maintain.specs.Maintain.{maintainOf}
-use Rattle.removals.specs.Meaning.RemoveMaintain.{removeMaintainOf}
-use Rattle.removals.specs.Meaning.Clear.{liveSlots, clearOf}
-use Rattle.reads.specs.Meaning.{liveHandles, getOf, lenOf, handlesOf}
+use Rattle.removals.specs.Meaning.RemoveMaintain.{removeMaintainTests, removeMaintainOf}
+use Rattle.removals.specs.Meaning.Clear.{clearTests, clearOf}
+use Rattle.reads.specs.Meaning.{getTests, handlesTests, getOf, lenOf, handlesOf}
 use Rattle.queries.specs.Queries.{Findings, queryOf, aroundOf, aabbOf}
 use Rattle.basics.specs.Refusals.{Refusal}
-use Rattle.demands.specs.PointAnswers.{newApplies, insertApplies, setPositionApplies, handleApplies, batchApplies, tablesApply, roomApplies, queryTests, aroundTests, aabbTests}
+use Rattle.demands.specs.PointAnswers.{newApplies, insertApplies, setPositionApplies, handleApplies, batchApplies, tablesApply, queryTests, aroundTests, aabbTests}
 
 pub data PointCall : Type 0 where
   new : ℕ → PointCall
@@ -101,11 +101,11 @@ refusals t (setPosition h p) = setPositionApplies t h p
 refusals t (remove h) = handleApplies t h
 refusals t (batch ks hs ps out) = batchApplies t ks hs ps (length out)
 refusals t maintain = tablesApply t
-refusals t (removeMaintain h) = handleApplies t h
-refusals t (clear ps os) = roomApplies t (length (liveSlots t)) (min (length ps) (length os))
-refusals t (get h) = handleApplies t h
+refusals t (removeMaintain h) = removeMaintainTests t h
+refusals t (clear ps os) = clearTests t (min (length ps) (length os))
+refusals t (get h) = getTests t h
 refusals t len = tablesApply t
-refusals t (handles out) = roomApplies t (length (liveHandles t)) (length out)
+refusals t (handles out) = handlesTests t out
 refusals t (query ll ur hs ps) = queryTests t ll ur hs ps
 refusals t (queryAround c r hs ps) = aroundTests t c r hs ps
 refusals t (queryAabb a b hs ps) = aabbTests t a b hs ps

@@ -7,7 +7,7 @@ use lib.IntN.{pos}
 use lib.Ieee.{Float, fin}
 use mathlib.Core.Bool.{false}
 use lib.ListN.{length}
-use Rattle.basics.specs.Refusals.{unless, firstOf, pick}
+use Rattle.basics.specs.Refusals.{Refusal, unless, firstOf, pick}
 use Rattle.geometry.specs.declared.Position.{Position}
 use Rattle.slots.specs.declared.Handle.{Handle}
 use Rattle.slots.specs.Slot.{good}
@@ -26,8 +26,11 @@ abbrev pub got : ℕ → Position → ℕ → Got
 got a p d = record { answer = a; position = p; obj = d }
 
 -- ---- get
+abbrev pub getTests : Tables → Handle → List Refusal
+getTests t h = unless (holds t) 3 ∷ unless (good (t .nums) (h .slot) (h .version)) 5 ∷ []
+
 unfoldable pub getAnswer : Tables → Handle → ℕ
-getAnswer t h = firstOf (unless (holds t) 3 ∷ unless (good (t .nums) (h .slot) (h .version)) 5 ∷ [])
+getAnswer t h = firstOf (getTests t h)
 
 unfoldable pub getOf : Tables → Handle → Got
 unfolding getAnswer
@@ -51,9 +54,12 @@ pub record Listing : Type 0 where
 abbrev pub listing : Count → List (List ℕ) → Listing
 listing c o = record { returned = c; out = o }
 
+abbrev pub handlesTests : Tables → List (List ℕ) → List Refusal
+handlesTests t out = unless (holds t) 3 ∷ unless (leb (length (liveHandles t)) (length out)) 9 ∷ []
+
 unfoldable pub handlesAnswer : Tables → List (List ℕ) → ℕ
 unfolding liveHandles
-handlesAnswer t out = firstOf (unless (holds t) 3 ∷ unless (leb (length (liveHandles t)) (length out)) 9 ∷ [])
+handlesAnswer t out = firstOf (handlesTests t out)
 
 unfoldable pub handlesOf : Tables → List (List ℕ) → Listing
 unfolding liveHandles handlesAnswer

@@ -4,7 +4,7 @@ use mathlib.Core.List.{List, [], _∷_, map}
 use lib.Dec.{eqb, leb}
 use lib.Ieee.{Float}
 use lib.ListN.{length}
-use Rattle.basics.specs.Refusals.{unless, firstOf, pick}
+use Rattle.basics.specs.Refusals.{Refusal, unless, firstOf, pick}
 use Rattle.storage.specs.Keyed.{written}
 use Rattle.slot_walks.specs.Live.{liveFrom}
 use Rattle.slot_walks.specs.Cleared.{clearedRows, clearedMap}
@@ -38,9 +38,12 @@ pub record Written : Type 0 where
 abbrev pub wrote : Count → List (List Float) → List ℕ → Written
 wrote c p o = record { returned = c; places = p; objs = o }
 
+abbrev pub clearTests : Tables → ℕ → List Refusal
+clearTests t room = unless (holds t) 3 ∷ unless (leb (length (liveSlots t)) room) 9 ∷ []
+
 unfoldable pub clearAnswer : Tables → ℕ → ℕ
 unfolding liveSlots
-clearAnswer t room = firstOf (unless (holds t) 3 ∷ unless (leb (length (liveSlots t)) room) 9 ∷ [])
+clearAnswer t room = firstOf (clearTests t room)
 
 unfoldable pub clearOf : Tables → List (List Float) → List ℕ → Outcome Written
 unfolding liveSlots clearAnswer cleared

@@ -4,7 +4,7 @@ use mathlib.Core.Bool.{Bool, true, false}
 use mathlib.Core.List.{List, [], _∷_, map}
 use lib.Dec.{eqb}
 use lib.ListN.{length}
-use Rattle.basics.specs.Refusals.{unless, firstOf, pick}
+use Rattle.basics.specs.Refusals.{Refusal, unless, firstOf, pick}
 use Rattle.cells.specs.Key.{keyOf}
 use Rattle.slots.specs.declared.Handle.{Handle}
 use Rattle.slots.specs.Slot.{good, emptiedNums, emptiedMap}
@@ -38,8 +38,11 @@ takenOut t s =
     (written (map spotOf (entriesWithout t s)) (t .spots))
     (written (rowsWithout t s) (t .cells))
 
+abbrev pub removeMaintainTests : Tables → Handle → List Refusal
+removeMaintainTests t h = unless (holds t) 3 ∷ unless (good (t .nums) (h .slot) (h .version)) 5 ∷ []
+
 unfoldable pub removeMaintainAnswer : Tables → Handle → ℕ
-removeMaintainAnswer t h = firstOf (unless (holds t) 3 ∷ unless (good (t .nums) (h .slot) (h .version)) 5 ∷ [])
+removeMaintainAnswer t h = firstOf (removeMaintainTests t h)
 
 unfoldable pub removeMaintainOf : Tables → Handle → Outcome Reply
 unfolding removeMaintainAnswer takenOut
