@@ -32,7 +32,7 @@ use Rattle.removals.specs.Meaning.RemoveMaintain.{removeMaintainTests, removeMa
 use Rattle.removals.specs.Meaning.Clear.{Written, wrote, liveSlots, clearTests, clearAnswer, clearOf}
 use Rattle.reads.specs.declared.Got.{Got}
 use Rattle.replies.specs.declared.Count.{Count}
-use Rattle.reads.specs.Meaning.{getTests, handlesTests, zero-position, got, Listing, listing, liveHandles, getAnswer, getOf, lenOf, handlesAnswer, handlesOf}
+use Rattle.reads.specs.Meaning.{lenTests, getTests, handlesTests, zero-position, got, Listing, listing, liveHandles, getOf, lenOf, handlesOf}
 use Rattle.queries.specs.declared.Test.{Test}
 use Rattle.queries.specs.declared.Test.the-variants.{Any, Circle, Rectangle}
 use Rattle.queries.specs.Queries.{Findings, findings, mostCells, found, searchAnswer, searchOf, queryOf, cornerBelow, cornerAbove, aroundOf, aabbOf}
@@ -126,19 +126,19 @@ module _ (t : Tables) where
   clear-refused ps os n = refused (clearTests t (min (length ps) (length os))) _ (λ a. outcome (wrote (count a (pick (eqb a 9) (length (liveSlots t)) 0)) ps os) t) refl n
 
   pub get-answer : (h : Handle) → getOf t h .answer ≡ firstThat (getTests t h)
-  unfolding getOf getAnswer
+  unfolding getOf
   get-answer h = answered (λ (o : Got). o .answer) (getTests t h) _ (λ a. got a zero-position 0) refl refl refl
 
   pub get-refused : (h : Handle) → (firstThat (getTests t h) ≡ 0 → ⊥) → getOf t h ≡ got (firstThat (getTests t h)) zero-position 0
-  unfolding getOf getAnswer
+  unfolding getOf
   get-refused h n = refused (getTests t h) _ (λ a. got a zero-position 0) refl n
 
   pub handles-answer : (out : List (List ℕ)) → handlesOf t out .returned .answer ≡ firstThat (handlesTests t out)
-  unfolding handlesOf handlesAnswer
+  unfolding handlesOf
   handles-answer out = answered (λ (o : Listing). o .returned .answer) (handlesTests t out) _ (λ a. listing (count a (pick (eqb a 9) (length (liveHandles t)) 0)) out) refl refl refl
 
   pub handles-refused : (out : List (List ℕ)) → (firstThat (handlesTests t out) ≡ 0 → ⊥) → handlesOf t out ≡ listing (count (firstThat (handlesTests t out)) (pick (eqb (firstThat (handlesTests t out)) 9) (length (liveHandles t)) 0)) out
-  unfolding handlesOf handlesAnswer
+  unfolding handlesOf
   handles-refused out n = refused (handlesTests t out) _ (λ a. listing (count a (pick (eqb a 9) (length (liveHandles t)) 0)) out) refl n
 
   pub maintain-answer : maintainOf t .result .answer ≡ firstThat (tablesApply t)
@@ -149,13 +149,13 @@ module _ (t : Tables) where
   unfolding maintainOf
   maintain-refused n = not-held (holds t) _ _ n
 
-  pub len-answer : lenOf t .answer ≡ firstThat (tablesApply t)
+  pub len-answer : lenOf t .answer ≡ firstThat (lenTests t)
   unfolding lenOf
-  len-answer = by-held (λ (o : Count). o .answer) (holds t) _ _ refl refl
+  len-answer = answered (λ (o : Count). o .answer) (lenTests t) _ (λ a. count a 0) refl refl refl
 
-  pub len-refused : (firstThat (tablesApply t) ≡ 0 → ⊥) → lenOf t ≡ count 3 0
+  pub len-refused : (firstThat (lenTests t) ≡ 0 → ⊥) → lenOf t ≡ count (firstThat (lenTests t)) 0
   unfolding lenOf
-  len-refused n = not-held (holds t) _ _ n
+  len-refused n = refused (lenTests t) _ (λ a. count a 0) refl n
 
   -- the three queries are one search
   module _ (ok : Bool) (ll ur : Position) (test : Test) (hs : List (List ℕ)) (ps : List (List Float)) where

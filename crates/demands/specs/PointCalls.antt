@@ -15,7 +15,7 @@ use Rattle.moves.specs.Batch.{batchOf}
 use Rattle.maintain.specs.Maintain.{maintainOf}
 use Rattle.removals.specs.Meaning.RemoveMaintain.{removeMaintainTests, removeMaintainOf}
 use Rattle.removals.specs.Meaning.Clear.{clearTests, clearOf}
-use Rattle.reads.specs.Meaning.{getTests, handlesTests, getOf, lenOf, handlesOf}
+use Rattle.reads.specs.Meaning.{getTests, lenTests, handlesTests, getOf, lenOf, handlesOf}
 use Rattle.queries.specs.Queries.{Findings, queryOf, aroundOf, aabbOf}
 use Rattle.basics.specs.Refusals.{Refusal}
 use Rattle.demands.specs.PointAnswers.{newApplies, insertApplies, setPositionApplies, handleApplies, batchApplies, tablesApply, queryTests, aroundTests, aabbTests}
@@ -104,7 +104,7 @@ refusals t maintain = tablesApply t
 refusals t (removeMaintain h) = removeMaintainTests t h
 refusals t (clear ps os) = clearTests t (min (length ps) (length os))
 refusals t (get h) = getTests t h
-refusals t len = tablesApply t
+refusals t len = lenTests t
 refusals t (handles out) = handlesTests t out
 refusals t (query ll ur hs ps) = queryTests t ll ur hs ps
 refusals t (queryAround c r hs ps) = aroundTests t c r hs ps

@@ -25,26 +25,28 @@ zero-position = record { x = fin false 0 (pos 0); y = fin false 0 (pos 0) }
 abbrev pub got : ℕ → Position → ℕ → Got
 got a p d = record { answer = a; position = p; obj = d }
 
+-- what a call gives: what it does if its tests pass, else what it says to the first that does not (belongs in basics/specs/Refusals)
+abbrev pub byTests : {R : Type 0} → List Refusal → R → (ℕ → R) → R
+byTests rs done refused = pick (eqb (firstOf rs) 0) done (refused (firstOf rs))
+
 -- ---- get
 abbrev pub getTests : Tables → Handle → List Refusal
 getTests t h = unless (holds t) 3 ∷ unless (good (t .nums) (h .slot) (h .version)) 5 ∷ []
 
-unfoldable pub getAnswer : Tables → Handle → ℕ
-getAnswer t h = firstOf (getTests t h)
-
 unfoldable pub getOf : Tables → Handle → Got
-unfolding getAnswer
-getOf t h =
-    pick (eqb (getAnswer t h) 0) (got 0 (recordOn t (h .slot) .position) (recordOn t (h .slot) .obj)) (got (getAnswer t h) zero-position 0)
+getOf t h = byTests (getTests t h) (got 0 (recordOn t (h .slot) .position) (recordOn t (h .slot) .obj)) (λ a. got a zero-position 0)
 
 -- ---- the handles of the live slots, as rows (slot, version), ascending by slot
 unfoldable pub liveHandles : Tables → List (List ℕ)
 liveHandles t = handlesIn (t .nums)
 
 -- ---- len: the number of objects
+abbrev pub lenTests : Tables → List Refusal
+lenTests t = unless (holds t) 3 ∷ []
+
 unfoldable pub lenOf : Tables → Count
 unfolding liveHandles
-lenOf t = pick (holds t) (count 0 (length (liveHandles t))) (count 3 0)
+lenOf t = byTests (lenTests t) (count 0 (length (liveHandles t))) (λ a. count a 0)
 
 -- ---- handles: what it returns and the output after it; 9 returns the number found
 pub record Listing : Type 0 where
@@ -57,13 +59,9 @@ listing c o = record { returned = c; out = o }
 abbrev pub handlesTests : Tables → List (List ℕ) → List Refusal
 handlesTests t out = unless (holds t) 3 ∷ unless (leb (length (liveHandles t)) (length out)) 9 ∷ []
 
-unfoldable pub handlesAnswer : Tables → List (List ℕ) → ℕ
-unfolding liveHandles
-handlesAnswer t out = firstOf (handlesTests t out)
-
 unfoldable pub handlesOf : Tables → List (List ℕ) → Listing
-unfolding liveHandles handlesAnswer
+unfolding liveHandles
 handlesOf t out =
-    pick (eqb (handlesAnswer t out) 0)
+    byTests (handlesTests t out)
     (listing (count 0 (length (liveHandles t))) (written (liveHandles t) out))
-    (listing (count (handlesAnswer t out) (pick (eqb (handlesAnswer t out) 9) (length (liveHandles t)) 0)) out)
+    (λ a. listing (count a (pick (eqb a 9) (length (liveHandles t)) 0)) out)

@@ -14,9 +14,9 @@ use Rattle.storage.specs.Keyed.{written}
 use Rattle.point_tables.specs.Tables.{Tables, slotsOf, recordOn}
 use Rattle.point_tables.specs.Decide.{holds, holds-says}
 use Rattle.point_tables.specs.Holds.{Holds}
-use Rattle.basics.specs.Refusals.{pick}
+use Rattle.basics.specs.Refusals.{unless, pick}
 use Rattle.replies.specs.declared.Count.{Count}
-use Rattle.reads.specs.Meaning.{zero-position, got, listing, getAnswer, getOf, liveHandles, lenOf, handlesAnswer, handlesOf}
+use Rattle.reads.specs.Meaning.{byTests, zero-position, got, listing, getOf, liveHandles, lenOf, handlesOf}
 use Rattle.replies.specs.Replies.{count}
 
 both : (a b : Bool) → (a && b) ≡ true → (a ≡ true) × (b ≡ true)
@@ -30,15 +30,15 @@ good-inside t h e = ltb-true _ _ (both (ltb (h .slot) (slotsOf t)) (eqb (phaseAt
 
 module _ (t : Tables) (h : Handle) where
   pub get-3 : holds t ≡ false → got 3 zero-position 0 ≡ getOf t h
-  unfolding getOf getAnswer
+  unfolding getOf
   get-3 e = simp e
 
   pub get-5 : holds t ≡ true → good (t .nums) (h .slot) (h .version) ≡ false → got 5 zero-position 0 ≡ getOf t h
-  unfolding getOf getAnswer
+  unfolding getOf
   get-5 e f = simp (e, f)
 
   pub get-0 : holds t ≡ true → good (t .nums) (h .slot) (h .version) ≡ true → got 0 (recordOn t (h .slot) .position) (recordOn t (h .slot) .obj) ≡ getOf t h
-  unfolding getOf getAnswer
+  unfolding getOf
   get-0 e f = simp (e, f)
 
 module _ (t : Tables) where
@@ -52,20 +52,20 @@ module _ (t : Tables) where
 
 module _ (t : Tables) (out : List (List ℕ)) where
   pub handles-3 : holds t ≡ false → listing (count 3 0) out ≡ handlesOf t out
-  unfolding handlesOf handlesAnswer
+  unfolding handlesOf
   handles-3 e = simp e
 
   pub handles-9 : holds t ≡ true → length out < length (liveHandles t) → listing (count 9 (length (liveHandles t))) out ≡ handlesOf t out
-  unfolding handlesOf handlesAnswer
+  unfolding handlesOf
   handles-9 e l = simp (e, lt-leb _ _ l)
 
   pub handles-0 : holds t ≡ true → length (liveHandles t) ≤ length out → listing (count 0 (length (liveHandles t))) (written (liveHandles t) out) ≡ handlesOf t out
-  unfolding handlesOf handlesAnswer
+  unfolding handlesOf
   handles-0 e l = simp (e, le-leb _ _ l)
 
 -- what `len` says: 0 with the number of handles on tables that hold a grid, else 3
 module _ (t : Tables) where
-  by-verdict : (b : Bool) (n : ℕ) → pick b (count 0 n) (count 3 0) .answer ≡ 0 → b ≡ true
+  by-verdict : (b : Bool) (n : ℕ) → byTests (unless b 3 ∷ []) (count 0 n) (λ a. count a 0) .answer ≡ 0 → b ≡ true
   by-verdict true n e = refl
   by-verdict false n e = absurd (omega arith)
 
