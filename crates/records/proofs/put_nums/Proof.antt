@@ -1,0 +1,34 @@
+use borrow.Author.Needs.{needs}
+use Rattle.records.proofs.put_nums.Statement.{statement}
+use Rattle.records.proofs.put_nums.Tie as tie
+use Rattle.records.proofs.put_nums.Reads as reads
+use Rattle.records.proofs.put_nums.Lts as lts
+use Rattle.records.proofs.tag_of.Reads as tag-of-reads
+
+-- src/lib.rt:72:13
+tag-of-requires : tie.Need-tag-of-requires
+tag-of-requires c κs = search needs
+
+-- src/lib.rt:73:9
+mul-t9 : tie.Need-mul-t9
+mul-t9 c = search needs
+
+-- src/lib.rt:73:9
+slice-set-from-nums : tie.Need-slice-set-from-nums
+slice-set-from-nums c = search needs
+
+-- src/lib.rt:67:1
+same-length : tie.Need-same-length
+same-length c = search needs
+
+-- src/lib.rt:67:1
+returns : tie.Need-returns
+returns c = ?
+
+-- src/lib.rt:67:1
+returns-2 : tie.Need-returns-2
+returns-2 c = ?
+
+pub put-nums-spec : {M : Type 1} → statement M
+put-nums-spec =
+    tie.close (tie.spec tag-of-requires mul-t9 slice-set-from-nums same-length returns returns-2)

@@ -1,0 +1,181 @@
+// The object records as one lent table, a record for each slot: the Rust's SlotMap of StoreObject. The columns that the core works on are
+// lent as scratch: a call spreads the records into them, runs the core's call, and gathers the records again.
+ghost use mathlib.Core.Path.{_≡_};
+ghost use Prim.Native.Nat.{ℕ, _<_};
+ghost use lib.ListN.{length, getD, set};
+ghost use Rattle.objects.specs.Columns.{tagOf, pendingOf, targetOf, numsOf, realsOf, intsOf};
+ghost use Rattle.point_tables.specs.Lent.{lent};
+ghost use Rattle.records.specs.Spread.{noRecord, laid, gathered, rowOr, besides};
+ghost use Rattle.records.specs.Calls.{seen, setPositionFor, setPositionOn};
+ghost use Rattle.replies.specs.Replies.{reply};
+ghost use Rattle.point_tables.specs.Outcome.{outcome};
+use cells::Cell;
+use geometry::Position;
+use objects::Record;
+use objects::State;
+use slots::Handle;
+
+// ---- one record
+pub fn record_at(records: &[Record], i: usize) -> Record
+    requires { ⌜ i < length (now records) ⌝ }
+    ensures { λ r. ⌜ r ≡ getD (now (records .entry)) i noRecord ⌝ }
+{
+    records[i]
+}
+
+pub fn put_record(records: &mut [Record], i: usize, r: Record)
+    requires { ⌜ i < length (now records) ⌝ }
+    ensures { λ _. ⌜ now (records .exit) ≡ set (now (records .entry)) i r ⌝ }
+{
+    records[i] = r;
+}
+
+// ---- the rows of a record
+fn tag_of(s: State) -> u32
+    ensures { λ r. ⌜ r ≡ tagOf s ⌝ }
+{
+    match s {
+        State::Unchanged => 0,
+        State::NewPos(_) => 1,
+        State::Relocate(_, _) => 2,
+        State::Removed => 3,
+    }
+}
+
+fn pending_of(s: State, p: Position) -> Position
+    ensures { λ r. ⌜ r ≡ pendingOf s p ⌝ }
+{
+    match s {
+        State::Unchanged => p,
+        State::NewPos(q) => q,
+        State::Relocate(q, _) => q,
+        State::Removed => p,
+    }
+}
+
+fn target_of(s: State, c: Cell) -> Cell
+    ensures { λ r. ⌜ r ≡ targetOf s c ⌝ }
+{
+    match s {
+        State::Unchanged => c,
+        State::NewPos(_) => c,
+        State::Relocate(_, d) => d,
+        State::Removed => c,
+    }
+}
+
+pub fn put_nums(nums: &mut [[u32; 4]], i: usize, r: Record)
+    ensures { λ _. ⌜ now (nums .exit) ≡ set (now (nums .entry)) i (numsOf r) ⌝ }
+{
+    if i < nums.len() {
+        let s = r.state;
+        let t = tag_of(s);
+        nums[i] = [r.version, r.phase, r.obj, t];
+    }
+}
+
+pub fn put_reals(reals: &mut [[f32; 4]], i: usize, r: Record)
+    ensures { λ _. ⌜ now (reals .exit) ≡ set (now (reals .entry)) i (realsOf r) ⌝ }
+{
+    if i < reals.len() {
+        let p = r.position;
+        let s = r.state;
+        let q = pending_of(s, p);
+        reals[i] = [p.x, p.y, q.x, q.y];
+    }
+}
+
+pub fn put_ints(ints: &mut [[i32; 4]], i: usize, r: Record)
+    ensures { λ _. ⌜ now (ints .exit) ≡ set (now (ints .entry)) i (intsOf r) ⌝ }
+{
+    if i < ints.len() {
+        let c = r.cell;
+        let s = r.state;
+        let d = target_of(s, c);
+        ints[i] = [c.x, c.y, d.x, d.y];
+    }
+}
+
+// The record of row i of the columns; r where a column has no such row.
+pub fn row_or(nums: &[[u32; 4]], reals: &[[f32; 4]], ints: &[[i32; 4]], i: usize, r: Record) -> Record
+    ensures { λ q. ⌜ q ≡ rowOr (now (nums .entry)) (now (reals .entry)) (now (ints .entry)) i r ⌝ }
+{
+    if i < nums.len() {
+        if i < reals.len() {
+            if i < ints.len() {
+                return objects::load(nums, reals, ints, i);
+            }
+        }
+    }
+    r
+}
+
+// ---- all records
+pub fn spread(records: &[Record], nums: &mut [[u32; 4]], reals: &mut [[f32; 4]], ints: &mut [[i32; 4]])
+    ensures { λ _. ⌜ (now (nums .exit) ≡ laid numsOf (now (records .entry)) (now (nums .entry)))
+        × (now (reals .exit) ≡ laid realsOf (now (records .entry)) (now (reals .entry)))
+        × (now (ints .exit) ≡ laid intsOf (now (records .entry)) (now (ints .entry))) ⌝ }
+{
+    let mut i = 0;
+    while i < records.len() {
+        let r = record_at(records, i);
+        put_nums(nums, i, r);
+        put_reals(reals, i, r);
+        put_ints(ints, i, r);
+        i = i + 1;
+    }
+}
+
+pub fn gather(records: &mut [Record], nums: &[[u32; 4]], reals: &[[f32; 4]], ints: &[[i32; 4]])
+    ensures { λ _. ⌜ now (records .exit) ≡ gathered (now (nums .entry)) (now (reals .entry)) (now (ints .entry)) (now (records .entry)) ⌝ }
+{
+    let mut i = 0;
+    while i < records.len() {
+        let r = record_at(records, i);
+        let q = row_or(nums, reals, ints, i, r);
+        put_record(records, i, q);
+        i = i + 1;
+    }
+}
+
+// ---- a call. The core's, with 3 where the columns have not n rows.
+pub fn set_position_for(
+    n: usize,
+    nums: &mut [[u32; 4]],
+    reals: &mut [[f32; 4]],
+    ints: &mut [[i32; 4]],
+    map: &[u64],
+    pool: &[[u64; 2]],
+    spots: &[[f32; 2]],
+    cells: &mut [[u64; 2]],
+    h: Handle,
+    at: Position,
+) -> u32
+    ensures { λ r. ⌜ outcome (reply r 0) (lent (nums .exit) (reals .exit) (ints .exit) (map .entry) (pool .entry) (spots .entry) (cells .exit)) ≡ setPositionFor n (lent (nums .entry) (reals .entry) (ints .entry) (map .entry) (pool .entry) (spots .entry) (cells .entry)) h at ⌝ }
+{
+    if n != nums.len() {
+        return 3;
+    }
+    points::set_position(nums, reals, ints, map, pool, spots, cells, h, at)
+}
+
+pub fn set_position(
+    records: &mut [Record],
+    nums: &mut [[u32; 4]],
+    reals: &mut [[f32; 4]],
+    ints: &mut [[i32; 4]],
+    map: &[u64],
+    pool: &[[u64; 2]],
+    spots: &[[f32; 2]],
+    cells: &mut [[u64; 2]],
+    h: Handle,
+    at: Position,
+) -> u32
+    ensures { λ r. ⌜ seen (reply r 0) (now (records .exit)) (lent (nums .exit) (reals .exit) (ints .exit) (map .entry) (pool .entry) (spots .entry) (cells .exit)) ≡ setPositionOn (now (records .entry)) (lent (nums .entry) (reals .entry) (ints .entry) (map .entry) (pool .entry) (spots .entry) (cells .entry)) h at ⌝ }
+{
+    spread(records, nums, reals, ints);
+    let n = records.len();
+    let r = set_position_for(n, nums, reals, ints, map, pool, spots, cells, h, at);
+    gather(records, nums, reals, ints);
+    r
+}
