@@ -1,3 +1,14 @@
+-- `records::put_ints` meets its contract. Assumes nothing.
+use lib.IntN.{ℤ}
+use Rattle.cells.specs.declared.Cell.{Cell}
+use Rattle.objects.specs.declared.Record.{Record}
+use Rattle.objects.specs.Columns.{targetOf, intsOf}
+use Rattle.objects.proofs.Laws.{back}
+use mathlib.Core.Path.{_≡_, sym, ap, _∙_}
+use mathlib.Core.List.{List, [], _∷_}
+use Prim.Native.Nat.{ℕ}
+use lib.ListN.{set}
+use Rattle.records.proofs.Laws.{set-past}
 use borrow.Author.Needs.{needs}
 use Rattle.records.proofs.put_ints.Statement.{statement}
 use Rattle.records.proofs.put_ints.Tie as tie
@@ -22,12 +33,15 @@ same-length : tie.Need-same-length
 same-length c = search needs
 
 -- src/lib.rt:88:1
+made : (zs : List (List ℤ)) (i : ℕ) (r : Record) (d : Cell) (x y u v : ℤ) → d ≡ targetOf (r .state) (r .cell) → x ≡ r .cell .x → y ≡ r .cell .y → u ≡ d .x → v ≡ d .y → set zs i (x ∷ y ∷ u ∷ v ∷ []) ≡ set zs i (intsOf r)
+made zs i r d x y u v ed ex ey eu ev = cc
+
 returns : tie.Need-returns
-returns c = ?
+returns c = let e = c .before in let a = e .before .before .before .before .args in made (a .ints .now) (a .i) (a .r) _ _ _ _ _ (e .before .target-of .ensures) (back (e .struct-told .given .0 .1)) (back (e .struct-told .given .1 .0 .1)) (back (c .struct-told2 .given .0 .1)) (back (c .struct-told2 .given .1 .0 .1))
 
 -- src/lib.rt:88:1
 returns-2 : tie.Need-returns-2
-returns-2 c = ?
+returns-2 c = let a = c .before .args in set-past (a .ints .now) (a .i) _ (c .if1 .left)
 
 pub put-ints-spec : {M : Type 1} → statement M
 put-ints-spec =

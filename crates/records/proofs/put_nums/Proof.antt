@@ -1,3 +1,9 @@
+-- `records::put_nums` meets its contract. Assumes nothing.
+use mathlib.Core.Path.{_≡_, sym, ap, _∙_}
+use mathlib.Core.List.{List, [], _∷_}
+use Prim.Native.Nat.{ℕ}
+use lib.ListN.{set}
+use Rattle.records.proofs.Laws.{set-past}
 use borrow.Author.Needs.{needs}
 use Rattle.records.proofs.put_nums.Statement.{statement}
 use Rattle.records.proofs.put_nums.Tie as tie
@@ -23,11 +29,11 @@ same-length c = search needs
 
 -- src/lib.rt:67:1
 returns : tie.Need-returns
-returns c = ?
+returns c = let a = c .before .before .args in ap (λ (t : ℕ). set (a .nums .now) (a .i) (a .r .version ∷ a .r .phase ∷ a .r .obj ∷ t ∷ [])) (c .tag-of .ensures)
 
 -- src/lib.rt:67:1
 returns-2 : tie.Need-returns-2
-returns-2 c = ?
+returns-2 c = let a = c .before .args in set-past (a .nums .now) (a .i) _ (c .if1 .left)
 
 pub put-nums-spec : {M : Type 1} → statement M
 put-nums-spec =

@@ -1,3 +1,10 @@
+-- `records::put_reals` meets its contract. Assumes nothing.
+use Rattle.geometry.specs.declared.Position.{Position}
+use mathlib.Core.Path.{_≡_, sym, ap, _∙_}
+use mathlib.Core.List.{List, [], _∷_}
+use Prim.Native.Nat.{ℕ}
+use lib.ListN.{set}
+use Rattle.records.proofs.Laws.{set-past}
 use borrow.Author.Needs.{needs}
 use Rattle.records.proofs.put_reals.Statement.{statement}
 use Rattle.records.proofs.put_reals.Tie as tie
@@ -23,11 +30,11 @@ same-length c = search needs
 
 -- src/lib.rt:77:1
 returns : tie.Need-returns
-returns c = ?
+returns c = let a = c .before .before .before .args in ap (λ (q : Position). set (a .reals .now) (a .i) (a .r .position .x ∷ a .r .position .y ∷ q .x ∷ q .y ∷ [])) (c .pending-of .ensures)
 
 -- src/lib.rt:77:1
 returns-2 : tie.Need-returns-2
-returns-2 c = ?
+returns-2 c = let a = c .before .args in set-past (a .reals .now) (a .i) _ (c .if1 .left)
 
 pub put-reals-spec : {M : Type 1} → statement M
 put-reals-spec =

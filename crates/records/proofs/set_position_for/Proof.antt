@@ -1,3 +1,8 @@
+-- `records::set_position_for` meets its contract. Assumes nothing.
+use mathlib.Core.Path.{_≡_, sym, _∙_}
+use lib.ListN.{length}
+use borrow.Author.Tests.{eq-eqb, ne-eqb}
+use Rattle.records.proofs.Laws.{pick-true, pick-false}
 use borrow.Author.Needs.{needs}
 use Rattle.records.proofs.set_position_for.Statement.{statement}
 use Rattle.records.proofs.set_position_for.Tie as tie
@@ -7,7 +12,7 @@ use Rattle.points.proofs.set_position.Reads as set-position-reads
 
 -- src/lib.rt:157:9
 returns : tie.Need-returns
-returns c = ?
+returns c = let a = c .before .before .args in sym (pick-false _ _ _ (ne-eqb (a .n) (length (a .nums .now)) (c .if1 .taken)))
 
 -- src/lib.rt:159:5
 set-position-requires : tie.Need-set-position-requires
@@ -31,7 +36,7 @@ same-length-4 c = search needs
 
 -- src/lib.rt:142:1
 returns-2 : tie.Need-returns-2
-returns-2 c = ?
+returns-2 c = let a = c .before .before .before .before .before .before .before .before .before .before .before .args in c .before .before .before .before .set-position .ensures ∙ sym (pick-true _ _ _ (eq-eqb (a .n) (length (a .nums .now)) (c .before .before .before .before .before .before .before .before .before .if1 .left)))
 
 pub set-position-for-spec : {M : Type 1} → statement M
 set-position-for-spec =
