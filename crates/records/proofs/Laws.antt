@@ -136,3 +136,10 @@ gathered-next (n ∷ ns) (q ∷ qs) (z ∷ zs) (r ∷ rs) zero l = ap (λ (x : R
 gathered-next (n ∷ ns) (q ∷ qs) (z ∷ zs) (r ∷ rs) (suc i) l =
     ap (λ (x : Record). recordOf n q z ∷ set (firstGathered ns qs zs rs i) i x) (row-next n ns q qs z zs i (getD (firstGathered ns qs zs rs i) i noRecord))
     ∙ ap (λ (us : List Record). recordOf n q z ∷ us) (gathered-next ns qs zs rs i (le-of-suc-le-suc l))
+
+-- ---- lengths at the end
+pub laid-fit : {X : Type 0} (row : Record → X) (rs : List Record) (old : List X) → length (laid row rs old) ≡ length old
+laid-fit row rs old = ap length (sym (laid-all row rs old)) ∙ laid-size row rs old (length rs)
+
+pub gathered-fit : (ns : List (List ℕ)) (qs : List (List Float)) (zs : List (List ℤ)) (rs : List Record) → length (gathered ns qs zs rs) ≡ length rs
+gathered-fit ns qs zs rs = ap length (sym (gathered-all ns qs zs rs)) ∙ gathered-size ns qs zs rs (length rs)
