@@ -42,17 +42,33 @@ use Rattle.slots.proofs.Handle.Laws as HT′
 use Rattle.objects.specs.declared.Record.{Record}
 use Rattle.objects.proofs.Record as RT
 use Rattle.objects.proofs.Record.Laws as RT′
+use Rattle.replies.specs.declared.Reply.{Reply}
+use Rattle.replies.proofs.Reply as YT
+use Rattle.replies.proofs.Reply.Laws as YT′
+use Rattle.replies.specs.declared.Inserted.{Inserted}
+use Rattle.replies.proofs.Inserted as IT
+use Rattle.replies.proofs.Inserted.Laws as IT′
+use Rattle.maintain.specs.declared.Maintained.{Maintained}
+use Rattle.maintain.proofs.Maintained as MT
+use Rattle.maintain.proofs.Maintained.Laws as MT′
+use Rattle.reads.specs.declared.Got.{Got}
+use Rattle.reads.proofs.Got as GT
+use Rattle.reads.proofs.Got.Laws as GT′
 use Rattle.objects.specs.Columns.{numsOf, realsOf, intsOf}
 use Rattle.replies.specs.Replies.{reply}
 use Rattle.point_tables.specs.Tables.{tables}
 use Rattle.point_tables.specs.Outcome.{outcome}
 use Rattle.records.specs.Spread.{noRecord, laid, gathered, rowOr}
-use Rattle.records.specs.Calls.{setPositionFor}
+use Rattle.records.specs.Calls.{setPositionFor, removeFor, maintainFor, insertFor, getFor}
 use Rattle.records.proofs.Lends.{to, lend-mut, back-mut, lend-shr, back-shr, copies}
 use Rattle.records.proofs.spread as spread
 use Rattle.records.proofs.gather as gather
 use Rattle.records.proofs.set_position_for as set-position-for
-use Rattle.records.proofs.Rows.{R, val, vals, HR, hval, hvals, PR, pval, pvals, N4, F4, Z4, N2, F2}
+use Rattle.records.proofs.remove_for as remove-for
+use Rattle.records.proofs.maintain_for as maintain-for
+use Rattle.records.proofs.insert_for as insert-for
+use Rattle.records.proofs.get_for as get-for
+use Rattle.records.proofs.Rows.{R, val, vals, HR, hval, hvals, PR, pval, pvals, N4, F4, Z4, N2, F2, YR, Yval, Yvals, IR, Ival, Ivals, MR, Mval, Mvals, GR, Gval, Gvals}
 
 -- ---- `spread`
 module _ {M : Type 1} (𝓤 : URA M) (H : Heap 𝓤) (A : Atoms 𝓤) (mem : Memory → SProp 𝓤) (run : Routine → Fun 𝓤) where
@@ -103,6 +119,56 @@ module _ {M : Type 1} {𝓤 : URA M} {H : Heap 𝓤} {A : Atoms 𝓤} {K : Type 
       move t (7 ∷ 4 ∷ 9 ∷ []) $ back-mut t tt F4 ℓ₂ (named 2) γ₂ b₂ o₂ y₂ m₂ e₂ ν₂ δ₂ ((laid realsOf y₀ y₂)) room₂ (e .1 .1 .0) $
       move t (7 ∷ 6 ∷ 8 ∷ []) $ back-mut t tt Z4 ℓ₃ (named 3) γ₃ b₃ o₃ y₃ m₃ e₃ ν₃ δ₃ ((laid intsOf y₀ y₃)) room₃ (e .1 .1 .1 .0) $
       move t (6 ∷ 7 ∷ 4 ∷ 5 ∷ 2 ∷ 3 ∷ 0 ∷ 1 ∷ []) $ subst (λ (u : Val). Seq K W (‵ (MutSlice ℓ₀ κ₀ R .own (to R b₀ o₀ γ₀ y₀) (sliceVal (b₀, o₀) m₀ ∷ [])) ∷ ‵ (flft κ₀ q₀) ∷ ‵ (MutSlice ℓ₁ κ₁ N4 .own (to N4 b₁ o₁ γ₁ (laid numsOf y₀ y₁)) (sliceVal (b₁, o₁) m₁ ∷ [])) ∷ ‵ (flft κ₁ q₁) ∷ ‵ (MutSlice ℓ₂ κ₂ F4 .own (to F4 b₂ o₂ γ₂ (laid realsOf y₀ y₂)) (sliceVal (b₂, o₂) m₂ ∷ [])) ∷ ‵ (flft κ₂ q₂) ∷ ‵ (MutSlice ℓ₃ κ₃ Z4 .own (to Z4 b₃ o₃ γ₃ (laid intsOf y₀ y₃)) (sliceVal (b₃, o₃) m₃ ∷ [])) ∷ ‵ (flft κ₃ q₃) ∷ Γ) (lands C Λ E d u rest p)) (sym (e .0)) k))))))
+
+-- ---- `spread`
+module _ {M : Type 1} (𝓤 : URA M) (H : Heap 𝓤) (A : Atoms 𝓤) (mem : Memory → SProp 𝓤) (run : Routine → Fun 𝓤) where
+  abbrev pub Spread-own : Contract 𝓤
+  Spread-own = tripleOf 𝓤 H A spread.signature (spread.spec 𝓤 H A mem run)
+
+  module _ (W : Given 𝓤 H A) (b₀ o₀ : ℕ) (y₀ : List (Record)) (m₀ : ℕ) (κ₀ : Lft) (q₀ : Share) (γ₀ : GName) (b₁ o₁ : ℕ) (y₁ : List (List ℕ)) (m₁ : ℕ) (b₂ o₂ : ℕ) (y₂ : List (List Float)) (m₂ : ℕ) (b₃ o₃ : ℕ) (y₃ : List (List ℤ)) (m₃ : ℕ) (ν₁ : ℕ) (δ₁ : GName) (ν₂ : ℕ) (δ₂ : GName) (ν₃ : ℕ) (δ₃ : GName) where
+    abbrev to-spread-own : Spread-own .Ghost
+    to-spread-own = (((κ₀, ((ν₁ ∷ []), ((ν₂ ∷ []), ((ν₃ ∷ []), tt)))), (q₀, (fullShare, (fullShare, (fullShare, tt)))), tt, (to R b₀ o₀ γ₀ y₀, (to N4 b₁ o₁ δ₁ y₁, (to F4 b₂ o₂ δ₂ y₂, (to Z4 b₃ o₃ δ₃ y₃, tt)))), ((sliceVal (b₀, o₀) m₀ ∷ []), ((sliceVal (b₁, o₁) m₁ ∷ []), ((sliceVal (b₂, o₂) m₂ ∷ []), ((sliceVal (b₃, o₃) m₃ ∷ []), tt))))), tt)
+
+    abbrev lent-spread-own : List (Item 𝓤)
+    lent-spread-own = ‵ (flft κ₀ q₀) ∷ ‵ (flft (ν₁ ∷ []) fullShare) ∷ ‵ (flft (ν₂ ∷ []) fullShare) ∷ ‵ (flft (ν₃ ∷ []) fullShare) ∷ ‵ (ShrSlice (named 0) κ₀ R .own (to R b₀ o₀ γ₀ y₀) (sliceVal (b₀, o₀) m₀ ∷ [])) ∷ ‵ (MutSlice (named 1) (ν₁ ∷ []) N4 .own (to N4 b₁ o₁ δ₁ y₁) (sliceVal (b₁, o₁) m₁ ∷ [])) ∷ ‵ (MutSlice (named 2) (ν₂ ∷ []) F4 .own (to F4 b₂ o₂ δ₂ y₂) (sliceVal (b₂, o₂) m₂ ∷ [])) ∷ ‵ (MutSlice (named 3) (ν₃ ∷ []) Z4 .own (to Z4 b₃ o₃ δ₃ y₃) (sliceVal (b₃, o₃) m₃ ∷ [])) ∷ []
+
+    goes-spread-own : ent 𝓤 (⋆ 𝓤 H A lent-spread-own) (Spread-own .pre to-spread-own)
+    goes-spread-own  = qed W lent-spread-own ∵ nothing ! $ move ! (4 ∷ 0 ∷ []) $ join ! $ move ! (3 ∷ 0 ∷ []) $ join ! $ move ! (2 ∷ 0 ∷ []) $ join ! $ move ! (1 ∷ 0 ∷ []) $ join ! $ nothing ! $ move ! (5 ∷ 0 ∷ []) $ fjoin ! $ move ! (4 ∷ 0 ∷ []) $ fjoin ! $ move ! (3 ∷ 0 ∷ []) $ fjoin ! $ move ! (2 ∷ 0 ∷ []) $ fjoin ! $ move ! (1 ∷ 0 ∷ []) $ join ! $ nothing ! $ move ! (1 ∷ 0 ∷ []) $ done !
+
+    abbrev told-spread-own : Val → Type 0
+    told-spread-own w = ((w ≡ vunit) × ((length ((laid numsOf y₀ y₁)) ≡ length y₁) × ((length ((laid realsOf y₀ y₂)) ≡ length y₂) × ((length ((laid intsOf y₀ y₃)) ≡ length y₃) × Unit {0}))))
+
+    abbrev back-spread-own : List (Item 𝓤)
+    back-spread-own = ‵ (flft κ₀ q₀) ∷ ‵ (flft (ν₁ ∷ []) fullShare) ∷ ‵ (flft (ν₂ ∷ []) fullShare) ∷ ‵ (flft (ν₃ ∷ []) fullShare) ∷ ‵ (finally N4 δ₁ ((laid numsOf y₀ y₁))) ∷ ‵ (finally F4 δ₂ ((laid realsOf y₀ y₂))) ∷ ‵ (finally Z4 δ₃ ((laid intsOf y₀ y₃))) ∷ []
+
+    came-spread-own : (w : Val) → ent 𝓤 (Spread-own .post to-spread-own w) (H .⇛ (guard 𝓤 (told-spread-own w) (⋆ 𝓤 H A back-spread-own)))
+    came-spread-own w =
+        qed W (raw (Spread-own .post to-spread-own w) ∷ []) ∵ updating ! $
+        use1 W (later (some (λ (r : Unit {0}). ((‵ (flft κ₀ q₀) ⊛ ‵ (flft (ν₁ ∷ []) fullShare) ⊛ ‵ (flft (ν₂ ∷ []) fullShare) ⊛ ‵ (flft (ν₃ ∷ []) fullShare) ⊛ ‵ ftrue) ⊛ ‵ (unit .own r (w ∷ []))) ⊛ raw (ensured 𝓤 H A spread.ended (spread.clauses 𝓤 H A mem run) (κ₀, ((ν₁ ∷ []), ((ν₂ ∷ []), ((ν₃ ∷ []), tt)))) (to R b₀ o₀ γ₀ y₀, (to N4 b₁ o₁ δ₁ y₁, (to F4 b₂ o₂ δ₂ y₂, (to Z4 b₃ o₃ δ₃ y₃, tt)))) tt r)))) (id⊢ 𝓤 _) $ await ! tt $ pick ! (λ r.
+        split ! $ move ! (1 ∷ []) $ use1 W (some (λ (zs : (Unit {0} × (List (List ℕ) × (List (List Float) × (List (List ℤ) × Unit {0}))))). ‵ (lasts spread.ended (κ₀, ((ν₁ ∷ []), ((ν₂ ∷ []), ((ν₃ ∷ []), tt)))) (to R b₀ o₀ γ₀ y₀, (to N4 b₁ o₁ δ₁ y₁, (to F4 b₂ o₂ δ₂ y₂, (to Z4 b₃ o₃ δ₃ y₃, tt)))) zs) ⊛ raw (fact 𝓤 ((zs .1 .0 ≡ laid numsOf y₀ y₁) × (zs .1 .1 .0 ≡ laid realsOf y₀ y₂) × (zs .1 .1 .1 .0 ≡ laid intsOf y₀ y₃))))) (id⊢ 𝓤 _) $ pick ! (λ zs.
+        split ! $ move ! (1 ∷ []) $ heard ! ((zs .1 .0 ≡ laid numsOf y₀ y₁) × (zs .1 .1 .0 ≡ laid realsOf y₀ y₂) × (zs .1 .1 .1 .0 ≡ laid intsOf y₀ y₃)) (λ e.
+        fsplit ! $ drop ! $ fsplit ! $ fsplit ! $ move ! (1 ∷ []) $ feqL ! (λ n₁. rewrite ! 0 (λ (us : List (List ℕ)). ‵ (finally N4 δ₁ us)) (e .0) refl $ move ! (1 ∷ []) $ fsplit ! $ fsplit ! $ move ! (1 ∷ []) $ feqL ! (λ n₂. rewrite ! 0 (λ (us : List (List Float)). ‵ (finally F4 δ₂ us)) (e .1) refl $ move ! (1 ∷ []) $ fsplit ! $ fsplit ! $ move ! (1 ∷ []) $ feqL ! (λ n₃. rewrite ! 0 (λ (us : List (List ℤ)). ‵ (finally Z4 δ₃ us)) (e .2) refl $ move ! (1 ∷ []) $ drop ! $ move ! (3 ∷ []) $ split ! $ move ! (1 ∷ []) $ feqL ! (λ we. split ! $ move ! (1 ∷ []) $ split ! $ move ! (1 ∷ []) $ split ! $ move ! (1 ∷ []) $ split ! $ move ! (1 ∷ []) $ drop ! $ at-once ! $
+        check ! (ap only we, (subst (λ (us : List (List ℕ)). length us ≡ length y₁) (e .0) n₁, (subst (λ (us : List (List Float)). length us ≡ length y₂) (e .1) n₂, (subst (λ (us : List (List ℤ)). length us ≡ length y₃) (e .2) n₃, tt)))) $ keep ! (3 ∷ 2 ∷ 1 ∷ 0 ∷ 6 ∷ 5 ∷ 4 ∷ []) $ done !)))))))
+
+module _ {M : Type 1} {𝓤 : URA M} {H : Heap 𝓤} {A : Atoms 𝓤} {K : Type 0} {W : Given 𝓤 H A} {Γ : List (Item 𝓤)} {E : Env 𝓤 H} {C : Calls 𝓤 H} {Λ : Loops 𝓤 H} {p : Post 𝓤 H} {f : Name} {xs : List Operand} {d : Place} {rest : Body} where
+  pub calls-spread-own : K → (mem : Memory → SProp 𝓤) (run : Routine → Fun 𝓤) → FmC 𝓤 H (W .laws) C → Triple 𝓤 (C f) (Spread-own 𝓤 H A mem run) → (ℓ₀ : Lifetime) {κ₀ : Lft} {q₀ : Share} (γ₀ : GName) (b₀ o₀ : ℕ) (y₀ : List (Record)) (m₀ : ℕ) (ℓ₁ : Lifetime) {κ₁ : Lft} {q₁ : Share} (γ₁ : GName) (b₁ o₁ : ℕ) (y₁ : List (List ℕ)) (m₁ : ℕ) (ℓ₂ : Lifetime) {κ₂ : Lft} {q₂ : Share} (γ₂ : GName) (b₂ o₂ : ℕ) (y₂ : List (List Float)) (m₂ : ℕ) (ℓ₃ : Lifetime) {κ₃ : Lft} {q₃ : Share} (γ₃ : GName) (b₃ o₃ : ℕ) (y₃ : List (List ℤ)) (m₃ : ℕ) 
+      → m₁ ≡ length y₁ → m₂ ≡ length y₂ → m₃ ≡ length y₃ → Room N4 m₁ → Room F4 m₂ → Room Z4 m₃ → ((i₀ i₁ i₂ i₃ i₄ : Item 𝓤) → Opds K W (i₀ ∷ i₁ ∷ i₂ ∷ i₃ ∷ i₄ ∷ Γ) E xs (sliceVal (b₀, o₀) m₀ ∷ sliceVal (b₁, o₁) m₁ ∷ sliceVal (b₂, o₂) m₂ ∷ sliceVal (b₃, o₃) m₃ ∷ []))
+      → Seq K W (‵ (ShrSlice ℓ₀ κ₀ R .own (to R b₀ o₀ γ₀ y₀) (sliceVal (b₀, o₀) m₀ ∷ [])) ∷ ‵ (flft κ₀ q₀) ∷ ‵ (MutSlice ℓ₁ κ₁ N4 .own (to N4 b₁ o₁ γ₁ (laid numsOf y₀ y₁)) (sliceVal (b₁, o₁) m₁ ∷ [])) ∷ ‵ (flft κ₁ q₁) ∷ ‵ (MutSlice ℓ₂ κ₂ F4 .own (to F4 b₂ o₂ γ₂ (laid realsOf y₀ y₂)) (sliceVal (b₂, o₂) m₂ ∷ [])) ∷ ‵ (flft κ₂ q₂) ∷ ‵ (MutSlice ℓ₃ κ₃ Z4 .own (to Z4 b₃ o₃ γ₃ (laid intsOf y₀ y₃)) (sliceVal (b₃, o₃) m₃ ∷ [])) ∷ ‵ (flft κ₃ q₃) ∷ Γ) (lands C Λ E d (vunit) rest p)
+      → Seq K W (‵ (ShrSlice ℓ₀ κ₀ R .own (to R b₀ o₀ γ₀ y₀) (sliceVal (b₀, o₀) m₀ ∷ [])) ∷ ‵ (flft κ₀ q₀) ∷ ‵ (MutSlice ℓ₁ κ₁ N4 .own (to N4 b₁ o₁ γ₁ y₁) (sliceVal (b₁, o₁) m₁ ∷ [])) ∷ ‵ (flft κ₁ q₁) ∷ ‵ (MutSlice ℓ₂ κ₂ F4 .own (to F4 b₂ o₂ γ₂ y₂) (sliceVal (b₂, o₂) m₂ ∷ [])) ∷ ‵ (flft κ₂ q₂) ∷ ‵ (MutSlice ℓ₃ κ₃ Z4 .own (to Z4 b₃ o₃ γ₃ y₃) (sliceVal (b₃, o₃) m₃ ∷ [])) ∷ ‵ (flft κ₃ q₃) ∷ Γ) (runs C Λ E (seq (call f xs d) rest) p)
+  calls-spread-own t mem run fm met ℓ₀ {κ₀} {q₀} γ₀ b₀ o₀ y₀ m₀ ℓ₁ {κ₁} {q₁} γ₁ b₁ o₁ y₁ m₁ ℓ₂ {κ₂} {q₂} γ₂ b₂ o₂ y₂ m₂ ℓ₃ {κ₃} {q₃} γ₃ b₃ o₃ y₃ m₃  e₁ e₂ e₃ room₁ room₂ room₃  os k =
+      copies t R ℓ₀ κ₀ q₀ (to R b₀ o₀ γ₀ y₀) (sliceVal (b₀, o₀) m₀ ∷ []) $
+      move t (3 ∷ 4 ∷ []) $ lend-mut t tt N4 ℓ₁ (named 1) γ₁ b₁ o₁ y₁ m₁ e₁ (λ ν₁ δ₁.
+      move t (6 ∷ 7 ∷ []) $ lend-mut t tt F4 ℓ₂ (named 2) γ₂ b₂ o₂ y₂ m₂ e₂ (λ ν₂ δ₂.
+      move t (9 ∷ 10 ∷ []) $ lend-mut t tt Z4 ℓ₃ (named 3) γ₃ b₃ o₃ y₃ m₃ e₃ (λ ν₃ δ₃.
+      move t (9 ∷ 6 ∷ 3 ∷ 0 ∷ 10 ∷ 7 ∷ 4 ∷ 1 ∷ []) $ cut (lent-spread-own 𝓤 H A mem run W b₀ o₀ y₀ m₀ κ₀ q₀ γ₀ b₁ o₁ y₁ m₁ b₂ o₂ y₂ m₂ b₃ o₃ y₃ m₃ ν₁ δ₁ ν₂ δ₂ ν₃ δ₃) (raw (Spread-own 𝓤 H A mem run .pre (to-spread-own 𝓤 H A mem run W b₀ o₀ y₀ m₀ κ₀ q₀ γ₀ b₁ o₁ y₁ m₁ b₂ o₂ y₂ m₂ b₃ o₃ y₃ m₃ ν₁ δ₁ ν₂ δ₂ ν₃ δ₃)) ∷ []) _ (goes-spread-own 𝓤 H A mem run W b₀ o₀ y₀ m₀ κ₀ q₀ γ₀ b₁ o₁ y₁ m₁ b₂ o₂ y₂ m₂ b₃ o₃ y₃ m₃ ν₁ δ₁ ν₂ δ₂ ν₃ δ₃ ) $
+      calls-at t fm (Spread-own 𝓤 H A mem run) met (to-spread-own 𝓤 H A mem run W b₀ o₀ y₀ m₀ κ₀ q₀ γ₀ b₁ o₁ y₁ m₁ b₂ o₂ y₂ m₂ b₃ o₃ y₃ m₃ ν₁ δ₁ ν₂ δ₂ ν₃ δ₃) (os _ _ _ _ _) (λ w.
+      use1 W (later (given (told-spread-own 𝓤 H A mem run W b₀ o₀ y₀ m₀ κ₀ q₀ γ₀ b₁ o₁ y₁ m₁ b₂ o₂ y₂ m₂ b₃ o₃ y₃ m₃ ν₁ δ₁ ν₂ δ₂ ν₃ δ₃ w) (‵ (flft κ₀ q₀) ⊛ ‵ (flft (ν₁ ∷ []) fullShare) ⊛ ‵ (flft (ν₂ ∷ []) fullShare) ⊛ ‵ (flft (ν₃ ∷ []) fullShare) ⊛ ‵ (finally N4 δ₁ ((laid numsOf y₀ y₁))) ⊛ ‵ (finally F4 δ₂ ((laid realsOf y₀ y₂))) ⊛ ‵ (finally Z4 δ₃ ((laid intsOf y₀ y₃)))))) (came-spread-own 𝓤 H A mem run W b₀ o₀ y₀ m₀ κ₀ q₀ γ₀ b₁ o₁ y₁ m₁ b₂ o₂ y₂ m₂ b₃ o₃ y₃ m₃ ν₁ δ₁ ν₂ δ₂ ν₃ δ₃ w) $ await t tt $ learn t (λ e.
+      split t $ move t (1 ∷ []) $ split t $ move t (1 ∷ []) $ split t $ move t (1 ∷ []) $ split t $ move t (1 ∷ []) $ split t $ move t (1 ∷ []) $ split t $ 
+      move t (10 ∷ 6 ∷ []) $ 
+      move t (7 ∷ 4 ∷ 10 ∷ []) $ back-mut t tt N4 ℓ₁ (named 1) γ₁ b₁ o₁ y₁ m₁ e₁ ν₁ δ₁ ((laid numsOf y₀ y₁)) room₁ (e .1 .0) $
+      move t (7 ∷ 4 ∷ 9 ∷ []) $ back-mut t tt F4 ℓ₂ (named 2) γ₂ b₂ o₂ y₂ m₂ e₂ ν₂ δ₂ ((laid realsOf y₀ y₂)) room₂ (e .1 .1 .0) $
+      move t (7 ∷ 6 ∷ 8 ∷ []) $ back-mut t tt Z4 ℓ₃ (named 3) γ₃ b₃ o₃ y₃ m₃ e₃ ν₃ δ₃ ((laid intsOf y₀ y₃)) room₃ (e .1 .1 .1 .0) $
+      move t (6 ∷ 7 ∷ 4 ∷ 5 ∷ 2 ∷ 3 ∷ 0 ∷ 1 ∷ []) $ subst (λ (u : Val). Seq K W (‵ (ShrSlice ℓ₀ κ₀ R .own (to R b₀ o₀ γ₀ y₀) (sliceVal (b₀, o₀) m₀ ∷ [])) ∷ ‵ (flft κ₀ q₀) ∷ ‵ (MutSlice ℓ₁ κ₁ N4 .own (to N4 b₁ o₁ γ₁ (laid numsOf y₀ y₁)) (sliceVal (b₁, o₁) m₁ ∷ [])) ∷ ‵ (flft κ₁ q₁) ∷ ‵ (MutSlice ℓ₂ κ₂ F4 .own (to F4 b₂ o₂ γ₂ (laid realsOf y₀ y₂)) (sliceVal (b₂, o₂) m₂ ∷ [])) ∷ ‵ (flft κ₂ q₂) ∷ ‵ (MutSlice ℓ₃ κ₃ Z4 .own (to Z4 b₃ o₃ γ₃ (laid intsOf y₀ y₃)) (sliceVal (b₃, o₃) m₃ ∷ [])) ∷ ‵ (flft κ₃ q₃) ∷ Γ) (lands C Λ E d u rest p)) (sym (e .0)) k)))))
 
 -- ---- `gather`
 module _ {M : Type 1} (𝓤 : URA M) (H : Heap 𝓤) (A : Atoms 𝓤) (mem : Memory → SProp 𝓤) (run : Routine → Fun 𝓤) where
@@ -209,3 +275,227 @@ module _ {M : Type 1} {𝓤 : URA M} {H : Heap 𝓤} {A : Atoms 𝓤} {K : Type 
       move t (14 ∷ 12 ∷ []) $ 
       move t (13 ∷ 12 ∷ 14 ∷ []) $ back-mut t tt N2 ℓ₆ (named 6) γ₆ b₆ o₆ y₆ m₆ e₆ ν₆ δ₆ (y .1 .1 .1 .1 .1 .1 .1 .1 .0) room₆ (e .1 .1 .1 .1 .0) $
       move t (12 ∷ 13 ∷ 10 ∷ 11 ∷ 8 ∷ 9 ∷ 6 ∷ 7 ∷ 4 ∷ 5 ∷ 2 ∷ 3 ∷ 0 ∷ 1 ∷ []) $ subst (λ (u : Val). Seq K W (‵ (MutSlice ℓ₀ κ₀ N4 .own (to N4 b₀ o₀ γ₀ (y .1 .1 .0)) (sliceVal (b₀, o₀) m₀ ∷ [])) ∷ ‵ (flft κ₀ q₀) ∷ ‵ (MutSlice ℓ₁ κ₁ F4 .own (to F4 b₁ o₁ γ₁ (y .1 .1 .1 .0)) (sliceVal (b₁, o₁) m₁ ∷ [])) ∷ ‵ (flft κ₁ q₁) ∷ ‵ (MutSlice ℓ₂ κ₂ Z4 .own (to Z4 b₂ o₂ γ₂ (y .1 .1 .1 .1 .0)) (sliceVal (b₂, o₂) m₂ ∷ [])) ∷ ‵ (flft κ₂ q₂) ∷ ‵ (ShrSlice ℓ₃ κ₃ u64 .own (to u64 b₃ o₃ γ₃ y₃) (sliceVal (b₃, o₃) m₃ ∷ [])) ∷ ‵ (flft κ₃ q₃) ∷ ‵ (ShrSlice ℓ₄ κ₄ N2 .own (to N2 b₄ o₄ γ₄ y₄) (sliceVal (b₄, o₄) m₄ ∷ [])) ∷ ‵ (flft κ₄ q₄) ∷ ‵ (ShrSlice ℓ₅ κ₅ F2 .own (to F2 b₅ o₅ γ₅ y₅) (sliceVal (b₅, o₅) m₅ ∷ [])) ∷ ‵ (flft κ₅ q₅) ∷ ‵ (MutSlice ℓ₆ κ₆ N2 .own (to N2 b₆ o₆ γ₆ (y .1 .1 .1 .1 .1 .1 .1 .1 .0)) (sliceVal (b₆, o₆) m₆ ∷ [])) ∷ ‵ (flft κ₆ q₆) ∷ Γ) (lands C Λ E d u rest p)) (sym (ap only (e .0 .0))) (k (y .0) (y .1) (e .1 .0) (e .1 .1 .0) (e .1 .1 .1 .0) (e .1 .1 .1 .1 .0) (e .1 .1 .1 .1 .1 .0) (e .0 .1)))))))))
+
+-- ---- `remove_for`
+module _ {M : Type 1} (𝓤 : URA M) (H : Heap 𝓤) (A : Atoms 𝓤) (mem : Memory → SProp 𝓤) (run : Routine → Fun 𝓤) where
+  abbrev pub RemoveFor : Contract 𝓤
+  RemoveFor = tripleOf 𝓤 H A remove-for.signature (remove-for.spec 𝓤 H A mem run)
+
+  module _ (W : Given 𝓤 H A) (b₀ o₀ : ℕ) (y₀ : List (List ℕ)) (m₀ : ℕ) (b₁ o₁ : ℕ) (y₁ : List (List Float)) (m₁ : ℕ) (b₂ o₂ : ℕ) (y₂ : List (List ℤ)) (m₂ : ℕ) (b₃ o₃ : ℕ) (y₃ : List (ℕ)) (m₃ : ℕ) (κ₃ : Lft) (q₃ : Share) (γ₃ : GName) (b₄ o₄ : ℕ) (y₄ : List (List ℕ)) (m₄ : ℕ) (κ₄ : Lft) (q₄ : Share) (γ₄ : GName) (b₅ o₅ : ℕ) (y₅ : List (List Float)) (m₅ : ℕ) (κ₅ : Lft) (q₅ : Share) (γ₅ : GName) (b₆ o₆ : ℕ) (y₆ : List (List ℕ)) (m₆ : ℕ) (v₀ : ℕ) (v₁ : Handle) (ν₀ : ℕ) (δ₀ : GName) (ν₁ : ℕ) (δ₁ : GName) (ν₂ : ℕ) (δ₂ : GName) (ν₆ : ℕ) (δ₆ : GName) where
+    abbrev to-remove-for : RemoveFor .Ghost
+    to-remove-for = ((((ν₀ ∷ []), ((ν₁ ∷ []), ((ν₂ ∷ []), (κ₃, (κ₄, (κ₅, ((ν₆ ∷ []), tt))))))), (fullShare, (fullShare, (fullShare, (q₃, (q₄, (q₅, (fullShare, tt))))))), tt, (v₀, (to N4 b₀ o₀ δ₀ y₀, (to F4 b₁ o₁ δ₁ y₁, (to Z4 b₂ o₂ δ₂ y₂, (to u64 b₃ o₃ γ₃ y₃, (to N2 b₄ o₄ γ₄ y₄, (to F2 b₅ o₅ γ₅ y₅, (to N2 b₆ o₆ δ₆ y₆, (v₁, tt))))))))), ((vint w64 v₀ ∷ []), ((sliceVal (b₀, o₀) m₀ ∷ []), ((sliceVal (b₁, o₁) m₁ ∷ []), ((sliceVal (b₂, o₂) m₂ ∷ []), ((sliceVal (b₃, o₃) m₃ ∷ []), ((sliceVal (b₄, o₄) m₄ ∷ []), ((sliceVal (b₅, o₅) m₅ ∷ []), ((sliceVal (b₆, o₆) m₆ ∷ []), ((hvals v₁), tt)))))))))), tt)
+
+    abbrev lent-remove-for : List (Item 𝓤)
+    lent-remove-for = ‵ (flft (ν₀ ∷ []) fullShare) ∷ ‵ (flft (ν₁ ∷ []) fullShare) ∷ ‵ (flft (ν₂ ∷ []) fullShare) ∷ ‵ (flft κ₃ q₃) ∷ ‵ (flft κ₄ q₄) ∷ ‵ (flft κ₅ q₅) ∷ ‵ (flft (ν₆ ∷ []) fullShare) ∷ ‵ (MutSlice (named 0) (ν₀ ∷ []) N4 .own (to N4 b₀ o₀ δ₀ y₀) (sliceVal (b₀, o₀) m₀ ∷ [])) ∷ ‵ (MutSlice (named 1) (ν₁ ∷ []) F4 .own (to F4 b₁ o₁ δ₁ y₁) (sliceVal (b₁, o₁) m₁ ∷ [])) ∷ ‵ (MutSlice (named 2) (ν₂ ∷ []) Z4 .own (to Z4 b₂ o₂ δ₂ y₂) (sliceVal (b₂, o₂) m₂ ∷ [])) ∷ ‵ (ShrSlice (named 3) κ₃ u64 .own (to u64 b₃ o₃ γ₃ y₃) (sliceVal (b₃, o₃) m₃ ∷ [])) ∷ ‵ (ShrSlice (named 4) κ₄ N2 .own (to N2 b₄ o₄ γ₄ y₄) (sliceVal (b₄, o₄) m₄ ∷ [])) ∷ ‵ (ShrSlice (named 5) κ₅ F2 .own (to F2 b₅ o₅ γ₅ y₅) (sliceVal (b₅, o₅) m₅ ∷ [])) ∷ ‵ (MutSlice (named 6) (ν₆ ∷ []) N2 .own (to N2 b₆ o₆ δ₆ y₆) (sliceVal (b₆, o₆) m₆ ∷ [])) ∷ []
+
+    goes-remove-for : v₀ < 2 ^ 64 → Is HR v₁ (hvals v₁) → ent 𝓤 (⋆ 𝓤 H A lent-remove-for) (RemoveFor .pre to-remove-for)
+    goes-remove-for g₀ g₁ = qed W lent-remove-for ∵ nothing ! $ move ! (7 ∷ 0 ∷ []) $ join ! $ move ! (6 ∷ 0 ∷ []) $ join ! $ move ! (5 ∷ 0 ∷ []) $ join ! $ move ! (4 ∷ 0 ∷ []) $ join ! $ move ! (3 ∷ 0 ∷ []) $ join ! $ move ! (2 ∷ 0 ∷ []) $ join ! $ move ! (1 ∷ 0 ∷ []) $ join ! $ nothing ! $ owned ! HR (Is HR) (LL.makes HT.the-type HT′.the-plain 𝓤 H A) v₁ _ g₁ $ fjoin ! $ move ! (8 ∷ 0 ∷ []) $ fjoin ! $ move ! (7 ∷ 0 ∷ []) $ fjoin ! $ move ! (6 ∷ 0 ∷ []) $ fjoin ! $ move ! (5 ∷ 0 ∷ []) $ fjoin ! $ move ! (4 ∷ 0 ∷ []) $ fjoin ! $ move ! (3 ∷ 0 ∷ []) $ fjoin ! $ move ! (2 ∷ 0 ∷ []) $ fjoin ! $ owned ! usize (Is usize) (uint-makes 𝓤 H A W w64) v₀ _ (refl, g₀) $ fjoin ! $ move ! (1 ∷ 0 ∷ []) $ join ! $ nothing ! $ move ! (1 ∷ 0 ∷ []) $ done !
+
+    abbrev told-remove-for : Val → Reply → (Unit {0} × (List (List ℕ) × (List (List Float) × (List (List ℤ) × (Unit {0} × (Unit {0} × (Unit {0} × (List (List ℕ) × (Unit {0} × Unit {0}))))))))) → Type 0
+    told-remove-for w r zs = ((Is YR r (w ∷ [])) × ((length (zs .1 .0) ≡ length y₀) × ((length (zs .1 .1 .0) ≡ length y₁) × ((length (zs .1 .1 .1 .0) ≡ length y₂) × ((length (zs .1 .1 .1 .1 .1 .1 .1 .0) ≡ length y₆) × (outcome r (tables (zs .1 .0) (zs .1 .1 .0) (zs .1 .1 .1 .0) y₃ y₄ y₅ (zs .1 .1 .1 .1 .1 .1 .1 .0)) ≡ removeFor v₀ (tables y₀ y₁ y₂ y₃ y₄ y₅ y₆) v₁ × Unit {0}))))))
+
+    abbrev back-remove-for : (Unit {0} × (List (List ℕ) × (List (List Float) × (List (List ℤ) × (Unit {0} × (Unit {0} × (Unit {0} × (List (List ℕ) × (Unit {0} × Unit {0}))))))))) → List (Item 𝓤)
+    back-remove-for zs = ‵ (flft (ν₀ ∷ []) fullShare) ∷ ‵ (flft (ν₁ ∷ []) fullShare) ∷ ‵ (flft (ν₂ ∷ []) fullShare) ∷ ‵ (flft κ₃ q₃) ∷ ‵ (flft κ₄ q₄) ∷ ‵ (flft κ₅ q₅) ∷ ‵ (flft (ν₆ ∷ []) fullShare) ∷ ‵ (finally N4 δ₀ (zs .1 .0)) ∷ ‵ (finally F4 δ₁ (zs .1 .1 .0)) ∷ ‵ (finally Z4 δ₂ (zs .1 .1 .1 .0)) ∷ ‵ (finally N2 δ₆ (zs .1 .1 .1 .1 .1 .1 .1 .0)) ∷ []
+
+    came-remove-for : (w : Val) → ent 𝓤 (RemoveFor .post to-remove-for w) (H .⇛ (ex 𝓤 (λ (y : Reply × (Unit {0} × (List (List ℕ) × (List (List Float) × (List (List ℤ) × (Unit {0} × (Unit {0} × (Unit {0} × (List (List ℕ) × (Unit {0} × Unit {0})))))))))). guard 𝓤 (told-remove-for w (y .0) (y .1)) (⋆ 𝓤 H A (back-remove-for (y .1))))))
+    came-remove-for w =
+        qed W (raw (RemoveFor .post to-remove-for w) ∷ []) ∵ updating ! $
+        use1 W (later (some (λ (r : Reply). ((‵ (flft (ν₀ ∷ []) fullShare) ⊛ ‵ (flft (ν₁ ∷ []) fullShare) ⊛ ‵ (flft (ν₂ ∷ []) fullShare) ⊛ ‵ (flft κ₃ q₃) ⊛ ‵ (flft κ₄ q₄) ⊛ ‵ (flft κ₅ q₅) ⊛ ‵ (flft (ν₆ ∷ []) fullShare) ⊛ ‵ ftrue) ⊛ ‵ (YR .own r (w ∷ []))) ⊛ raw (ensured 𝓤 H A remove-for.ended (remove-for.clauses 𝓤 H A mem run) ((ν₀ ∷ []), ((ν₁ ∷ []), ((ν₂ ∷ []), (κ₃, (κ₄, (κ₅, ((ν₆ ∷ []), tt))))))) (v₀, (to N4 b₀ o₀ δ₀ y₀, (to F4 b₁ o₁ δ₁ y₁, (to Z4 b₂ o₂ δ₂ y₂, (to u64 b₃ o₃ γ₃ y₃, (to N2 b₄ o₄ γ₄ y₄, (to F2 b₅ o₅ γ₅ y₅, (to N2 b₆ o₆ δ₆ y₆, (v₁, tt))))))))) tt r)))) (id⊢ 𝓤 _) $ await ! tt $ pick ! (λ r.
+        split ! $ move ! (1 ∷ []) $ use1 W (some (λ (zs : (Unit {0} × (List (List ℕ) × (List (List Float) × (List (List ℤ) × (Unit {0} × (Unit {0} × (Unit {0} × (List (List ℕ) × (Unit {0} × Unit {0})))))))))). ‵ (lasts remove-for.ended ((ν₀ ∷ []), ((ν₁ ∷ []), ((ν₂ ∷ []), (κ₃, (κ₄, (κ₅, ((ν₆ ∷ []), tt))))))) (v₀, (to N4 b₀ o₀ δ₀ y₀, (to F4 b₁ o₁ δ₁ y₁, (to Z4 b₂ o₂ δ₂ y₂, (to u64 b₃ o₃ γ₃ y₃, (to N2 b₄ o₄ γ₄ y₄, (to F2 b₅ o₅ γ₅ y₅, (to N2 b₆ o₆ δ₆ y₆, (v₁, tt))))))))) zs) ⊛ raw (fact 𝓤 (outcome r (tables (zs .1 .0) (zs .1 .1 .0) (zs .1 .1 .1 .0) y₃ y₄ y₅ (zs .1 .1 .1 .1 .1 .1 .1 .0)) ≡ removeFor v₀ (tables y₀ y₁ y₂ y₃ y₄ y₅ y₆) v₁)))) (id⊢ 𝓤 _) $ pick ! (λ zs.
+        split ! $ move ! (1 ∷ []) $ heard ! (outcome r (tables (zs .1 .0) (zs .1 .1 .0) (zs .1 .1 .1 .0) y₃ y₄ y₅ (zs .1 .1 .1 .1 .1 .1 .1 .0)) ≡ removeFor v₀ (tables y₀ y₁ y₂ y₃ y₄ y₅ y₆) v₁) (λ e.
+        fsplit ! $ drop ! $ fsplit ! $ fsplit ! $ move ! (1 ∷ []) $ feqL ! (λ n₀. move ! (1 ∷ []) $ fsplit ! $ fsplit ! $ move ! (1 ∷ []) $ feqL ! (λ n₁. move ! (1 ∷ []) $ fsplit ! $ fsplit ! $ move ! (1 ∷ []) $ feqL ! (λ n₂. move ! (1 ∷ []) $ fsplit ! $ drop ! $ fsplit ! $ drop ! $ fsplit ! $ drop ! $ fsplit ! $ fsplit ! $ move ! (1 ∷ []) $ feqL ! (λ n₆. move ! (1 ∷ []) $ drop ! $ move ! (4 ∷ []) $ split ! $ move ! (1 ∷ []) $ peeks ! YR (Is YR) (shows 𝓤 H A YR) r (w ∷ []) (λ is. drop ! $ split ! $ move ! (1 ∷ []) $ split ! $ move ! (1 ∷ []) $ split ! $ move ! (1 ∷ []) $ split ! $ move ! (1 ∷ []) $ split ! $ move ! (1 ∷ []) $ split ! $ move ! (1 ∷ []) $ split ! $ move ! (1 ∷ []) $ drop ! $ at-once ! $
+        show ! (λ (y : Reply × (Unit {0} × (List (List ℕ) × (List (List Float) × (List (List ℤ) × (Unit {0} × (Unit {0} × (Unit {0} × (List (List ℕ) × (Unit {0} × Unit {0})))))))))). guard 𝓤 (told-remove-for w (y .0) (y .1)) (⋆ 𝓤 H A (back-remove-for (y .1)))) (r, zs) $ check ! (is, (n₀, (n₁, (n₂, (n₆, (e, tt)))))) $ keep ! (6 ∷ 5 ∷ 4 ∷ 3 ∷ 2 ∷ 1 ∷ 0 ∷ 10 ∷ 9 ∷ 8 ∷ 7 ∷ []) $ done !))))))))
+
+module _ {M : Type 1} {𝓤 : URA M} {H : Heap 𝓤} {A : Atoms 𝓤} {K : Type 0} {W : Given 𝓤 H A} {Γ : List (Item 𝓤)} {E : Env 𝓤 H} {C : Calls 𝓤 H} {Λ : Loops 𝓤 H} {p : Post 𝓤 H} {f : Name} {xs : List Operand} {d : Place} {rest : Body} where
+  pub calls-remove-for : K → (mem : Memory → SProp 𝓤) (run : Routine → Fun 𝓤) → FmC 𝓤 H (W .laws) C → Triple 𝓤 (C f) (RemoveFor 𝓤 H A mem run) → (ℓ₀ : Lifetime) {κ₀ : Lft} {q₀ : Share} (γ₀ : GName) (b₀ o₀ : ℕ) (y₀ : List (List ℕ)) (m₀ : ℕ) (ℓ₁ : Lifetime) {κ₁ : Lft} {q₁ : Share} (γ₁ : GName) (b₁ o₁ : ℕ) (y₁ : List (List Float)) (m₁ : ℕ) (ℓ₂ : Lifetime) {κ₂ : Lft} {q₂ : Share} (γ₂ : GName) (b₂ o₂ : ℕ) (y₂ : List (List ℤ)) (m₂ : ℕ) (ℓ₃ : Lifetime) {κ₃ : Lft} {q₃ : Share} (γ₃ : GName) (b₃ o₃ : ℕ) (y₃ : List (ℕ)) (m₃ : ℕ) (ℓ₄ : Lifetime) {κ₄ : Lft} {q₄ : Share} (γ₄ : GName) (b₄ o₄ : ℕ) (y₄ : List (List ℕ)) (m₄ : ℕ) (ℓ₅ : Lifetime) {κ₅ : Lft} {q₅ : Share} (γ₅ : GName) (b₅ o₅ : ℕ) (y₅ : List (List Float)) (m₅ : ℕ) (ℓ₆ : Lifetime) {κ₆ : Lft} {q₆ : Share} (γ₆ : GName) (b₆ o₆ : ℕ) (y₆ : List (List ℕ)) (m₆ : ℕ) (v₀ : ℕ) (v₁ : Handle)
+      → m₀ ≡ length y₀ → m₁ ≡ length y₁ → m₂ ≡ length y₂ → m₆ ≡ length y₆ → Room N4 m₀ → Room F4 m₁ → Room Z4 m₂ → Room N2 m₆ → v₀ < 2 ^ 64 → Is HR v₁ (hvals v₁) → ((i₀ i₁ i₂ i₃ i₄ i₅ i₆ i₇ : Item 𝓤) → Opds K W (i₀ ∷ i₁ ∷ i₂ ∷ i₃ ∷ i₄ ∷ i₅ ∷ i₆ ∷ i₇ ∷ Γ) E xs (vint w64 v₀ ∷ sliceVal (b₀, o₀) m₀ ∷ sliceVal (b₁, o₁) m₁ ∷ sliceVal (b₂, o₂) m₂ ∷ sliceVal (b₃, o₃) m₃ ∷ sliceVal (b₄, o₄) m₄ ∷ sliceVal (b₅, o₅) m₅ ∷ sliceVal (b₆, o₆) m₆ ∷ hval v₁ ∷ []))
+      → ((r : Reply) (zs : (Unit {0} × (List (List ℕ) × (List (List Float) × (List (List ℤ) × (Unit {0} × (Unit {0} × (Unit {0} × (List (List ℕ) × (Unit {0} × Unit {0})))))))))) → (length (zs .1 .0) ≡ length y₀) → (length (zs .1 .1 .0) ≡ length y₁) → (length (zs .1 .1 .1 .0) ≡ length y₂) → (length (zs .1 .1 .1 .1 .1 .1 .1 .0) ≡ length y₆) → (outcome r (tables (zs .1 .0) (zs .1 .1 .0) (zs .1 .1 .1 .0) y₃ y₄ y₅ (zs .1 .1 .1 .1 .1 .1 .1 .0)) ≡ removeFor v₀ (tables y₀ y₁ y₂ y₃ y₄ y₅ y₆) v₁) → Is YR r (Yvals r) → Seq K W (‵ (MutSlice ℓ₀ κ₀ N4 .own (to N4 b₀ o₀ γ₀ (zs .1 .0)) (sliceVal (b₀, o₀) m₀ ∷ [])) ∷ ‵ (flft κ₀ q₀) ∷ ‵ (MutSlice ℓ₁ κ₁ F4 .own (to F4 b₁ o₁ γ₁ (zs .1 .1 .0)) (sliceVal (b₁, o₁) m₁ ∷ [])) ∷ ‵ (flft κ₁ q₁) ∷ ‵ (MutSlice ℓ₂ κ₂ Z4 .own (to Z4 b₂ o₂ γ₂ (zs .1 .1 .1 .0)) (sliceVal (b₂, o₂) m₂ ∷ [])) ∷ ‵ (flft κ₂ q₂) ∷ ‵ (ShrSlice ℓ₃ κ₃ u64 .own (to u64 b₃ o₃ γ₃ y₃) (sliceVal (b₃, o₃) m₃ ∷ [])) ∷ ‵ (flft κ₃ q₃) ∷ ‵ (ShrSlice ℓ₄ κ₄ N2 .own (to N2 b₄ o₄ γ₄ y₄) (sliceVal (b₄, o₄) m₄ ∷ [])) ∷ ‵ (flft κ₄ q₄) ∷ ‵ (ShrSlice ℓ₅ κ₅ F2 .own (to F2 b₅ o₅ γ₅ y₅) (sliceVal (b₅, o₅) m₅ ∷ [])) ∷ ‵ (flft κ₅ q₅) ∷ ‵ (MutSlice ℓ₆ κ₆ N2 .own (to N2 b₆ o₆ γ₆ (zs .1 .1 .1 .1 .1 .1 .1 .0)) (sliceVal (b₆, o₆) m₆ ∷ [])) ∷ ‵ (flft κ₆ q₆) ∷ Γ) (lands C Λ E d (Yval r) rest p))
+      → Seq K W (‵ (MutSlice ℓ₀ κ₀ N4 .own (to N4 b₀ o₀ γ₀ y₀) (sliceVal (b₀, o₀) m₀ ∷ [])) ∷ ‵ (flft κ₀ q₀) ∷ ‵ (MutSlice ℓ₁ κ₁ F4 .own (to F4 b₁ o₁ γ₁ y₁) (sliceVal (b₁, o₁) m₁ ∷ [])) ∷ ‵ (flft κ₁ q₁) ∷ ‵ (MutSlice ℓ₂ κ₂ Z4 .own (to Z4 b₂ o₂ γ₂ y₂) (sliceVal (b₂, o₂) m₂ ∷ [])) ∷ ‵ (flft κ₂ q₂) ∷ ‵ (ShrSlice ℓ₃ κ₃ u64 .own (to u64 b₃ o₃ γ₃ y₃) (sliceVal (b₃, o₃) m₃ ∷ [])) ∷ ‵ (flft κ₃ q₃) ∷ ‵ (ShrSlice ℓ₄ κ₄ N2 .own (to N2 b₄ o₄ γ₄ y₄) (sliceVal (b₄, o₄) m₄ ∷ [])) ∷ ‵ (flft κ₄ q₄) ∷ ‵ (ShrSlice ℓ₅ κ₅ F2 .own (to F2 b₅ o₅ γ₅ y₅) (sliceVal (b₅, o₅) m₅ ∷ [])) ∷ ‵ (flft κ₅ q₅) ∷ ‵ (MutSlice ℓ₆ κ₆ N2 .own (to N2 b₆ o₆ γ₆ y₆) (sliceVal (b₆, o₆) m₆ ∷ [])) ∷ ‵ (flft κ₆ q₆) ∷ Γ) (runs C Λ E (seq (call f xs d) rest) p)
+  calls-remove-for t mem run fm met ℓ₀ {κ₀} {q₀} γ₀ b₀ o₀ y₀ m₀ ℓ₁ {κ₁} {q₁} γ₁ b₁ o₁ y₁ m₁ ℓ₂ {κ₂} {q₂} γ₂ b₂ o₂ y₂ m₂ ℓ₃ {κ₃} {q₃} γ₃ b₃ o₃ y₃ m₃ ℓ₄ {κ₄} {q₄} γ₄ b₄ o₄ y₄ m₄ ℓ₅ {κ₅} {q₅} γ₅ b₅ o₅ y₅ m₅ ℓ₆ {κ₆} {q₆} γ₆ b₆ o₆ y₆ m₆ v₀ v₁ e₀ e₁ e₂ e₆ room₀ room₁ room₂ room₆ g₀ g₁ os k =
+      lend-mut t tt N4 ℓ₀ (named 0) γ₀ b₀ o₀ y₀ m₀ e₀ (λ ν₀ δ₀.
+      move t (3 ∷ 4 ∷ []) $ lend-mut t tt F4 ℓ₁ (named 1) γ₁ b₁ o₁ y₁ m₁ e₁ (λ ν₁ δ₁.
+      move t (6 ∷ 7 ∷ []) $ lend-mut t tt Z4 ℓ₂ (named 2) γ₂ b₂ o₂ y₂ m₂ e₂ (λ ν₂ δ₂.
+      move t (9 ∷ 10 ∷ []) $ copies t u64 ℓ₃ κ₃ q₃ (to u64 b₃ o₃ γ₃ y₃) (sliceVal (b₃, o₃) m₃ ∷ []) $
+      move t (12 ∷ 13 ∷ []) $ copies t N2 ℓ₄ κ₄ q₄ (to N2 b₄ o₄ γ₄ y₄) (sliceVal (b₄, o₄) m₄ ∷ []) $
+      move t (15 ∷ 16 ∷ []) $ copies t F2 ℓ₅ κ₅ q₅ (to F2 b₅ o₅ γ₅ y₅) (sliceVal (b₅, o₅) m₅ ∷ []) $
+      move t (18 ∷ 19 ∷ []) $ lend-mut t tt N2 ℓ₆ (named 6) γ₆ b₆ o₆ y₆ m₆ e₆ (λ ν₆ δ₆.
+      move t (18 ∷ 15 ∷ 12 ∷ 9 ∷ 6 ∷ 3 ∷ 0 ∷ 19 ∷ 16 ∷ 13 ∷ 10 ∷ 7 ∷ 4 ∷ 1 ∷ []) $ cut (lent-remove-for 𝓤 H A mem run W b₀ o₀ y₀ m₀ b₁ o₁ y₁ m₁ b₂ o₂ y₂ m₂ b₃ o₃ y₃ m₃ κ₃ q₃ γ₃ b₄ o₄ y₄ m₄ κ₄ q₄ γ₄ b₅ o₅ y₅ m₅ κ₅ q₅ γ₅ b₆ o₆ y₆ m₆ v₀ v₁ ν₀ δ₀ ν₁ δ₁ ν₂ δ₂ ν₆ δ₆) (raw (RemoveFor 𝓤 H A mem run .pre (to-remove-for 𝓤 H A mem run W b₀ o₀ y₀ m₀ b₁ o₁ y₁ m₁ b₂ o₂ y₂ m₂ b₃ o₃ y₃ m₃ κ₃ q₃ γ₃ b₄ o₄ y₄ m₄ κ₄ q₄ γ₄ b₅ o₅ y₅ m₅ κ₅ q₅ γ₅ b₆ o₆ y₆ m₆ v₀ v₁ ν₀ δ₀ ν₁ δ₁ ν₂ δ₂ ν₆ δ₆)) ∷ []) _ (goes-remove-for 𝓤 H A mem run W b₀ o₀ y₀ m₀ b₁ o₁ y₁ m₁ b₂ o₂ y₂ m₂ b₃ o₃ y₃ m₃ κ₃ q₃ γ₃ b₄ o₄ y₄ m₄ κ₄ q₄ γ₄ b₅ o₅ y₅ m₅ κ₅ q₅ γ₅ b₆ o₆ y₆ m₆ v₀ v₁ ν₀ δ₀ ν₁ δ₁ ν₂ δ₂ ν₆ δ₆ g₀ g₁) $
+      calls-at t fm (RemoveFor 𝓤 H A mem run) met (to-remove-for 𝓤 H A mem run W b₀ o₀ y₀ m₀ b₁ o₁ y₁ m₁ b₂ o₂ y₂ m₂ b₃ o₃ y₃ m₃ κ₃ q₃ γ₃ b₄ o₄ y₄ m₄ κ₄ q₄ γ₄ b₅ o₅ y₅ m₅ κ₅ q₅ γ₅ b₆ o₆ y₆ m₆ v₀ v₁ ν₀ δ₀ ν₁ δ₁ ν₂ δ₂ ν₆ δ₆) (os _ _ _ _ _ _ _ _) (λ w.
+      use1 W (later (some (λ (y : Reply × (Unit {0} × (List (List ℕ) × (List (List Float) × (List (List ℤ) × (Unit {0} × (Unit {0} × (Unit {0} × (List (List ℕ) × (Unit {0} × Unit {0})))))))))). given (told-remove-for 𝓤 H A mem run W b₀ o₀ y₀ m₀ b₁ o₁ y₁ m₁ b₂ o₂ y₂ m₂ b₃ o₃ y₃ m₃ κ₃ q₃ γ₃ b₄ o₄ y₄ m₄ κ₄ q₄ γ₄ b₅ o₅ y₅ m₅ κ₅ q₅ γ₅ b₆ o₆ y₆ m₆ v₀ v₁ ν₀ δ₀ ν₁ δ₁ ν₂ δ₂ ν₆ δ₆ w (y .0) (y .1)) (‵ (flft (ν₀ ∷ []) fullShare) ⊛ ‵ (flft (ν₁ ∷ []) fullShare) ⊛ ‵ (flft (ν₂ ∷ []) fullShare) ⊛ ‵ (flft κ₃ q₃) ⊛ ‵ (flft κ₄ q₄) ⊛ ‵ (flft κ₅ q₅) ⊛ ‵ (flft (ν₆ ∷ []) fullShare) ⊛ ‵ (finally N4 δ₀ (y .1 .1 .0)) ⊛ ‵ (finally F4 δ₁ (y .1 .1 .1 .0)) ⊛ ‵ (finally Z4 δ₂ (y .1 .1 .1 .1 .0)) ⊛ ‵ (finally N2 δ₆ (y .1 .1 .1 .1 .1 .1 .1 .1 .0)))))) (came-remove-for 𝓤 H A mem run W b₀ o₀ y₀ m₀ b₁ o₁ y₁ m₁ b₂ o₂ y₂ m₂ b₃ o₃ y₃ m₃ κ₃ q₃ γ₃ b₄ o₄ y₄ m₄ κ₄ q₄ γ₄ b₅ o₅ y₅ m₅ κ₅ q₅ γ₅ b₆ o₆ y₆ m₆ v₀ v₁ ν₀ δ₀ ν₁ δ₁ ν₂ δ₂ ν₆ δ₆ w) $ await t tt $ pick t (λ y. learn t (λ e.
+      split t $ move t (1 ∷ []) $ split t $ move t (1 ∷ []) $ split t $ move t (1 ∷ []) $ split t $ move t (1 ∷ []) $ split t $ move t (1 ∷ []) $ split t $ move t (1 ∷ []) $ split t $ move t (1 ∷ []) $ split t $ move t (1 ∷ []) $ split t $ move t (1 ∷ []) $ split t $ 
+      move t (10 ∷ 3 ∷ 17 ∷ []) $ back-mut t tt N4 ℓ₀ (named 0) γ₀ b₀ o₀ y₀ m₀ e₀ ν₀ δ₀ (y .1 .1 .0) room₀ (e .1 .0) $
+      move t (10 ∷ 4 ∷ 16 ∷ []) $ back-mut t tt F4 ℓ₁ (named 1) γ₁ b₁ o₁ y₁ m₁ e₁ ν₁ δ₁ (y .1 .1 .1 .0) room₁ (e .1 .1 .0) $
+      move t (10 ∷ 4 ∷ 15 ∷ []) $ back-mut t tt Z4 ℓ₂ (named 2) γ₂ b₂ o₂ y₂ m₂ e₂ ν₂ δ₂ (y .1 .1 .1 .1 .0) room₂ (e .1 .1 .1 .0) $
+      move t (14 ∷ 10 ∷ []) $ 
+      move t (14 ∷ 11 ∷ []) $ 
+      move t (14 ∷ 12 ∷ []) $ 
+      move t (13 ∷ 12 ∷ 14 ∷ []) $ back-mut t tt N2 ℓ₆ (named 6) γ₆ b₆ o₆ y₆ m₆ e₆ ν₆ δ₆ (y .1 .1 .1 .1 .1 .1 .1 .1 .0) room₆ (e .1 .1 .1 .1 .0) $
+      move t (12 ∷ 13 ∷ 10 ∷ 11 ∷ 8 ∷ 9 ∷ 6 ∷ 7 ∷ 4 ∷ 5 ∷ 2 ∷ 3 ∷ 0 ∷ 1 ∷ []) $ subst (λ (u : Val). Seq K W (‵ (MutSlice ℓ₀ κ₀ N4 .own (to N4 b₀ o₀ γ₀ (y .1 .1 .0)) (sliceVal (b₀, o₀) m₀ ∷ [])) ∷ ‵ (flft κ₀ q₀) ∷ ‵ (MutSlice ℓ₁ κ₁ F4 .own (to F4 b₁ o₁ γ₁ (y .1 .1 .1 .0)) (sliceVal (b₁, o₁) m₁ ∷ [])) ∷ ‵ (flft κ₁ q₁) ∷ ‵ (MutSlice ℓ₂ κ₂ Z4 .own (to Z4 b₂ o₂ γ₂ (y .1 .1 .1 .1 .0)) (sliceVal (b₂, o₂) m₂ ∷ [])) ∷ ‵ (flft κ₂ q₂) ∷ ‵ (ShrSlice ℓ₃ κ₃ u64 .own (to u64 b₃ o₃ γ₃ y₃) (sliceVal (b₃, o₃) m₃ ∷ [])) ∷ ‵ (flft κ₃ q₃) ∷ ‵ (ShrSlice ℓ₄ κ₄ N2 .own (to N2 b₄ o₄ γ₄ y₄) (sliceVal (b₄, o₄) m₄ ∷ [])) ∷ ‵ (flft κ₄ q₄) ∷ ‵ (ShrSlice ℓ₅ κ₅ F2 .own (to F2 b₅ o₅ γ₅ y₅) (sliceVal (b₅, o₅) m₅ ∷ [])) ∷ ‵ (flft κ₅ q₅) ∷ ‵ (MutSlice ℓ₆ κ₆ N2 .own (to N2 b₆ o₆ γ₆ (y .1 .1 .1 .1 .1 .1 .1 .1 .0)) (sliceVal (b₆, o₆) m₆ ∷ [])) ∷ ‵ (flft κ₆ q₆) ∷ Γ) (lands C Λ E d u rest p)) (sym (ap only (LL.tells YT.the-type YT′.the-laws (y .0) (w ∷ []) (e .0)))) (k (y .0) (y .1) (e .1 .0) (e .1 .1 .0) (e .1 .1 .1 .0) (e .1 .1 .1 .1 .0) (e .1 .1 .1 .1 .1 .0) (subst (Is YR (y .0)) (LL.tells YT.the-type YT′.the-laws (y .0) (w ∷ []) (e .0)) (e .0))))))))))
+
+-- ---- `maintain_for`
+module _ {M : Type 1} (𝓤 : URA M) (H : Heap 𝓤) (A : Atoms 𝓤) (mem : Memory → SProp 𝓤) (run : Routine → Fun 𝓤) where
+  abbrev pub MaintainFor : Contract 𝓤
+  MaintainFor = tripleOf 𝓤 H A maintain-for.signature (maintain-for.spec 𝓤 H A mem run)
+
+  module _ (W : Given 𝓤 H A) (b₀ o₀ : ℕ) (y₀ : List (List ℕ)) (m₀ : ℕ) (b₁ o₁ : ℕ) (y₁ : List (List Float)) (m₁ : ℕ) (b₂ o₂ : ℕ) (y₂ : List (List ℤ)) (m₂ : ℕ) (b₃ o₃ : ℕ) (y₃ : List (ℕ)) (m₃ : ℕ) (b₄ o₄ : ℕ) (y₄ : List (List ℕ)) (m₄ : ℕ) (b₅ o₅ : ℕ) (y₅ : List (List Float)) (m₅ : ℕ) (b₆ o₆ : ℕ) (y₆ : List (List ℕ)) (m₆ : ℕ) (v₀ : ℕ) (ν₀ : ℕ) (δ₀ : GName) (ν₁ : ℕ) (δ₁ : GName) (ν₂ : ℕ) (δ₂ : GName) (ν₃ : ℕ) (δ₃ : GName) (ν₄ : ℕ) (δ₄ : GName) (ν₅ : ℕ) (δ₅ : GName) (ν₆ : ℕ) (δ₆ : GName) where
+    abbrev to-maintain-for : MaintainFor .Ghost
+    to-maintain-for = ((((ν₀ ∷ []), ((ν₁ ∷ []), ((ν₂ ∷ []), ((ν₃ ∷ []), ((ν₄ ∷ []), ((ν₅ ∷ []), ((ν₆ ∷ []), tt))))))), (fullShare, (fullShare, (fullShare, (fullShare, (fullShare, (fullShare, (fullShare, tt))))))), tt, (v₀, (to N4 b₀ o₀ δ₀ y₀, (to F4 b₁ o₁ δ₁ y₁, (to Z4 b₂ o₂ δ₂ y₂, (to u64 b₃ o₃ δ₃ y₃, (to N2 b₄ o₄ δ₄ y₄, (to F2 b₅ o₅ δ₅ y₅, (to N2 b₆ o₆ δ₆ y₆, tt)))))))), ((vint w64 v₀ ∷ []), ((sliceVal (b₀, o₀) m₀ ∷ []), ((sliceVal (b₁, o₁) m₁ ∷ []), ((sliceVal (b₂, o₂) m₂ ∷ []), ((sliceVal (b₃, o₃) m₃ ∷ []), ((sliceVal (b₄, o₄) m₄ ∷ []), ((sliceVal (b₅, o₅) m₅ ∷ []), ((sliceVal (b₆, o₆) m₆ ∷ []), tt))))))))), tt)
+
+    abbrev lent-maintain-for : List (Item 𝓤)
+    lent-maintain-for = ‵ (flft (ν₀ ∷ []) fullShare) ∷ ‵ (flft (ν₁ ∷ []) fullShare) ∷ ‵ (flft (ν₂ ∷ []) fullShare) ∷ ‵ (flft (ν₃ ∷ []) fullShare) ∷ ‵ (flft (ν₄ ∷ []) fullShare) ∷ ‵ (flft (ν₅ ∷ []) fullShare) ∷ ‵ (flft (ν₆ ∷ []) fullShare) ∷ ‵ (MutSlice (named 0) (ν₀ ∷ []) N4 .own (to N4 b₀ o₀ δ₀ y₀) (sliceVal (b₀, o₀) m₀ ∷ [])) ∷ ‵ (MutSlice (named 1) (ν₁ ∷ []) F4 .own (to F4 b₁ o₁ δ₁ y₁) (sliceVal (b₁, o₁) m₁ ∷ [])) ∷ ‵ (MutSlice (named 2) (ν₂ ∷ []) Z4 .own (to Z4 b₂ o₂ δ₂ y₂) (sliceVal (b₂, o₂) m₂ ∷ [])) ∷ ‵ (MutSlice (named 3) (ν₃ ∷ []) u64 .own (to u64 b₃ o₃ δ₃ y₃) (sliceVal (b₃, o₃) m₃ ∷ [])) ∷ ‵ (MutSlice (named 4) (ν₄ ∷ []) N2 .own (to N2 b₄ o₄ δ₄ y₄) (sliceVal (b₄, o₄) m₄ ∷ [])) ∷ ‵ (MutSlice (named 5) (ν₅ ∷ []) F2 .own (to F2 b₅ o₅ δ₅ y₅) (sliceVal (b₅, o₅) m₅ ∷ [])) ∷ ‵ (MutSlice (named 6) (ν₆ ∷ []) N2 .own (to N2 b₆ o₆ δ₆ y₆) (sliceVal (b₆, o₆) m₆ ∷ [])) ∷ []
+
+    goes-maintain-for : v₀ < 2 ^ 64 → ent 𝓤 (⋆ 𝓤 H A lent-maintain-for) (MaintainFor .pre to-maintain-for)
+    goes-maintain-for g₀ = qed W lent-maintain-for ∵ nothing ! $ move ! (7 ∷ 0 ∷ []) $ join ! $ move ! (6 ∷ 0 ∷ []) $ join ! $ move ! (5 ∷ 0 ∷ []) $ join ! $ move ! (4 ∷ 0 ∷ []) $ join ! $ move ! (3 ∷ 0 ∷ []) $ join ! $ move ! (2 ∷ 0 ∷ []) $ join ! $ move ! (1 ∷ 0 ∷ []) $ join ! $ nothing ! $ move ! (8 ∷ 0 ∷ []) $ fjoin ! $ move ! (7 ∷ 0 ∷ []) $ fjoin ! $ move ! (6 ∷ 0 ∷ []) $ fjoin ! $ move ! (5 ∷ 0 ∷ []) $ fjoin ! $ move ! (4 ∷ 0 ∷ []) $ fjoin ! $ move ! (3 ∷ 0 ∷ []) $ fjoin ! $ move ! (2 ∷ 0 ∷ []) $ fjoin ! $ owned ! usize (Is usize) (uint-makes 𝓤 H A W w64) v₀ _ (refl, g₀) $ fjoin ! $ move ! (1 ∷ 0 ∷ []) $ join ! $ nothing ! $ move ! (1 ∷ 0 ∷ []) $ done !
+
+    abbrev told-maintain-for : Val → Maintained → (Unit {0} × (List (List ℕ) × (List (List Float) × (List (List ℤ) × (List (ℕ) × (List (List ℕ) × (List (List Float) × (List (List ℕ) × Unit {0})))))))) → Type 0
+    told-maintain-for w r zs = ((Is MR r (w ∷ [])) × ((length (zs .1 .0) ≡ length y₀) × ((length (zs .1 .1 .0) ≡ length y₁) × ((length (zs .1 .1 .1 .0) ≡ length y₂) × ((length (zs .1 .1 .1 .1 .0) ≡ length y₃) × ((length (zs .1 .1 .1 .1 .1 .0) ≡ length y₄) × ((length (zs .1 .1 .1 .1 .1 .1 .0) ≡ length y₅) × ((length (zs .1 .1 .1 .1 .1 .1 .1 .0) ≡ length y₆) × (outcome r (tables (zs .1 .0) (zs .1 .1 .0) (zs .1 .1 .1 .0) (zs .1 .1 .1 .1 .0) (zs .1 .1 .1 .1 .1 .0) (zs .1 .1 .1 .1 .1 .1 .0) (zs .1 .1 .1 .1 .1 .1 .1 .0)) ≡ maintainFor v₀ (tables y₀ y₁ y₂ y₃ y₄ y₅ y₆) × Unit {0})))))))))
+
+    abbrev back-maintain-for : (Unit {0} × (List (List ℕ) × (List (List Float) × (List (List ℤ) × (List (ℕ) × (List (List ℕ) × (List (List Float) × (List (List ℕ) × Unit {0})))))))) → List (Item 𝓤)
+    back-maintain-for zs = ‵ (flft (ν₀ ∷ []) fullShare) ∷ ‵ (flft (ν₁ ∷ []) fullShare) ∷ ‵ (flft (ν₂ ∷ []) fullShare) ∷ ‵ (flft (ν₃ ∷ []) fullShare) ∷ ‵ (flft (ν₄ ∷ []) fullShare) ∷ ‵ (flft (ν₅ ∷ []) fullShare) ∷ ‵ (flft (ν₆ ∷ []) fullShare) ∷ ‵ (finally N4 δ₀ (zs .1 .0)) ∷ ‵ (finally F4 δ₁ (zs .1 .1 .0)) ∷ ‵ (finally Z4 δ₂ (zs .1 .1 .1 .0)) ∷ ‵ (finally u64 δ₃ (zs .1 .1 .1 .1 .0)) ∷ ‵ (finally N2 δ₄ (zs .1 .1 .1 .1 .1 .0)) ∷ ‵ (finally F2 δ₅ (zs .1 .1 .1 .1 .1 .1 .0)) ∷ ‵ (finally N2 δ₆ (zs .1 .1 .1 .1 .1 .1 .1 .0)) ∷ []
+
+    came-maintain-for : (w : Val) → ent 𝓤 (MaintainFor .post to-maintain-for w) (H .⇛ (ex 𝓤 (λ (y : Maintained × (Unit {0} × (List (List ℕ) × (List (List Float) × (List (List ℤ) × (List (ℕ) × (List (List ℕ) × (List (List Float) × (List (List ℕ) × Unit {0}))))))))). guard 𝓤 (told-maintain-for w (y .0) (y .1)) (⋆ 𝓤 H A (back-maintain-for (y .1))))))
+    came-maintain-for w =
+        qed W (raw (MaintainFor .post to-maintain-for w) ∷ []) ∵ updating ! $
+        use1 W (later (some (λ (r : Maintained). ((‵ (flft (ν₀ ∷ []) fullShare) ⊛ ‵ (flft (ν₁ ∷ []) fullShare) ⊛ ‵ (flft (ν₂ ∷ []) fullShare) ⊛ ‵ (flft (ν₃ ∷ []) fullShare) ⊛ ‵ (flft (ν₄ ∷ []) fullShare) ⊛ ‵ (flft (ν₅ ∷ []) fullShare) ⊛ ‵ (flft (ν₆ ∷ []) fullShare) ⊛ ‵ ftrue) ⊛ ‵ (MR .own r (w ∷ []))) ⊛ raw (ensured 𝓤 H A maintain-for.ended (maintain-for.clauses 𝓤 H A mem run) ((ν₀ ∷ []), ((ν₁ ∷ []), ((ν₂ ∷ []), ((ν₃ ∷ []), ((ν₄ ∷ []), ((ν₅ ∷ []), ((ν₆ ∷ []), tt))))))) (v₀, (to N4 b₀ o₀ δ₀ y₀, (to F4 b₁ o₁ δ₁ y₁, (to Z4 b₂ o₂ δ₂ y₂, (to u64 b₃ o₃ δ₃ y₃, (to N2 b₄ o₄ δ₄ y₄, (to F2 b₅ o₅ δ₅ y₅, (to N2 b₆ o₆ δ₆ y₆, tt)))))))) tt r)))) (id⊢ 𝓤 _) $ await ! tt $ pick ! (λ r.
+        split ! $ move ! (1 ∷ []) $ use1 W (some (λ (zs : (Unit {0} × (List (List ℕ) × (List (List Float) × (List (List ℤ) × (List (ℕ) × (List (List ℕ) × (List (List Float) × (List (List ℕ) × Unit {0}))))))))). ‵ (lasts maintain-for.ended ((ν₀ ∷ []), ((ν₁ ∷ []), ((ν₂ ∷ []), ((ν₃ ∷ []), ((ν₄ ∷ []), ((ν₅ ∷ []), ((ν₆ ∷ []), tt))))))) (v₀, (to N4 b₀ o₀ δ₀ y₀, (to F4 b₁ o₁ δ₁ y₁, (to Z4 b₂ o₂ δ₂ y₂, (to u64 b₃ o₃ δ₃ y₃, (to N2 b₄ o₄ δ₄ y₄, (to F2 b₅ o₅ δ₅ y₅, (to N2 b₆ o₆ δ₆ y₆, tt)))))))) zs) ⊛ raw (fact 𝓤 (outcome r (tables (zs .1 .0) (zs .1 .1 .0) (zs .1 .1 .1 .0) (zs .1 .1 .1 .1 .0) (zs .1 .1 .1 .1 .1 .0) (zs .1 .1 .1 .1 .1 .1 .0) (zs .1 .1 .1 .1 .1 .1 .1 .0)) ≡ maintainFor v₀ (tables y₀ y₁ y₂ y₃ y₄ y₅ y₆))))) (id⊢ 𝓤 _) $ pick ! (λ zs.
+        split ! $ move ! (1 ∷ []) $ heard ! (outcome r (tables (zs .1 .0) (zs .1 .1 .0) (zs .1 .1 .1 .0) (zs .1 .1 .1 .1 .0) (zs .1 .1 .1 .1 .1 .0) (zs .1 .1 .1 .1 .1 .1 .0) (zs .1 .1 .1 .1 .1 .1 .1 .0)) ≡ maintainFor v₀ (tables y₀ y₁ y₂ y₃ y₄ y₅ y₆)) (λ e.
+        fsplit ! $ drop ! $ fsplit ! $ fsplit ! $ move ! (1 ∷ []) $ feqL ! (λ n₀. move ! (1 ∷ []) $ fsplit ! $ fsplit ! $ move ! (1 ∷ []) $ feqL ! (λ n₁. move ! (1 ∷ []) $ fsplit ! $ fsplit ! $ move ! (1 ∷ []) $ feqL ! (λ n₂. move ! (1 ∷ []) $ fsplit ! $ fsplit ! $ move ! (1 ∷ []) $ feqL ! (λ n₃. move ! (1 ∷ []) $ fsplit ! $ fsplit ! $ move ! (1 ∷ []) $ feqL ! (λ n₄. move ! (1 ∷ []) $ fsplit ! $ fsplit ! $ move ! (1 ∷ []) $ feqL ! (λ n₅. move ! (1 ∷ []) $ fsplit ! $ fsplit ! $ move ! (1 ∷ []) $ feqL ! (λ n₆. move ! (1 ∷ []) $ drop ! $ move ! (7 ∷ []) $ split ! $ move ! (1 ∷ []) $ peeks ! MR (Is MR) (shows 𝓤 H A MR) r (w ∷ []) (λ is. drop ! $ split ! $ move ! (1 ∷ []) $ split ! $ move ! (1 ∷ []) $ split ! $ move ! (1 ∷ []) $ split ! $ move ! (1 ∷ []) $ split ! $ move ! (1 ∷ []) $ split ! $ move ! (1 ∷ []) $ split ! $ move ! (1 ∷ []) $ drop ! $ at-once ! $
+        show ! (λ (y : Maintained × (Unit {0} × (List (List ℕ) × (List (List Float) × (List (List ℤ) × (List (ℕ) × (List (List ℕ) × (List (List Float) × (List (List ℕ) × Unit {0}))))))))). guard 𝓤 (told-maintain-for w (y .0) (y .1)) (⋆ 𝓤 H A (back-maintain-for (y .1)))) (r, zs) $ check ! (is, (n₀, (n₁, (n₂, (n₃, (n₄, (n₅, (n₆, (e, tt))))))))) $ keep ! (6 ∷ 5 ∷ 4 ∷ 3 ∷ 2 ∷ 1 ∷ 0 ∷ 13 ∷ 12 ∷ 11 ∷ 10 ∷ 9 ∷ 8 ∷ 7 ∷ []) $ done !)))))))))))
+
+module _ {M : Type 1} {𝓤 : URA M} {H : Heap 𝓤} {A : Atoms 𝓤} {K : Type 0} {W : Given 𝓤 H A} {Γ : List (Item 𝓤)} {E : Env 𝓤 H} {C : Calls 𝓤 H} {Λ : Loops 𝓤 H} {p : Post 𝓤 H} {f : Name} {xs : List Operand} {d : Place} {rest : Body} where
+  pub calls-maintain-for : K → (mem : Memory → SProp 𝓤) (run : Routine → Fun 𝓤) → FmC 𝓤 H (W .laws) C → Triple 𝓤 (C f) (MaintainFor 𝓤 H A mem run) → (ℓ₀ : Lifetime) {κ₀ : Lft} {q₀ : Share} (γ₀ : GName) (b₀ o₀ : ℕ) (y₀ : List (List ℕ)) (m₀ : ℕ) (ℓ₁ : Lifetime) {κ₁ : Lft} {q₁ : Share} (γ₁ : GName) (b₁ o₁ : ℕ) (y₁ : List (List Float)) (m₁ : ℕ) (ℓ₂ : Lifetime) {κ₂ : Lft} {q₂ : Share} (γ₂ : GName) (b₂ o₂ : ℕ) (y₂ : List (List ℤ)) (m₂ : ℕ) (ℓ₃ : Lifetime) {κ₃ : Lft} {q₃ : Share} (γ₃ : GName) (b₃ o₃ : ℕ) (y₃ : List (ℕ)) (m₃ : ℕ) (ℓ₄ : Lifetime) {κ₄ : Lft} {q₄ : Share} (γ₄ : GName) (b₄ o₄ : ℕ) (y₄ : List (List ℕ)) (m₄ : ℕ) (ℓ₅ : Lifetime) {κ₅ : Lft} {q₅ : Share} (γ₅ : GName) (b₅ o₅ : ℕ) (y₅ : List (List Float)) (m₅ : ℕ) (ℓ₆ : Lifetime) {κ₆ : Lft} {q₆ : Share} (γ₆ : GName) (b₆ o₆ : ℕ) (y₆ : List (List ℕ)) (m₆ : ℕ) (v₀ : ℕ)
+      → m₀ ≡ length y₀ → m₁ ≡ length y₁ → m₂ ≡ length y₂ → m₃ ≡ length y₃ → m₄ ≡ length y₄ → m₅ ≡ length y₅ → m₆ ≡ length y₆ → Room N4 m₀ → Room F4 m₁ → Room Z4 m₂ → Room u64 m₃ → Room N2 m₄ → Room F2 m₅ → Room N2 m₆ → v₀ < 2 ^ 64 → ((i₀ i₁ i₂ i₃ i₄ i₅ i₆ i₇ : Item 𝓤) → Opds K W (i₀ ∷ i₁ ∷ i₂ ∷ i₃ ∷ i₄ ∷ i₅ ∷ i₆ ∷ i₇ ∷ Γ) E xs (vint w64 v₀ ∷ sliceVal (b₀, o₀) m₀ ∷ sliceVal (b₁, o₁) m₁ ∷ sliceVal (b₂, o₂) m₂ ∷ sliceVal (b₃, o₃) m₃ ∷ sliceVal (b₄, o₄) m₄ ∷ sliceVal (b₅, o₅) m₅ ∷ sliceVal (b₆, o₆) m₆ ∷ []))
+      → ((r : Maintained) (zs : (Unit {0} × (List (List ℕ) × (List (List Float) × (List (List ℤ) × (List (ℕ) × (List (List ℕ) × (List (List Float) × (List (List ℕ) × Unit {0}))))))))) → (length (zs .1 .0) ≡ length y₀) → (length (zs .1 .1 .0) ≡ length y₁) → (length (zs .1 .1 .1 .0) ≡ length y₂) → (length (zs .1 .1 .1 .1 .0) ≡ length y₃) → (length (zs .1 .1 .1 .1 .1 .0) ≡ length y₄) → (length (zs .1 .1 .1 .1 .1 .1 .0) ≡ length y₅) → (length (zs .1 .1 .1 .1 .1 .1 .1 .0) ≡ length y₆) → (outcome r (tables (zs .1 .0) (zs .1 .1 .0) (zs .1 .1 .1 .0) (zs .1 .1 .1 .1 .0) (zs .1 .1 .1 .1 .1 .0) (zs .1 .1 .1 .1 .1 .1 .0) (zs .1 .1 .1 .1 .1 .1 .1 .0)) ≡ maintainFor v₀ (tables y₀ y₁ y₂ y₃ y₄ y₅ y₆)) → Is MR r (Mvals r) → Seq K W (‵ (MutSlice ℓ₀ κ₀ N4 .own (to N4 b₀ o₀ γ₀ (zs .1 .0)) (sliceVal (b₀, o₀) m₀ ∷ [])) ∷ ‵ (flft κ₀ q₀) ∷ ‵ (MutSlice ℓ₁ κ₁ F4 .own (to F4 b₁ o₁ γ₁ (zs .1 .1 .0)) (sliceVal (b₁, o₁) m₁ ∷ [])) ∷ ‵ (flft κ₁ q₁) ∷ ‵ (MutSlice ℓ₂ κ₂ Z4 .own (to Z4 b₂ o₂ γ₂ (zs .1 .1 .1 .0)) (sliceVal (b₂, o₂) m₂ ∷ [])) ∷ ‵ (flft κ₂ q₂) ∷ ‵ (MutSlice ℓ₃ κ₃ u64 .own (to u64 b₃ o₃ γ₃ (zs .1 .1 .1 .1 .0)) (sliceVal (b₃, o₃) m₃ ∷ [])) ∷ ‵ (flft κ₃ q₃) ∷ ‵ (MutSlice ℓ₄ κ₄ N2 .own (to N2 b₄ o₄ γ₄ (zs .1 .1 .1 .1 .1 .0)) (sliceVal (b₄, o₄) m₄ ∷ [])) ∷ ‵ (flft κ₄ q₄) ∷ ‵ (MutSlice ℓ₅ κ₅ F2 .own (to F2 b₅ o₅ γ₅ (zs .1 .1 .1 .1 .1 .1 .0)) (sliceVal (b₅, o₅) m₅ ∷ [])) ∷ ‵ (flft κ₅ q₅) ∷ ‵ (MutSlice ℓ₆ κ₆ N2 .own (to N2 b₆ o₆ γ₆ (zs .1 .1 .1 .1 .1 .1 .1 .0)) (sliceVal (b₆, o₆) m₆ ∷ [])) ∷ ‵ (flft κ₆ q₆) ∷ Γ) (lands C Λ E d (Mval r) rest p))
+      → Seq K W (‵ (MutSlice ℓ₀ κ₀ N4 .own (to N4 b₀ o₀ γ₀ y₀) (sliceVal (b₀, o₀) m₀ ∷ [])) ∷ ‵ (flft κ₀ q₀) ∷ ‵ (MutSlice ℓ₁ κ₁ F4 .own (to F4 b₁ o₁ γ₁ y₁) (sliceVal (b₁, o₁) m₁ ∷ [])) ∷ ‵ (flft κ₁ q₁) ∷ ‵ (MutSlice ℓ₂ κ₂ Z4 .own (to Z4 b₂ o₂ γ₂ y₂) (sliceVal (b₂, o₂) m₂ ∷ [])) ∷ ‵ (flft κ₂ q₂) ∷ ‵ (MutSlice ℓ₃ κ₃ u64 .own (to u64 b₃ o₃ γ₃ y₃) (sliceVal (b₃, o₃) m₃ ∷ [])) ∷ ‵ (flft κ₃ q₃) ∷ ‵ (MutSlice ℓ₄ κ₄ N2 .own (to N2 b₄ o₄ γ₄ y₄) (sliceVal (b₄, o₄) m₄ ∷ [])) ∷ ‵ (flft κ₄ q₄) ∷ ‵ (MutSlice ℓ₅ κ₅ F2 .own (to F2 b₅ o₅ γ₅ y₅) (sliceVal (b₅, o₅) m₅ ∷ [])) ∷ ‵ (flft κ₅ q₅) ∷ ‵ (MutSlice ℓ₆ κ₆ N2 .own (to N2 b₆ o₆ γ₆ y₆) (sliceVal (b₆, o₆) m₆ ∷ [])) ∷ ‵ (flft κ₆ q₆) ∷ Γ) (runs C Λ E (seq (call f xs d) rest) p)
+  calls-maintain-for t mem run fm met ℓ₀ {κ₀} {q₀} γ₀ b₀ o₀ y₀ m₀ ℓ₁ {κ₁} {q₁} γ₁ b₁ o₁ y₁ m₁ ℓ₂ {κ₂} {q₂} γ₂ b₂ o₂ y₂ m₂ ℓ₃ {κ₃} {q₃} γ₃ b₃ o₃ y₃ m₃ ℓ₄ {κ₄} {q₄} γ₄ b₄ o₄ y₄ m₄ ℓ₅ {κ₅} {q₅} γ₅ b₅ o₅ y₅ m₅ ℓ₆ {κ₆} {q₆} γ₆ b₆ o₆ y₆ m₆ v₀ e₀ e₁ e₂ e₃ e₄ e₅ e₆ room₀ room₁ room₂ room₃ room₄ room₅ room₆ g₀ os k =
+      lend-mut t tt N4 ℓ₀ (named 0) γ₀ b₀ o₀ y₀ m₀ e₀ (λ ν₀ δ₀.
+      move t (3 ∷ 4 ∷ []) $ lend-mut t tt F4 ℓ₁ (named 1) γ₁ b₁ o₁ y₁ m₁ e₁ (λ ν₁ δ₁.
+      move t (6 ∷ 7 ∷ []) $ lend-mut t tt Z4 ℓ₂ (named 2) γ₂ b₂ o₂ y₂ m₂ e₂ (λ ν₂ δ₂.
+      move t (9 ∷ 10 ∷ []) $ lend-mut t tt u64 ℓ₃ (named 3) γ₃ b₃ o₃ y₃ m₃ e₃ (λ ν₃ δ₃.
+      move t (12 ∷ 13 ∷ []) $ lend-mut t tt N2 ℓ₄ (named 4) γ₄ b₄ o₄ y₄ m₄ e₄ (λ ν₄ δ₄.
+      move t (15 ∷ 16 ∷ []) $ lend-mut t tt F2 ℓ₅ (named 5) γ₅ b₅ o₅ y₅ m₅ e₅ (λ ν₅ δ₅.
+      move t (18 ∷ 19 ∷ []) $ lend-mut t tt N2 ℓ₆ (named 6) γ₆ b₆ o₆ y₆ m₆ e₆ (λ ν₆ δ₆.
+      move t (18 ∷ 15 ∷ 12 ∷ 9 ∷ 6 ∷ 3 ∷ 0 ∷ 19 ∷ 16 ∷ 13 ∷ 10 ∷ 7 ∷ 4 ∷ 1 ∷ []) $ cut (lent-maintain-for 𝓤 H A mem run W b₀ o₀ y₀ m₀ b₁ o₁ y₁ m₁ b₂ o₂ y₂ m₂ b₃ o₃ y₃ m₃ b₄ o₄ y₄ m₄ b₅ o₅ y₅ m₅ b₆ o₆ y₆ m₆ v₀ ν₀ δ₀ ν₁ δ₁ ν₂ δ₂ ν₃ δ₃ ν₄ δ₄ ν₅ δ₅ ν₆ δ₆) (raw (MaintainFor 𝓤 H A mem run .pre (to-maintain-for 𝓤 H A mem run W b₀ o₀ y₀ m₀ b₁ o₁ y₁ m₁ b₂ o₂ y₂ m₂ b₃ o₃ y₃ m₃ b₄ o₄ y₄ m₄ b₅ o₅ y₅ m₅ b₆ o₆ y₆ m₆ v₀ ν₀ δ₀ ν₁ δ₁ ν₂ δ₂ ν₃ δ₃ ν₄ δ₄ ν₅ δ₅ ν₆ δ₆)) ∷ []) _ (goes-maintain-for 𝓤 H A mem run W b₀ o₀ y₀ m₀ b₁ o₁ y₁ m₁ b₂ o₂ y₂ m₂ b₃ o₃ y₃ m₃ b₄ o₄ y₄ m₄ b₅ o₅ y₅ m₅ b₆ o₆ y₆ m₆ v₀ ν₀ δ₀ ν₁ δ₁ ν₂ δ₂ ν₃ δ₃ ν₄ δ₄ ν₅ δ₅ ν₆ δ₆ g₀) $
+      calls-at t fm (MaintainFor 𝓤 H A mem run) met (to-maintain-for 𝓤 H A mem run W b₀ o₀ y₀ m₀ b₁ o₁ y₁ m₁ b₂ o₂ y₂ m₂ b₃ o₃ y₃ m₃ b₄ o₄ y₄ m₄ b₅ o₅ y₅ m₅ b₆ o₆ y₆ m₆ v₀ ν₀ δ₀ ν₁ δ₁ ν₂ δ₂ ν₃ δ₃ ν₄ δ₄ ν₅ δ₅ ν₆ δ₆) (os _ _ _ _ _ _ _ _) (λ w.
+      use1 W (later (some (λ (y : Maintained × (Unit {0} × (List (List ℕ) × (List (List Float) × (List (List ℤ) × (List (ℕ) × (List (List ℕ) × (List (List Float) × (List (List ℕ) × Unit {0}))))))))). given (told-maintain-for 𝓤 H A mem run W b₀ o₀ y₀ m₀ b₁ o₁ y₁ m₁ b₂ o₂ y₂ m₂ b₃ o₃ y₃ m₃ b₄ o₄ y₄ m₄ b₅ o₅ y₅ m₅ b₆ o₆ y₆ m₆ v₀ ν₀ δ₀ ν₁ δ₁ ν₂ δ₂ ν₃ δ₃ ν₄ δ₄ ν₅ δ₅ ν₆ δ₆ w (y .0) (y .1)) (‵ (flft (ν₀ ∷ []) fullShare) ⊛ ‵ (flft (ν₁ ∷ []) fullShare) ⊛ ‵ (flft (ν₂ ∷ []) fullShare) ⊛ ‵ (flft (ν₃ ∷ []) fullShare) ⊛ ‵ (flft (ν₄ ∷ []) fullShare) ⊛ ‵ (flft (ν₅ ∷ []) fullShare) ⊛ ‵ (flft (ν₆ ∷ []) fullShare) ⊛ ‵ (finally N4 δ₀ (y .1 .1 .0)) ⊛ ‵ (finally F4 δ₁ (y .1 .1 .1 .0)) ⊛ ‵ (finally Z4 δ₂ (y .1 .1 .1 .1 .0)) ⊛ ‵ (finally u64 δ₃ (y .1 .1 .1 .1 .1 .0)) ⊛ ‵ (finally N2 δ₄ (y .1 .1 .1 .1 .1 .1 .0)) ⊛ ‵ (finally F2 δ₅ (y .1 .1 .1 .1 .1 .1 .1 .0)) ⊛ ‵ (finally N2 δ₆ (y .1 .1 .1 .1 .1 .1 .1 .1 .0)))))) (came-maintain-for 𝓤 H A mem run W b₀ o₀ y₀ m₀ b₁ o₁ y₁ m₁ b₂ o₂ y₂ m₂ b₃ o₃ y₃ m₃ b₄ o₄ y₄ m₄ b₅ o₅ y₅ m₅ b₆ o₆ y₆ m₆ v₀ ν₀ δ₀ ν₁ δ₁ ν₂ δ₂ ν₃ δ₃ ν₄ δ₄ ν₅ δ₅ ν₆ δ₆ w) $ await t tt $ pick t (λ y. learn t (λ e.
+      split t $ move t (1 ∷ []) $ split t $ move t (1 ∷ []) $ split t $ move t (1 ∷ []) $ split t $ move t (1 ∷ []) $ split t $ move t (1 ∷ []) $ split t $ move t (1 ∷ []) $ split t $ move t (1 ∷ []) $ split t $ move t (1 ∷ []) $ split t $ move t (1 ∷ []) $ split t $ move t (1 ∷ []) $ split t $ move t (1 ∷ []) $ split t $ move t (1 ∷ []) $ split t $ 
+      move t (13 ∷ 6 ∷ 20 ∷ []) $ back-mut t tt N4 ℓ₀ (named 0) γ₀ b₀ o₀ y₀ m₀ e₀ ν₀ δ₀ (y .1 .1 .0) room₀ (e .1 .0) $
+      move t (13 ∷ 7 ∷ 19 ∷ []) $ back-mut t tt F4 ℓ₁ (named 1) γ₁ b₁ o₁ y₁ m₁ e₁ ν₁ δ₁ (y .1 .1 .1 .0) room₁ (e .1 .1 .0) $
+      move t (13 ∷ 8 ∷ 18 ∷ []) $ back-mut t tt Z4 ℓ₂ (named 2) γ₂ b₂ o₂ y₂ m₂ e₂ ν₂ δ₂ (y .1 .1 .1 .1 .0) room₂ (e .1 .1 .1 .0) $
+      move t (13 ∷ 9 ∷ 17 ∷ []) $ back-mut t tt u64 ℓ₃ (named 3) γ₃ b₃ o₃ y₃ m₃ e₃ ν₃ δ₃ (y .1 .1 .1 .1 .1 .0) room₃ (e .1 .1 .1 .1 .0) $
+      move t (13 ∷ 10 ∷ 16 ∷ []) $ back-mut t tt N2 ℓ₄ (named 4) γ₄ b₄ o₄ y₄ m₄ e₄ ν₄ δ₄ (y .1 .1 .1 .1 .1 .1 .0) room₄ (e .1 .1 .1 .1 .1 .0) $
+      move t (13 ∷ 10 ∷ 15 ∷ []) $ back-mut t tt F2 ℓ₅ (named 5) γ₅ b₅ o₅ y₅ m₅ e₅ ν₅ δ₅ (y .1 .1 .1 .1 .1 .1 .1 .0) room₅ (e .1 .1 .1 .1 .1 .1 .0) $
+      move t (13 ∷ 12 ∷ 14 ∷ []) $ back-mut t tt N2 ℓ₆ (named 6) γ₆ b₆ o₆ y₆ m₆ e₆ ν₆ δ₆ (y .1 .1 .1 .1 .1 .1 .1 .1 .0) room₆ (e .1 .1 .1 .1 .1 .1 .1 .0) $
+      move t (12 ∷ 13 ∷ 10 ∷ 11 ∷ 8 ∷ 9 ∷ 6 ∷ 7 ∷ 4 ∷ 5 ∷ 2 ∷ 3 ∷ 0 ∷ 1 ∷ []) $ subst (λ (u : Val). Seq K W (‵ (MutSlice ℓ₀ κ₀ N4 .own (to N4 b₀ o₀ γ₀ (y .1 .1 .0)) (sliceVal (b₀, o₀) m₀ ∷ [])) ∷ ‵ (flft κ₀ q₀) ∷ ‵ (MutSlice ℓ₁ κ₁ F4 .own (to F4 b₁ o₁ γ₁ (y .1 .1 .1 .0)) (sliceVal (b₁, o₁) m₁ ∷ [])) ∷ ‵ (flft κ₁ q₁) ∷ ‵ (MutSlice ℓ₂ κ₂ Z4 .own (to Z4 b₂ o₂ γ₂ (y .1 .1 .1 .1 .0)) (sliceVal (b₂, o₂) m₂ ∷ [])) ∷ ‵ (flft κ₂ q₂) ∷ ‵ (MutSlice ℓ₃ κ₃ u64 .own (to u64 b₃ o₃ γ₃ (y .1 .1 .1 .1 .1 .0)) (sliceVal (b₃, o₃) m₃ ∷ [])) ∷ ‵ (flft κ₃ q₃) ∷ ‵ (MutSlice ℓ₄ κ₄ N2 .own (to N2 b₄ o₄ γ₄ (y .1 .1 .1 .1 .1 .1 .0)) (sliceVal (b₄, o₄) m₄ ∷ [])) ∷ ‵ (flft κ₄ q₄) ∷ ‵ (MutSlice ℓ₅ κ₅ F2 .own (to F2 b₅ o₅ γ₅ (y .1 .1 .1 .1 .1 .1 .1 .0)) (sliceVal (b₅, o₅) m₅ ∷ [])) ∷ ‵ (flft κ₅ q₅) ∷ ‵ (MutSlice ℓ₆ κ₆ N2 .own (to N2 b₆ o₆ γ₆ (y .1 .1 .1 .1 .1 .1 .1 .1 .0)) (sliceVal (b₆, o₆) m₆ ∷ [])) ∷ ‵ (flft κ₆ q₆) ∷ Γ) (lands C Λ E d u rest p)) (sym (ap only (LL.tells MT.the-type MT′.the-laws (y .0) (w ∷ []) (e .0)))) (k (y .0) (y .1) (e .1 .0) (e .1 .1 .0) (e .1 .1 .1 .0) (e .1 .1 .1 .1 .0) (e .1 .1 .1 .1 .1 .0) (e .1 .1 .1 .1 .1 .1 .0) (e .1 .1 .1 .1 .1 .1 .1 .0) (e .1 .1 .1 .1 .1 .1 .1 .1 .0) (subst (Is MR (y .0)) (LL.tells MT.the-type MT′.the-laws (y .0) (w ∷ []) (e .0)) (e .0)))))))))))))
+
+-- ---- `insert_for`
+module _ {M : Type 1} (𝓤 : URA M) (H : Heap 𝓤) (A : Atoms 𝓤) (mem : Memory → SProp 𝓤) (run : Routine → Fun 𝓤) where
+  abbrev pub InsertFor : Contract 𝓤
+  InsertFor = tripleOf 𝓤 H A insert-for.signature (insert-for.spec 𝓤 H A mem run)
+
+  module _ (W : Given 𝓤 H A) (b₀ o₀ : ℕ) (y₀ : List (List ℕ)) (m₀ : ℕ) (b₁ o₁ : ℕ) (y₁ : List (List Float)) (m₁ : ℕ) (b₂ o₂ : ℕ) (y₂ : List (List ℤ)) (m₂ : ℕ) (b₃ o₃ : ℕ) (y₃ : List (ℕ)) (m₃ : ℕ) (b₄ o₄ : ℕ) (y₄ : List (List ℕ)) (m₄ : ℕ) (b₅ o₅ : ℕ) (y₅ : List (List Float)) (m₅ : ℕ) (b₆ o₆ : ℕ) (y₆ : List (List ℕ)) (m₆ : ℕ) (v₀ : ℕ) (v₁ : Position) (v₂ : ℕ) (ν₀ : ℕ) (δ₀ : GName) (ν₁ : ℕ) (δ₁ : GName) (ν₂ : ℕ) (δ₂ : GName) (ν₃ : ℕ) (δ₃ : GName) (ν₄ : ℕ) (δ₄ : GName) (ν₅ : ℕ) (δ₅ : GName) (ν₆ : ℕ) (δ₆ : GName) where
+    abbrev to-insert-for : InsertFor .Ghost
+    to-insert-for = ((((ν₀ ∷ []), ((ν₁ ∷ []), ((ν₂ ∷ []), ((ν₃ ∷ []), ((ν₄ ∷ []), ((ν₅ ∷ []), ((ν₆ ∷ []), tt))))))), (fullShare, (fullShare, (fullShare, (fullShare, (fullShare, (fullShare, (fullShare, tt))))))), tt, (v₀, (to N4 b₀ o₀ δ₀ y₀, (to F4 b₁ o₁ δ₁ y₁, (to Z4 b₂ o₂ δ₂ y₂, (to u64 b₃ o₃ δ₃ y₃, (to N2 b₄ o₄ δ₄ y₄, (to F2 b₅ o₅ δ₅ y₅, (to N2 b₆ o₆ δ₆ y₆, (v₁, (v₂, tt)))))))))), ((vint w64 v₀ ∷ []), ((sliceVal (b₀, o₀) m₀ ∷ []), ((sliceVal (b₁, o₁) m₁ ∷ []), ((sliceVal (b₂, o₂) m₂ ∷ []), ((sliceVal (b₃, o₃) m₃ ∷ []), ((sliceVal (b₄, o₄) m₄ ∷ []), ((sliceVal (b₅, o₅) m₅ ∷ []), ((sliceVal (b₆, o₆) m₆ ∷ []), ((pvals v₁), ((vint w32 v₂ ∷ []), tt))))))))))), tt)
+
+    abbrev lent-insert-for : List (Item 𝓤)
+    lent-insert-for = ‵ (flft (ν₀ ∷ []) fullShare) ∷ ‵ (flft (ν₁ ∷ []) fullShare) ∷ ‵ (flft (ν₂ ∷ []) fullShare) ∷ ‵ (flft (ν₃ ∷ []) fullShare) ∷ ‵ (flft (ν₄ ∷ []) fullShare) ∷ ‵ (flft (ν₅ ∷ []) fullShare) ∷ ‵ (flft (ν₆ ∷ []) fullShare) ∷ ‵ (MutSlice (named 0) (ν₀ ∷ []) N4 .own (to N4 b₀ o₀ δ₀ y₀) (sliceVal (b₀, o₀) m₀ ∷ [])) ∷ ‵ (MutSlice (named 1) (ν₁ ∷ []) F4 .own (to F4 b₁ o₁ δ₁ y₁) (sliceVal (b₁, o₁) m₁ ∷ [])) ∷ ‵ (MutSlice (named 2) (ν₂ ∷ []) Z4 .own (to Z4 b₂ o₂ δ₂ y₂) (sliceVal (b₂, o₂) m₂ ∷ [])) ∷ ‵ (MutSlice (named 3) (ν₃ ∷ []) u64 .own (to u64 b₃ o₃ δ₃ y₃) (sliceVal (b₃, o₃) m₃ ∷ [])) ∷ ‵ (MutSlice (named 4) (ν₄ ∷ []) N2 .own (to N2 b₄ o₄ δ₄ y₄) (sliceVal (b₄, o₄) m₄ ∷ [])) ∷ ‵ (MutSlice (named 5) (ν₅ ∷ []) F2 .own (to F2 b₅ o₅ δ₅ y₅) (sliceVal (b₅, o₅) m₅ ∷ [])) ∷ ‵ (MutSlice (named 6) (ν₆ ∷ []) N2 .own (to N2 b₆ o₆ δ₆ y₆) (sliceVal (b₆, o₆) m₆ ∷ [])) ∷ []
+
+    goes-insert-for : v₀ < 2 ^ 64 → Is PR v₁ (pvals v₁) → v₂ < 2 ^ 32 → ent 𝓤 (⋆ 𝓤 H A lent-insert-for) (InsertFor .pre to-insert-for)
+    goes-insert-for g₀ g₁ g₂ = qed W lent-insert-for ∵ nothing ! $ move ! (7 ∷ 0 ∷ []) $ join ! $ move ! (6 ∷ 0 ∷ []) $ join ! $ move ! (5 ∷ 0 ∷ []) $ join ! $ move ! (4 ∷ 0 ∷ []) $ join ! $ move ! (3 ∷ 0 ∷ []) $ join ! $ move ! (2 ∷ 0 ∷ []) $ join ! $ move ! (1 ∷ 0 ∷ []) $ join ! $ nothing ! $ owned ! u32 (Is u32) (uint-makes 𝓤 H A W w32) v₂ _ (refl, g₂) $ fjoin ! $ owned ! PR (Is PR) (LL.makes PT.the-type PT′.the-plain 𝓤 H A) v₁ _ g₁ $ fjoin ! $ move ! (8 ∷ 0 ∷ []) $ fjoin ! $ move ! (7 ∷ 0 ∷ []) $ fjoin ! $ move ! (6 ∷ 0 ∷ []) $ fjoin ! $ move ! (5 ∷ 0 ∷ []) $ fjoin ! $ move ! (4 ∷ 0 ∷ []) $ fjoin ! $ move ! (3 ∷ 0 ∷ []) $ fjoin ! $ move ! (2 ∷ 0 ∷ []) $ fjoin ! $ owned ! usize (Is usize) (uint-makes 𝓤 H A W w64) v₀ _ (refl, g₀) $ fjoin ! $ move ! (1 ∷ 0 ∷ []) $ join ! $ nothing ! $ move ! (1 ∷ 0 ∷ []) $ done !
+
+    abbrev told-insert-for : Val → Inserted → (Unit {0} × (List (List ℕ) × (List (List Float) × (List (List ℤ) × (List (ℕ) × (List (List ℕ) × (List (List Float) × (List (List ℕ) × (Unit {0} × (Unit {0} × Unit {0})))))))))) → Type 0
+    told-insert-for w r zs = ((Is IR r (w ∷ [])) × ((length (zs .1 .0) ≡ length y₀) × ((length (zs .1 .1 .0) ≡ length y₁) × ((length (zs .1 .1 .1 .0) ≡ length y₂) × ((length (zs .1 .1 .1 .1 .0) ≡ length y₃) × ((length (zs .1 .1 .1 .1 .1 .0) ≡ length y₄) × ((length (zs .1 .1 .1 .1 .1 .1 .0) ≡ length y₅) × ((length (zs .1 .1 .1 .1 .1 .1 .1 .0) ≡ length y₆) × (outcome r (tables (zs .1 .0) (zs .1 .1 .0) (zs .1 .1 .1 .0) (zs .1 .1 .1 .1 .0) (zs .1 .1 .1 .1 .1 .0) (zs .1 .1 .1 .1 .1 .1 .0) (zs .1 .1 .1 .1 .1 .1 .1 .0)) ≡ insertFor v₀ (tables y₀ y₁ y₂ y₃ y₄ y₅ y₆) v₁ v₂ × Unit {0})))))))))
+
+    abbrev back-insert-for : (Unit {0} × (List (List ℕ) × (List (List Float) × (List (List ℤ) × (List (ℕ) × (List (List ℕ) × (List (List Float) × (List (List ℕ) × (Unit {0} × (Unit {0} × Unit {0})))))))))) → List (Item 𝓤)
+    back-insert-for zs = ‵ (flft (ν₀ ∷ []) fullShare) ∷ ‵ (flft (ν₁ ∷ []) fullShare) ∷ ‵ (flft (ν₂ ∷ []) fullShare) ∷ ‵ (flft (ν₃ ∷ []) fullShare) ∷ ‵ (flft (ν₄ ∷ []) fullShare) ∷ ‵ (flft (ν₅ ∷ []) fullShare) ∷ ‵ (flft (ν₆ ∷ []) fullShare) ∷ ‵ (finally N4 δ₀ (zs .1 .0)) ∷ ‵ (finally F4 δ₁ (zs .1 .1 .0)) ∷ ‵ (finally Z4 δ₂ (zs .1 .1 .1 .0)) ∷ ‵ (finally u64 δ₃ (zs .1 .1 .1 .1 .0)) ∷ ‵ (finally N2 δ₄ (zs .1 .1 .1 .1 .1 .0)) ∷ ‵ (finally F2 δ₅ (zs .1 .1 .1 .1 .1 .1 .0)) ∷ ‵ (finally N2 δ₆ (zs .1 .1 .1 .1 .1 .1 .1 .0)) ∷ []
+
+    came-insert-for : (w : Val) → ent 𝓤 (InsertFor .post to-insert-for w) (H .⇛ (ex 𝓤 (λ (y : Inserted × (Unit {0} × (List (List ℕ) × (List (List Float) × (List (List ℤ) × (List (ℕ) × (List (List ℕ) × (List (List Float) × (List (List ℕ) × (Unit {0} × (Unit {0} × Unit {0}))))))))))). guard 𝓤 (told-insert-for w (y .0) (y .1)) (⋆ 𝓤 H A (back-insert-for (y .1))))))
+    came-insert-for w =
+        qed W (raw (InsertFor .post to-insert-for w) ∷ []) ∵ updating ! $
+        use1 W (later (some (λ (r : Inserted). ((‵ (flft (ν₀ ∷ []) fullShare) ⊛ ‵ (flft (ν₁ ∷ []) fullShare) ⊛ ‵ (flft (ν₂ ∷ []) fullShare) ⊛ ‵ (flft (ν₃ ∷ []) fullShare) ⊛ ‵ (flft (ν₄ ∷ []) fullShare) ⊛ ‵ (flft (ν₅ ∷ []) fullShare) ⊛ ‵ (flft (ν₆ ∷ []) fullShare) ⊛ ‵ ftrue) ⊛ ‵ (IR .own r (w ∷ []))) ⊛ raw (ensured 𝓤 H A insert-for.ended (insert-for.clauses 𝓤 H A mem run) ((ν₀ ∷ []), ((ν₁ ∷ []), ((ν₂ ∷ []), ((ν₃ ∷ []), ((ν₄ ∷ []), ((ν₅ ∷ []), ((ν₆ ∷ []), tt))))))) (v₀, (to N4 b₀ o₀ δ₀ y₀, (to F4 b₁ o₁ δ₁ y₁, (to Z4 b₂ o₂ δ₂ y₂, (to u64 b₃ o₃ δ₃ y₃, (to N2 b₄ o₄ δ₄ y₄, (to F2 b₅ o₅ δ₅ y₅, (to N2 b₆ o₆ δ₆ y₆, (v₁, (v₂, tt)))))))))) tt r)))) (id⊢ 𝓤 _) $ await ! tt $ pick ! (λ r.
+        split ! $ move ! (1 ∷ []) $ use1 W (some (λ (zs : (Unit {0} × (List (List ℕ) × (List (List Float) × (List (List ℤ) × (List (ℕ) × (List (List ℕ) × (List (List Float) × (List (List ℕ) × (Unit {0} × (Unit {0} × Unit {0}))))))))))). ‵ (lasts insert-for.ended ((ν₀ ∷ []), ((ν₁ ∷ []), ((ν₂ ∷ []), ((ν₃ ∷ []), ((ν₄ ∷ []), ((ν₅ ∷ []), ((ν₆ ∷ []), tt))))))) (v₀, (to N4 b₀ o₀ δ₀ y₀, (to F4 b₁ o₁ δ₁ y₁, (to Z4 b₂ o₂ δ₂ y₂, (to u64 b₃ o₃ δ₃ y₃, (to N2 b₄ o₄ δ₄ y₄, (to F2 b₅ o₅ δ₅ y₅, (to N2 b₆ o₆ δ₆ y₆, (v₁, (v₂, tt)))))))))) zs) ⊛ raw (fact 𝓤 (outcome r (tables (zs .1 .0) (zs .1 .1 .0) (zs .1 .1 .1 .0) (zs .1 .1 .1 .1 .0) (zs .1 .1 .1 .1 .1 .0) (zs .1 .1 .1 .1 .1 .1 .0) (zs .1 .1 .1 .1 .1 .1 .1 .0)) ≡ insertFor v₀ (tables y₀ y₁ y₂ y₃ y₄ y₅ y₆) v₁ v₂)))) (id⊢ 𝓤 _) $ pick ! (λ zs.
+        split ! $ move ! (1 ∷ []) $ heard ! (outcome r (tables (zs .1 .0) (zs .1 .1 .0) (zs .1 .1 .1 .0) (zs .1 .1 .1 .1 .0) (zs .1 .1 .1 .1 .1 .0) (zs .1 .1 .1 .1 .1 .1 .0) (zs .1 .1 .1 .1 .1 .1 .1 .0)) ≡ insertFor v₀ (tables y₀ y₁ y₂ y₃ y₄ y₅ y₆) v₁ v₂) (λ e.
+        fsplit ! $ drop ! $ fsplit ! $ fsplit ! $ move ! (1 ∷ []) $ feqL ! (λ n₀. move ! (1 ∷ []) $ fsplit ! $ fsplit ! $ move ! (1 ∷ []) $ feqL ! (λ n₁. move ! (1 ∷ []) $ fsplit ! $ fsplit ! $ move ! (1 ∷ []) $ feqL ! (λ n₂. move ! (1 ∷ []) $ fsplit ! $ fsplit ! $ move ! (1 ∷ []) $ feqL ! (λ n₃. move ! (1 ∷ []) $ fsplit ! $ fsplit ! $ move ! (1 ∷ []) $ feqL ! (λ n₄. move ! (1 ∷ []) $ fsplit ! $ fsplit ! $ move ! (1 ∷ []) $ feqL ! (λ n₅. move ! (1 ∷ []) $ fsplit ! $ fsplit ! $ move ! (1 ∷ []) $ feqL ! (λ n₆. move ! (1 ∷ []) $ drop ! $ move ! (7 ∷ []) $ split ! $ move ! (1 ∷ []) $ peeks ! IR (Is IR) (shows 𝓤 H A IR) r (w ∷ []) (λ is. drop ! $ split ! $ move ! (1 ∷ []) $ split ! $ move ! (1 ∷ []) $ split ! $ move ! (1 ∷ []) $ split ! $ move ! (1 ∷ []) $ split ! $ move ! (1 ∷ []) $ split ! $ move ! (1 ∷ []) $ split ! $ move ! (1 ∷ []) $ drop ! $ at-once ! $
+        show ! (λ (y : Inserted × (Unit {0} × (List (List ℕ) × (List (List Float) × (List (List ℤ) × (List (ℕ) × (List (List ℕ) × (List (List Float) × (List (List ℕ) × (Unit {0} × (Unit {0} × Unit {0}))))))))))). guard 𝓤 (told-insert-for w (y .0) (y .1)) (⋆ 𝓤 H A (back-insert-for (y .1)))) (r, zs) $ check ! (is, (n₀, (n₁, (n₂, (n₃, (n₄, (n₅, (n₆, (e, tt))))))))) $ keep ! (6 ∷ 5 ∷ 4 ∷ 3 ∷ 2 ∷ 1 ∷ 0 ∷ 13 ∷ 12 ∷ 11 ∷ 10 ∷ 9 ∷ 8 ∷ 7 ∷ []) $ done !)))))))))))
+
+module _ {M : Type 1} {𝓤 : URA M} {H : Heap 𝓤} {A : Atoms 𝓤} {K : Type 0} {W : Given 𝓤 H A} {Γ : List (Item 𝓤)} {E : Env 𝓤 H} {C : Calls 𝓤 H} {Λ : Loops 𝓤 H} {p : Post 𝓤 H} {f : Name} {xs : List Operand} {d : Place} {rest : Body} where
+  pub calls-insert-for : K → (mem : Memory → SProp 𝓤) (run : Routine → Fun 𝓤) → FmC 𝓤 H (W .laws) C → Triple 𝓤 (C f) (InsertFor 𝓤 H A mem run) → (ℓ₀ : Lifetime) {κ₀ : Lft} {q₀ : Share} (γ₀ : GName) (b₀ o₀ : ℕ) (y₀ : List (List ℕ)) (m₀ : ℕ) (ℓ₁ : Lifetime) {κ₁ : Lft} {q₁ : Share} (γ₁ : GName) (b₁ o₁ : ℕ) (y₁ : List (List Float)) (m₁ : ℕ) (ℓ₂ : Lifetime) {κ₂ : Lft} {q₂ : Share} (γ₂ : GName) (b₂ o₂ : ℕ) (y₂ : List (List ℤ)) (m₂ : ℕ) (ℓ₃ : Lifetime) {κ₃ : Lft} {q₃ : Share} (γ₃ : GName) (b₃ o₃ : ℕ) (y₃ : List (ℕ)) (m₃ : ℕ) (ℓ₄ : Lifetime) {κ₄ : Lft} {q₄ : Share} (γ₄ : GName) (b₄ o₄ : ℕ) (y₄ : List (List ℕ)) (m₄ : ℕ) (ℓ₅ : Lifetime) {κ₅ : Lft} {q₅ : Share} (γ₅ : GName) (b₅ o₅ : ℕ) (y₅ : List (List Float)) (m₅ : ℕ) (ℓ₆ : Lifetime) {κ₆ : Lft} {q₆ : Share} (γ₆ : GName) (b₆ o₆ : ℕ) (y₆ : List (List ℕ)) (m₆ : ℕ) (v₀ : ℕ) (v₁ : Position) (v₂ : ℕ)
+      → m₀ ≡ length y₀ → m₁ ≡ length y₁ → m₂ ≡ length y₂ → m₃ ≡ length y₃ → m₄ ≡ length y₄ → m₅ ≡ length y₅ → m₆ ≡ length y₆ → Room N4 m₀ → Room F4 m₁ → Room Z4 m₂ → Room u64 m₃ → Room N2 m₄ → Room F2 m₅ → Room N2 m₆ → v₀ < 2 ^ 64 → Is PR v₁ (pvals v₁) → v₂ < 2 ^ 32 → ((i₀ i₁ i₂ i₃ i₄ i₅ i₆ i₇ : Item 𝓤) → Opds K W (i₀ ∷ i₁ ∷ i₂ ∷ i₃ ∷ i₄ ∷ i₅ ∷ i₆ ∷ i₇ ∷ Γ) E xs (vint w64 v₀ ∷ sliceVal (b₀, o₀) m₀ ∷ sliceVal (b₁, o₁) m₁ ∷ sliceVal (b₂, o₂) m₂ ∷ sliceVal (b₃, o₃) m₃ ∷ sliceVal (b₄, o₄) m₄ ∷ sliceVal (b₅, o₅) m₅ ∷ sliceVal (b₆, o₆) m₆ ∷ pval v₁ ∷ vint w32 v₂ ∷ []))
+      → ((r : Inserted) (zs : (Unit {0} × (List (List ℕ) × (List (List Float) × (List (List ℤ) × (List (ℕ) × (List (List ℕ) × (List (List Float) × (List (List ℕ) × (Unit {0} × (Unit {0} × Unit {0}))))))))))) → (length (zs .1 .0) ≡ length y₀) → (length (zs .1 .1 .0) ≡ length y₁) → (length (zs .1 .1 .1 .0) ≡ length y₂) → (length (zs .1 .1 .1 .1 .0) ≡ length y₃) → (length (zs .1 .1 .1 .1 .1 .0) ≡ length y₄) → (length (zs .1 .1 .1 .1 .1 .1 .0) ≡ length y₅) → (length (zs .1 .1 .1 .1 .1 .1 .1 .0) ≡ length y₆) → (outcome r (tables (zs .1 .0) (zs .1 .1 .0) (zs .1 .1 .1 .0) (zs .1 .1 .1 .1 .0) (zs .1 .1 .1 .1 .1 .0) (zs .1 .1 .1 .1 .1 .1 .0) (zs .1 .1 .1 .1 .1 .1 .1 .0)) ≡ insertFor v₀ (tables y₀ y₁ y₂ y₃ y₄ y₅ y₆) v₁ v₂) → Is IR r (Ivals r) → Seq K W (‵ (MutSlice ℓ₀ κ₀ N4 .own (to N4 b₀ o₀ γ₀ (zs .1 .0)) (sliceVal (b₀, o₀) m₀ ∷ [])) ∷ ‵ (flft κ₀ q₀) ∷ ‵ (MutSlice ℓ₁ κ₁ F4 .own (to F4 b₁ o₁ γ₁ (zs .1 .1 .0)) (sliceVal (b₁, o₁) m₁ ∷ [])) ∷ ‵ (flft κ₁ q₁) ∷ ‵ (MutSlice ℓ₂ κ₂ Z4 .own (to Z4 b₂ o₂ γ₂ (zs .1 .1 .1 .0)) (sliceVal (b₂, o₂) m₂ ∷ [])) ∷ ‵ (flft κ₂ q₂) ∷ ‵ (MutSlice ℓ₃ κ₃ u64 .own (to u64 b₃ o₃ γ₃ (zs .1 .1 .1 .1 .0)) (sliceVal (b₃, o₃) m₃ ∷ [])) ∷ ‵ (flft κ₃ q₃) ∷ ‵ (MutSlice ℓ₄ κ₄ N2 .own (to N2 b₄ o₄ γ₄ (zs .1 .1 .1 .1 .1 .0)) (sliceVal (b₄, o₄) m₄ ∷ [])) ∷ ‵ (flft κ₄ q₄) ∷ ‵ (MutSlice ℓ₅ κ₅ F2 .own (to F2 b₅ o₅ γ₅ (zs .1 .1 .1 .1 .1 .1 .0)) (sliceVal (b₅, o₅) m₅ ∷ [])) ∷ ‵ (flft κ₅ q₅) ∷ ‵ (MutSlice ℓ₆ κ₆ N2 .own (to N2 b₆ o₆ γ₆ (zs .1 .1 .1 .1 .1 .1 .1 .0)) (sliceVal (b₆, o₆) m₆ ∷ [])) ∷ ‵ (flft κ₆ q₆) ∷ Γ) (lands C Λ E d (Ival r) rest p))
+      → Seq K W (‵ (MutSlice ℓ₀ κ₀ N4 .own (to N4 b₀ o₀ γ₀ y₀) (sliceVal (b₀, o₀) m₀ ∷ [])) ∷ ‵ (flft κ₀ q₀) ∷ ‵ (MutSlice ℓ₁ κ₁ F4 .own (to F4 b₁ o₁ γ₁ y₁) (sliceVal (b₁, o₁) m₁ ∷ [])) ∷ ‵ (flft κ₁ q₁) ∷ ‵ (MutSlice ℓ₂ κ₂ Z4 .own (to Z4 b₂ o₂ γ₂ y₂) (sliceVal (b₂, o₂) m₂ ∷ [])) ∷ ‵ (flft κ₂ q₂) ∷ ‵ (MutSlice ℓ₃ κ₃ u64 .own (to u64 b₃ o₃ γ₃ y₃) (sliceVal (b₃, o₃) m₃ ∷ [])) ∷ ‵ (flft κ₃ q₃) ∷ ‵ (MutSlice ℓ₄ κ₄ N2 .own (to N2 b₄ o₄ γ₄ y₄) (sliceVal (b₄, o₄) m₄ ∷ [])) ∷ ‵ (flft κ₄ q₄) ∷ ‵ (MutSlice ℓ₅ κ₅ F2 .own (to F2 b₅ o₅ γ₅ y₅) (sliceVal (b₅, o₅) m₅ ∷ [])) ∷ ‵ (flft κ₅ q₅) ∷ ‵ (MutSlice ℓ₆ κ₆ N2 .own (to N2 b₆ o₆ γ₆ y₆) (sliceVal (b₆, o₆) m₆ ∷ [])) ∷ ‵ (flft κ₆ q₆) ∷ Γ) (runs C Λ E (seq (call f xs d) rest) p)
+  calls-insert-for t mem run fm met ℓ₀ {κ₀} {q₀} γ₀ b₀ o₀ y₀ m₀ ℓ₁ {κ₁} {q₁} γ₁ b₁ o₁ y₁ m₁ ℓ₂ {κ₂} {q₂} γ₂ b₂ o₂ y₂ m₂ ℓ₃ {κ₃} {q₃} γ₃ b₃ o₃ y₃ m₃ ℓ₄ {κ₄} {q₄} γ₄ b₄ o₄ y₄ m₄ ℓ₅ {κ₅} {q₅} γ₅ b₅ o₅ y₅ m₅ ℓ₆ {κ₆} {q₆} γ₆ b₆ o₆ y₆ m₆ v₀ v₁ v₂ e₀ e₁ e₂ e₃ e₄ e₅ e₆ room₀ room₁ room₂ room₃ room₄ room₅ room₆ g₀ g₁ g₂ os k =
+      lend-mut t tt N4 ℓ₀ (named 0) γ₀ b₀ o₀ y₀ m₀ e₀ (λ ν₀ δ₀.
+      move t (3 ∷ 4 ∷ []) $ lend-mut t tt F4 ℓ₁ (named 1) γ₁ b₁ o₁ y₁ m₁ e₁ (λ ν₁ δ₁.
+      move t (6 ∷ 7 ∷ []) $ lend-mut t tt Z4 ℓ₂ (named 2) γ₂ b₂ o₂ y₂ m₂ e₂ (λ ν₂ δ₂.
+      move t (9 ∷ 10 ∷ []) $ lend-mut t tt u64 ℓ₃ (named 3) γ₃ b₃ o₃ y₃ m₃ e₃ (λ ν₃ δ₃.
+      move t (12 ∷ 13 ∷ []) $ lend-mut t tt N2 ℓ₄ (named 4) γ₄ b₄ o₄ y₄ m₄ e₄ (λ ν₄ δ₄.
+      move t (15 ∷ 16 ∷ []) $ lend-mut t tt F2 ℓ₅ (named 5) γ₅ b₅ o₅ y₅ m₅ e₅ (λ ν₅ δ₅.
+      move t (18 ∷ 19 ∷ []) $ lend-mut t tt N2 ℓ₆ (named 6) γ₆ b₆ o₆ y₆ m₆ e₆ (λ ν₆ δ₆.
+      move t (18 ∷ 15 ∷ 12 ∷ 9 ∷ 6 ∷ 3 ∷ 0 ∷ 19 ∷ 16 ∷ 13 ∷ 10 ∷ 7 ∷ 4 ∷ 1 ∷ []) $ cut (lent-insert-for 𝓤 H A mem run W b₀ o₀ y₀ m₀ b₁ o₁ y₁ m₁ b₂ o₂ y₂ m₂ b₃ o₃ y₃ m₃ b₄ o₄ y₄ m₄ b₅ o₅ y₅ m₅ b₆ o₆ y₆ m₆ v₀ v₁ v₂ ν₀ δ₀ ν₁ δ₁ ν₂ δ₂ ν₃ δ₃ ν₄ δ₄ ν₅ δ₅ ν₆ δ₆) (raw (InsertFor 𝓤 H A mem run .pre (to-insert-for 𝓤 H A mem run W b₀ o₀ y₀ m₀ b₁ o₁ y₁ m₁ b₂ o₂ y₂ m₂ b₃ o₃ y₃ m₃ b₄ o₄ y₄ m₄ b₅ o₅ y₅ m₅ b₆ o₆ y₆ m₆ v₀ v₁ v₂ ν₀ δ₀ ν₁ δ₁ ν₂ δ₂ ν₃ δ₃ ν₄ δ₄ ν₅ δ₅ ν₆ δ₆)) ∷ []) _ (goes-insert-for 𝓤 H A mem run W b₀ o₀ y₀ m₀ b₁ o₁ y₁ m₁ b₂ o₂ y₂ m₂ b₃ o₃ y₃ m₃ b₄ o₄ y₄ m₄ b₅ o₅ y₅ m₅ b₆ o₆ y₆ m₆ v₀ v₁ v₂ ν₀ δ₀ ν₁ δ₁ ν₂ δ₂ ν₃ δ₃ ν₄ δ₄ ν₅ δ₅ ν₆ δ₆ g₀ g₁ g₂) $
+      calls-at t fm (InsertFor 𝓤 H A mem run) met (to-insert-for 𝓤 H A mem run W b₀ o₀ y₀ m₀ b₁ o₁ y₁ m₁ b₂ o₂ y₂ m₂ b₃ o₃ y₃ m₃ b₄ o₄ y₄ m₄ b₅ o₅ y₅ m₅ b₆ o₆ y₆ m₆ v₀ v₁ v₂ ν₀ δ₀ ν₁ δ₁ ν₂ δ₂ ν₃ δ₃ ν₄ δ₄ ν₅ δ₅ ν₆ δ₆) (os _ _ _ _ _ _ _ _) (λ w.
+      use1 W (later (some (λ (y : Inserted × (Unit {0} × (List (List ℕ) × (List (List Float) × (List (List ℤ) × (List (ℕ) × (List (List ℕ) × (List (List Float) × (List (List ℕ) × (Unit {0} × (Unit {0} × Unit {0}))))))))))). given (told-insert-for 𝓤 H A mem run W b₀ o₀ y₀ m₀ b₁ o₁ y₁ m₁ b₂ o₂ y₂ m₂ b₃ o₃ y₃ m₃ b₄ o₄ y₄ m₄ b₅ o₅ y₅ m₅ b₆ o₆ y₆ m₆ v₀ v₁ v₂ ν₀ δ₀ ν₁ δ₁ ν₂ δ₂ ν₃ δ₃ ν₄ δ₄ ν₅ δ₅ ν₆ δ₆ w (y .0) (y .1)) (‵ (flft (ν₀ ∷ []) fullShare) ⊛ ‵ (flft (ν₁ ∷ []) fullShare) ⊛ ‵ (flft (ν₂ ∷ []) fullShare) ⊛ ‵ (flft (ν₃ ∷ []) fullShare) ⊛ ‵ (flft (ν₄ ∷ []) fullShare) ⊛ ‵ (flft (ν₅ ∷ []) fullShare) ⊛ ‵ (flft (ν₆ ∷ []) fullShare) ⊛ ‵ (finally N4 δ₀ (y .1 .1 .0)) ⊛ ‵ (finally F4 δ₁ (y .1 .1 .1 .0)) ⊛ ‵ (finally Z4 δ₂ (y .1 .1 .1 .1 .0)) ⊛ ‵ (finally u64 δ₃ (y .1 .1 .1 .1 .1 .0)) ⊛ ‵ (finally N2 δ₄ (y .1 .1 .1 .1 .1 .1 .0)) ⊛ ‵ (finally F2 δ₅ (y .1 .1 .1 .1 .1 .1 .1 .0)) ⊛ ‵ (finally N2 δ₆ (y .1 .1 .1 .1 .1 .1 .1 .1 .0)))))) (came-insert-for 𝓤 H A mem run W b₀ o₀ y₀ m₀ b₁ o₁ y₁ m₁ b₂ o₂ y₂ m₂ b₃ o₃ y₃ m₃ b₄ o₄ y₄ m₄ b₅ o₅ y₅ m₅ b₆ o₆ y₆ m₆ v₀ v₁ v₂ ν₀ δ₀ ν₁ δ₁ ν₂ δ₂ ν₃ δ₃ ν₄ δ₄ ν₅ δ₅ ν₆ δ₆ w) $ await t tt $ pick t (λ y. learn t (λ e.
+      split t $ move t (1 ∷ []) $ split t $ move t (1 ∷ []) $ split t $ move t (1 ∷ []) $ split t $ move t (1 ∷ []) $ split t $ move t (1 ∷ []) $ split t $ move t (1 ∷ []) $ split t $ move t (1 ∷ []) $ split t $ move t (1 ∷ []) $ split t $ move t (1 ∷ []) $ split t $ move t (1 ∷ []) $ split t $ move t (1 ∷ []) $ split t $ move t (1 ∷ []) $ split t $ 
+      move t (13 ∷ 6 ∷ 20 ∷ []) $ back-mut t tt N4 ℓ₀ (named 0) γ₀ b₀ o₀ y₀ m₀ e₀ ν₀ δ₀ (y .1 .1 .0) room₀ (e .1 .0) $
+      move t (13 ∷ 7 ∷ 19 ∷ []) $ back-mut t tt F4 ℓ₁ (named 1) γ₁ b₁ o₁ y₁ m₁ e₁ ν₁ δ₁ (y .1 .1 .1 .0) room₁ (e .1 .1 .0) $
+      move t (13 ∷ 8 ∷ 18 ∷ []) $ back-mut t tt Z4 ℓ₂ (named 2) γ₂ b₂ o₂ y₂ m₂ e₂ ν₂ δ₂ (y .1 .1 .1 .1 .0) room₂ (e .1 .1 .1 .0) $
+      move t (13 ∷ 9 ∷ 17 ∷ []) $ back-mut t tt u64 ℓ₃ (named 3) γ₃ b₃ o₃ y₃ m₃ e₃ ν₃ δ₃ (y .1 .1 .1 .1 .1 .0) room₃ (e .1 .1 .1 .1 .0) $
+      move t (13 ∷ 10 ∷ 16 ∷ []) $ back-mut t tt N2 ℓ₄ (named 4) γ₄ b₄ o₄ y₄ m₄ e₄ ν₄ δ₄ (y .1 .1 .1 .1 .1 .1 .0) room₄ (e .1 .1 .1 .1 .1 .0) $
+      move t (13 ∷ 10 ∷ 15 ∷ []) $ back-mut t tt F2 ℓ₅ (named 5) γ₅ b₅ o₅ y₅ m₅ e₅ ν₅ δ₅ (y .1 .1 .1 .1 .1 .1 .1 .0) room₅ (e .1 .1 .1 .1 .1 .1 .0) $
+      move t (13 ∷ 12 ∷ 14 ∷ []) $ back-mut t tt N2 ℓ₆ (named 6) γ₆ b₆ o₆ y₆ m₆ e₆ ν₆ δ₆ (y .1 .1 .1 .1 .1 .1 .1 .1 .0) room₆ (e .1 .1 .1 .1 .1 .1 .1 .0) $
+      move t (12 ∷ 13 ∷ 10 ∷ 11 ∷ 8 ∷ 9 ∷ 6 ∷ 7 ∷ 4 ∷ 5 ∷ 2 ∷ 3 ∷ 0 ∷ 1 ∷ []) $ subst (λ (u : Val). Seq K W (‵ (MutSlice ℓ₀ κ₀ N4 .own (to N4 b₀ o₀ γ₀ (y .1 .1 .0)) (sliceVal (b₀, o₀) m₀ ∷ [])) ∷ ‵ (flft κ₀ q₀) ∷ ‵ (MutSlice ℓ₁ κ₁ F4 .own (to F4 b₁ o₁ γ₁ (y .1 .1 .1 .0)) (sliceVal (b₁, o₁) m₁ ∷ [])) ∷ ‵ (flft κ₁ q₁) ∷ ‵ (MutSlice ℓ₂ κ₂ Z4 .own (to Z4 b₂ o₂ γ₂ (y .1 .1 .1 .1 .0)) (sliceVal (b₂, o₂) m₂ ∷ [])) ∷ ‵ (flft κ₂ q₂) ∷ ‵ (MutSlice ℓ₃ κ₃ u64 .own (to u64 b₃ o₃ γ₃ (y .1 .1 .1 .1 .1 .0)) (sliceVal (b₃, o₃) m₃ ∷ [])) ∷ ‵ (flft κ₃ q₃) ∷ ‵ (MutSlice ℓ₄ κ₄ N2 .own (to N2 b₄ o₄ γ₄ (y .1 .1 .1 .1 .1 .1 .0)) (sliceVal (b₄, o₄) m₄ ∷ [])) ∷ ‵ (flft κ₄ q₄) ∷ ‵ (MutSlice ℓ₅ κ₅ F2 .own (to F2 b₅ o₅ γ₅ (y .1 .1 .1 .1 .1 .1 .1 .0)) (sliceVal (b₅, o₅) m₅ ∷ [])) ∷ ‵ (flft κ₅ q₅) ∷ ‵ (MutSlice ℓ₆ κ₆ N2 .own (to N2 b₆ o₆ γ₆ (y .1 .1 .1 .1 .1 .1 .1 .1 .0)) (sliceVal (b₆, o₆) m₆ ∷ [])) ∷ ‵ (flft κ₆ q₆) ∷ Γ) (lands C Λ E d u rest p)) (sym (ap only (LL.tells IT.the-type IT′.the-laws (y .0) (w ∷ []) (e .0)))) (k (y .0) (y .1) (e .1 .0) (e .1 .1 .0) (e .1 .1 .1 .0) (e .1 .1 .1 .1 .0) (e .1 .1 .1 .1 .1 .0) (e .1 .1 .1 .1 .1 .1 .0) (e .1 .1 .1 .1 .1 .1 .1 .0) (e .1 .1 .1 .1 .1 .1 .1 .1 .0) (subst (Is IR (y .0)) (LL.tells IT.the-type IT′.the-laws (y .0) (w ∷ []) (e .0)) (e .0)))))))))))))
+
+-- ---- `get_for`
+module _ {M : Type 1} (𝓤 : URA M) (H : Heap 𝓤) (A : Atoms 𝓤) (mem : Memory → SProp 𝓤) (run : Routine → Fun 𝓤) where
+  abbrev pub GetFor : Contract 𝓤
+  GetFor = tripleOf 𝓤 H A get-for.signature (get-for.spec 𝓤 H A mem run)
+
+  module _ (W : Given 𝓤 H A) (b₀ o₀ : ℕ) (y₀ : List (List ℕ)) (m₀ : ℕ) (b₁ o₁ : ℕ) (y₁ : List (List Float)) (m₁ : ℕ) (b₂ o₂ : ℕ) (y₂ : List (List ℤ)) (m₂ : ℕ) (b₃ o₃ : ℕ) (y₃ : List (ℕ)) (m₃ : ℕ) (κ₃ : Lft) (q₃ : Share) (γ₃ : GName) (b₄ o₄ : ℕ) (y₄ : List (List ℕ)) (m₄ : ℕ) (κ₄ : Lft) (q₄ : Share) (γ₄ : GName) (b₅ o₅ : ℕ) (y₅ : List (List Float)) (m₅ : ℕ) (κ₅ : Lft) (q₅ : Share) (γ₅ : GName) (b₆ o₆ : ℕ) (y₆ : List (List ℕ)) (m₆ : ℕ) (κ₆ : Lft) (q₆ : Share) (γ₆ : GName) (v₀ : ℕ) (v₁ : Handle) (ν₀ : ℕ) (δ₀ : GName) (ν₁ : ℕ) (δ₁ : GName) (ν₂ : ℕ) (δ₂ : GName) where
+    abbrev to-get-for : GetFor .Ghost
+    to-get-for = ((((ν₀ ∷ []), ((ν₁ ∷ []), ((ν₂ ∷ []), (κ₃, (κ₄, (κ₅, (κ₆, tt))))))), (fullShare, (fullShare, (fullShare, (q₃, (q₄, (q₅, (q₆, tt))))))), tt, (v₀, (to N4 b₀ o₀ δ₀ y₀, (to F4 b₁ o₁ δ₁ y₁, (to Z4 b₂ o₂ δ₂ y₂, (to u64 b₃ o₃ γ₃ y₃, (to N2 b₄ o₄ γ₄ y₄, (to F2 b₅ o₅ γ₅ y₅, (to N2 b₆ o₆ γ₆ y₆, (v₁, tt))))))))), ((vint w64 v₀ ∷ []), ((sliceVal (b₀, o₀) m₀ ∷ []), ((sliceVal (b₁, o₁) m₁ ∷ []), ((sliceVal (b₂, o₂) m₂ ∷ []), ((sliceVal (b₃, o₃) m₃ ∷ []), ((sliceVal (b₄, o₄) m₄ ∷ []), ((sliceVal (b₅, o₅) m₅ ∷ []), ((sliceVal (b₆, o₆) m₆ ∷ []), ((hvals v₁), tt)))))))))), tt)
+
+    abbrev lent-get-for : List (Item 𝓤)
+    lent-get-for = ‵ (flft (ν₀ ∷ []) fullShare) ∷ ‵ (flft (ν₁ ∷ []) fullShare) ∷ ‵ (flft (ν₂ ∷ []) fullShare) ∷ ‵ (flft κ₃ q₃) ∷ ‵ (flft κ₄ q₄) ∷ ‵ (flft κ₅ q₅) ∷ ‵ (flft κ₆ q₆) ∷ ‵ (ShrSlice (named 0) (ν₀ ∷ []) N4 .own (to N4 b₀ o₀ δ₀ y₀) (sliceVal (b₀, o₀) m₀ ∷ [])) ∷ ‵ (ShrSlice (named 1) (ν₁ ∷ []) F4 .own (to F4 b₁ o₁ δ₁ y₁) (sliceVal (b₁, o₁) m₁ ∷ [])) ∷ ‵ (ShrSlice (named 2) (ν₂ ∷ []) Z4 .own (to Z4 b₂ o₂ δ₂ y₂) (sliceVal (b₂, o₂) m₂ ∷ [])) ∷ ‵ (ShrSlice (named 3) κ₃ u64 .own (to u64 b₃ o₃ γ₃ y₃) (sliceVal (b₃, o₃) m₃ ∷ [])) ∷ ‵ (ShrSlice (named 4) κ₄ N2 .own (to N2 b₄ o₄ γ₄ y₄) (sliceVal (b₄, o₄) m₄ ∷ [])) ∷ ‵ (ShrSlice (named 5) κ₅ F2 .own (to F2 b₅ o₅ γ₅ y₅) (sliceVal (b₅, o₅) m₅ ∷ [])) ∷ ‵ (ShrSlice (named 6) κ₆ N2 .own (to N2 b₆ o₆ γ₆ y₆) (sliceVal (b₆, o₆) m₆ ∷ [])) ∷ []
+
+    goes-get-for : v₀ < 2 ^ 64 → Is HR v₁ (hvals v₁) → ent 𝓤 (⋆ 𝓤 H A lent-get-for) (GetFor .pre to-get-for)
+    goes-get-for g₀ g₁ = qed W lent-get-for ∵ nothing ! $ move ! (7 ∷ 0 ∷ []) $ join ! $ move ! (6 ∷ 0 ∷ []) $ join ! $ move ! (5 ∷ 0 ∷ []) $ join ! $ move ! (4 ∷ 0 ∷ []) $ join ! $ move ! (3 ∷ 0 ∷ []) $ join ! $ move ! (2 ∷ 0 ∷ []) $ join ! $ move ! (1 ∷ 0 ∷ []) $ join ! $ nothing ! $ owned ! HR (Is HR) (LL.makes HT.the-type HT′.the-plain 𝓤 H A) v₁ _ g₁ $ fjoin ! $ move ! (8 ∷ 0 ∷ []) $ fjoin ! $ move ! (7 ∷ 0 ∷ []) $ fjoin ! $ move ! (6 ∷ 0 ∷ []) $ fjoin ! $ move ! (5 ∷ 0 ∷ []) $ fjoin ! $ move ! (4 ∷ 0 ∷ []) $ fjoin ! $ move ! (3 ∷ 0 ∷ []) $ fjoin ! $ move ! (2 ∷ 0 ∷ []) $ fjoin ! $ owned ! usize (Is usize) (uint-makes 𝓤 H A W w64) v₀ _ (refl, g₀) $ fjoin ! $ move ! (1 ∷ 0 ∷ []) $ join ! $ nothing ! $ move ! (1 ∷ 0 ∷ []) $ done !
+
+    abbrev told-get-for : Val → Type 0
+    told-get-for w = ((Is GR (getFor v₀ (tables y₀ y₁ y₂ y₃ y₄ y₅ y₆) v₁) (w ∷ [])) × Unit {0})
+
+    abbrev back-get-for : List (Item 𝓤)
+    back-get-for = ‵ (flft (ν₀ ∷ []) fullShare) ∷ ‵ (flft (ν₁ ∷ []) fullShare) ∷ ‵ (flft (ν₂ ∷ []) fullShare) ∷ ‵ (flft κ₃ q₃) ∷ ‵ (flft κ₄ q₄) ∷ ‵ (flft κ₅ q₅) ∷ ‵ (flft κ₆ q₆) ∷ []
+
+    came-get-for : (w : Val) → ent 𝓤 (GetFor .post to-get-for w) (H .⇛ (guard 𝓤 (told-get-for w) (⋆ 𝓤 H A back-get-for)))
+    came-get-for w =
+        qed W (raw (GetFor .post to-get-for w) ∷ []) ∵ updating ! $
+        use1 W (later (some (λ (r : Got). ((‵ (flft (ν₀ ∷ []) fullShare) ⊛ ‵ (flft (ν₁ ∷ []) fullShare) ⊛ ‵ (flft (ν₂ ∷ []) fullShare) ⊛ ‵ (flft κ₃ q₃) ⊛ ‵ (flft κ₄ q₄) ⊛ ‵ (flft κ₅ q₅) ⊛ ‵ (flft κ₆ q₆) ⊛ ‵ ftrue) ⊛ ‵ (GR .own r (w ∷ []))) ⊛ raw (ensured 𝓤 H A get-for.ended (get-for.clauses 𝓤 H A mem run) ((ν₀ ∷ []), ((ν₁ ∷ []), ((ν₂ ∷ []), (κ₃, (κ₄, (κ₅, (κ₆, tt))))))) (v₀, (to N4 b₀ o₀ δ₀ y₀, (to F4 b₁ o₁ δ₁ y₁, (to Z4 b₂ o₂ δ₂ y₂, (to u64 b₃ o₃ γ₃ y₃, (to N2 b₄ o₄ γ₄ y₄, (to F2 b₅ o₅ γ₅ y₅, (to N2 b₆ o₆ γ₆ y₆, (v₁, tt))))))))) tt r)))) (id⊢ 𝓤 _) $ await ! tt $ pick ! (λ r.
+        split ! $ move ! (1 ∷ []) $ use1 W (some (λ (zs : (Unit {0} × (Unit {0} × (Unit {0} × (Unit {0} × (Unit {0} × (Unit {0} × (Unit {0} × (Unit {0} × (Unit {0} × Unit {0})))))))))). ‵ (lasts get-for.ended ((ν₀ ∷ []), ((ν₁ ∷ []), ((ν₂ ∷ []), (κ₃, (κ₄, (κ₅, (κ₆, tt))))))) (v₀, (to N4 b₀ o₀ δ₀ y₀, (to F4 b₁ o₁ δ₁ y₁, (to Z4 b₂ o₂ δ₂ y₂, (to u64 b₃ o₃ γ₃ y₃, (to N2 b₄ o₄ γ₄ y₄, (to F2 b₅ o₅ γ₅ y₅, (to N2 b₆ o₆ γ₆ y₆, (v₁, tt))))))))) zs) ⊛ raw (fact 𝓤 ((r ≡ getFor v₀ (tables y₀ y₁ y₂ y₃ y₄ y₅ y₆) v₁))))) (id⊢ 𝓤 _) $ pick ! (λ zs.
+        split ! $ move ! (1 ∷ []) $ heard ! ((r ≡ getFor v₀ (tables y₀ y₁ y₂ y₃ y₄ y₅ y₆) v₁)) (λ e.
+        drop ! $ split ! $ move ! (1 ∷ []) $ peeks ! GR (Is GR) (shows 𝓤 H A GR) r (w ∷ []) (λ is. drop ! $ split ! $ move ! (1 ∷ []) $ split ! $ move ! (1 ∷ []) $ split ! $ move ! (1 ∷ []) $ split ! $ move ! (1 ∷ []) $ split ! $ move ! (1 ∷ []) $ split ! $ move ! (1 ∷ []) $ split ! $ move ! (1 ∷ []) $ drop ! $ at-once ! $
+        check ! (subst (λ (x : Got). Is GR x (w ∷ [])) e is, tt) $ keep ! (6 ∷ 5 ∷ 4 ∷ 3 ∷ 2 ∷ 1 ∷ 0 ∷ []) $ done !))))
+
+module _ {M : Type 1} {𝓤 : URA M} {H : Heap 𝓤} {A : Atoms 𝓤} {K : Type 0} {W : Given 𝓤 H A} {Γ : List (Item 𝓤)} {E : Env 𝓤 H} {C : Calls 𝓤 H} {Λ : Loops 𝓤 H} {p : Post 𝓤 H} {f : Name} {xs : List Operand} {d : Place} {rest : Body} where
+  pub calls-get-for : K → (mem : Memory → SProp 𝓤) (run : Routine → Fun 𝓤) → FmC 𝓤 H (W .laws) C → Triple 𝓤 (C f) (GetFor 𝓤 H A mem run) → (ℓ₀ : Lifetime) {κ₀ : Lft} {q₀ : Share} (γ₀ : GName) (b₀ o₀ : ℕ) (y₀ : List (List ℕ)) (m₀ : ℕ) (ℓ₁ : Lifetime) {κ₁ : Lft} {q₁ : Share} (γ₁ : GName) (b₁ o₁ : ℕ) (y₁ : List (List Float)) (m₁ : ℕ) (ℓ₂ : Lifetime) {κ₂ : Lft} {q₂ : Share} (γ₂ : GName) (b₂ o₂ : ℕ) (y₂ : List (List ℤ)) (m₂ : ℕ) (ℓ₃ : Lifetime) {κ₃ : Lft} {q₃ : Share} (γ₃ : GName) (b₃ o₃ : ℕ) (y₃ : List (ℕ)) (m₃ : ℕ) (ℓ₄ : Lifetime) {κ₄ : Lft} {q₄ : Share} (γ₄ : GName) (b₄ o₄ : ℕ) (y₄ : List (List ℕ)) (m₄ : ℕ) (ℓ₅ : Lifetime) {κ₅ : Lft} {q₅ : Share} (γ₅ : GName) (b₅ o₅ : ℕ) (y₅ : List (List Float)) (m₅ : ℕ) (ℓ₆ : Lifetime) {κ₆ : Lft} {q₆ : Share} (γ₆ : GName) (b₆ o₆ : ℕ) (y₆ : List (List ℕ)) (m₆ : ℕ) (v₀ : ℕ) (v₁ : Handle)
+      → m₀ ≡ length y₀ → m₁ ≡ length y₁ → m₂ ≡ length y₂ → Room N4 m₀ → Room F4 m₁ → Room Z4 m₂ → v₀ < 2 ^ 64 → Is HR v₁ (hvals v₁) → ((i₀ i₁ i₂ i₃ i₄ i₅ i₆ i₇ : Item 𝓤) → Opds K W (i₀ ∷ i₁ ∷ i₂ ∷ i₃ ∷ i₄ ∷ i₅ ∷ i₆ ∷ i₇ ∷ Γ) E xs (vint w64 v₀ ∷ sliceVal (b₀, o₀) m₀ ∷ sliceVal (b₁, o₁) m₁ ∷ sliceVal (b₂, o₂) m₂ ∷ sliceVal (b₃, o₃) m₃ ∷ sliceVal (b₄, o₄) m₄ ∷ sliceVal (b₅, o₅) m₅ ∷ sliceVal (b₆, o₆) m₆ ∷ hval v₁ ∷ []))
+      → (Is GR (getFor v₀ (tables y₀ y₁ y₂ y₃ y₄ y₅ y₆) v₁) (Gvals (getFor v₀ (tables y₀ y₁ y₂ y₃ y₄ y₅ y₆) v₁)) → Seq K W (‵ (MutSlice ℓ₀ κ₀ N4 .own (to N4 b₀ o₀ γ₀ y₀) (sliceVal (b₀, o₀) m₀ ∷ [])) ∷ ‵ (flft κ₀ q₀) ∷ ‵ (MutSlice ℓ₁ κ₁ F4 .own (to F4 b₁ o₁ γ₁ y₁) (sliceVal (b₁, o₁) m₁ ∷ [])) ∷ ‵ (flft κ₁ q₁) ∷ ‵ (MutSlice ℓ₂ κ₂ Z4 .own (to Z4 b₂ o₂ γ₂ y₂) (sliceVal (b₂, o₂) m₂ ∷ [])) ∷ ‵ (flft κ₂ q₂) ∷ ‵ (ShrSlice ℓ₃ κ₃ u64 .own (to u64 b₃ o₃ γ₃ y₃) (sliceVal (b₃, o₃) m₃ ∷ [])) ∷ ‵ (flft κ₃ q₃) ∷ ‵ (ShrSlice ℓ₄ κ₄ N2 .own (to N2 b₄ o₄ γ₄ y₄) (sliceVal (b₄, o₄) m₄ ∷ [])) ∷ ‵ (flft κ₄ q₄) ∷ ‵ (ShrSlice ℓ₅ κ₅ F2 .own (to F2 b₅ o₅ γ₅ y₅) (sliceVal (b₅, o₅) m₅ ∷ [])) ∷ ‵ (flft κ₅ q₅) ∷ ‵ (ShrSlice ℓ₆ κ₆ N2 .own (to N2 b₆ o₆ γ₆ y₆) (sliceVal (b₆, o₆) m₆ ∷ [])) ∷ ‵ (flft κ₆ q₆) ∷ Γ) (lands C Λ E d (Gval (getFor v₀ (tables y₀ y₁ y₂ y₃ y₄ y₅ y₆) v₁)) rest p))
+      → Seq K W (‵ (MutSlice ℓ₀ κ₀ N4 .own (to N4 b₀ o₀ γ₀ y₀) (sliceVal (b₀, o₀) m₀ ∷ [])) ∷ ‵ (flft κ₀ q₀) ∷ ‵ (MutSlice ℓ₁ κ₁ F4 .own (to F4 b₁ o₁ γ₁ y₁) (sliceVal (b₁, o₁) m₁ ∷ [])) ∷ ‵ (flft κ₁ q₁) ∷ ‵ (MutSlice ℓ₂ κ₂ Z4 .own (to Z4 b₂ o₂ γ₂ y₂) (sliceVal (b₂, o₂) m₂ ∷ [])) ∷ ‵ (flft κ₂ q₂) ∷ ‵ (ShrSlice ℓ₃ κ₃ u64 .own (to u64 b₃ o₃ γ₃ y₃) (sliceVal (b₃, o₃) m₃ ∷ [])) ∷ ‵ (flft κ₃ q₃) ∷ ‵ (ShrSlice ℓ₄ κ₄ N2 .own (to N2 b₄ o₄ γ₄ y₄) (sliceVal (b₄, o₄) m₄ ∷ [])) ∷ ‵ (flft κ₄ q₄) ∷ ‵ (ShrSlice ℓ₅ κ₅ F2 .own (to F2 b₅ o₅ γ₅ y₅) (sliceVal (b₅, o₅) m₅ ∷ [])) ∷ ‵ (flft κ₅ q₅) ∷ ‵ (ShrSlice ℓ₆ κ₆ N2 .own (to N2 b₆ o₆ γ₆ y₆) (sliceVal (b₆, o₆) m₆ ∷ [])) ∷ ‵ (flft κ₆ q₆) ∷ Γ) (runs C Λ E (seq (call f xs d) rest) p)
+  calls-get-for t mem run fm met ℓ₀ {κ₀} {q₀} γ₀ b₀ o₀ y₀ m₀ ℓ₁ {κ₁} {q₁} γ₁ b₁ o₁ y₁ m₁ ℓ₂ {κ₂} {q₂} γ₂ b₂ o₂ y₂ m₂ ℓ₃ {κ₃} {q₃} γ₃ b₃ o₃ y₃ m₃ ℓ₄ {κ₄} {q₄} γ₄ b₄ o₄ y₄ m₄ ℓ₅ {κ₅} {q₅} γ₅ b₅ o₅ y₅ m₅ ℓ₆ {κ₆} {q₆} γ₆ b₆ o₆ y₆ m₆ v₀ v₁ e₀ e₁ e₂ room₀ room₁ room₂ g₀ g₁ os k =
+      lend-shr t tt N4 ℓ₀ (named 0) γ₀ b₀ o₀ y₀ m₀ e₀ (λ ν₀ δ₀.
+      move t (3 ∷ 4 ∷ []) $ lend-shr t tt F4 ℓ₁ (named 1) γ₁ b₁ o₁ y₁ m₁ e₁ (λ ν₁ δ₁.
+      move t (6 ∷ 7 ∷ []) $ lend-shr t tt Z4 ℓ₂ (named 2) γ₂ b₂ o₂ y₂ m₂ e₂ (λ ν₂ δ₂.
+      move t (9 ∷ 10 ∷ []) $ copies t u64 ℓ₃ κ₃ q₃ (to u64 b₃ o₃ γ₃ y₃) (sliceVal (b₃, o₃) m₃ ∷ []) $
+      move t (12 ∷ 13 ∷ []) $ copies t N2 ℓ₄ κ₄ q₄ (to N2 b₄ o₄ γ₄ y₄) (sliceVal (b₄, o₄) m₄ ∷ []) $
+      move t (15 ∷ 16 ∷ []) $ copies t F2 ℓ₅ κ₅ q₅ (to F2 b₅ o₅ γ₅ y₅) (sliceVal (b₅, o₅) m₅ ∷ []) $
+      move t (18 ∷ 19 ∷ []) $ copies t N2 ℓ₆ κ₆ q₆ (to N2 b₆ o₆ γ₆ y₆) (sliceVal (b₆, o₆) m₆ ∷ []) $
+      move t (18 ∷ 15 ∷ 12 ∷ 9 ∷ 6 ∷ 3 ∷ 0 ∷ 19 ∷ 16 ∷ 13 ∷ 10 ∷ 7 ∷ 4 ∷ 1 ∷ []) $ cut (lent-get-for 𝓤 H A mem run W b₀ o₀ y₀ m₀ b₁ o₁ y₁ m₁ b₂ o₂ y₂ m₂ b₃ o₃ y₃ m₃ κ₃ q₃ γ₃ b₄ o₄ y₄ m₄ κ₄ q₄ γ₄ b₅ o₅ y₅ m₅ κ₅ q₅ γ₅ b₆ o₆ y₆ m₆ κ₆ q₆ γ₆ v₀ v₁ ν₀ δ₀ ν₁ δ₁ ν₂ δ₂) (raw (GetFor 𝓤 H A mem run .pre (to-get-for 𝓤 H A mem run W b₀ o₀ y₀ m₀ b₁ o₁ y₁ m₁ b₂ o₂ y₂ m₂ b₃ o₃ y₃ m₃ κ₃ q₃ γ₃ b₄ o₄ y₄ m₄ κ₄ q₄ γ₄ b₅ o₅ y₅ m₅ κ₅ q₅ γ₅ b₆ o₆ y₆ m₆ κ₆ q₆ γ₆ v₀ v₁ ν₀ δ₀ ν₁ δ₁ ν₂ δ₂)) ∷ []) _ (goes-get-for 𝓤 H A mem run W b₀ o₀ y₀ m₀ b₁ o₁ y₁ m₁ b₂ o₂ y₂ m₂ b₃ o₃ y₃ m₃ κ₃ q₃ γ₃ b₄ o₄ y₄ m₄ κ₄ q₄ γ₄ b₅ o₅ y₅ m₅ κ₅ q₅ γ₅ b₆ o₆ y₆ m₆ κ₆ q₆ γ₆ v₀ v₁ ν₀ δ₀ ν₁ δ₁ ν₂ δ₂ g₀ g₁) $
+      calls-at t fm (GetFor 𝓤 H A mem run) met (to-get-for 𝓤 H A mem run W b₀ o₀ y₀ m₀ b₁ o₁ y₁ m₁ b₂ o₂ y₂ m₂ b₃ o₃ y₃ m₃ κ₃ q₃ γ₃ b₄ o₄ y₄ m₄ κ₄ q₄ γ₄ b₅ o₅ y₅ m₅ κ₅ q₅ γ₅ b₆ o₆ y₆ m₆ κ₆ q₆ γ₆ v₀ v₁ ν₀ δ₀ ν₁ δ₁ ν₂ δ₂) (os _ _ _ _ _ _ _ _) (λ w.
+      use1 W (later (given (told-get-for 𝓤 H A mem run W b₀ o₀ y₀ m₀ b₁ o₁ y₁ m₁ b₂ o₂ y₂ m₂ b₃ o₃ y₃ m₃ κ₃ q₃ γ₃ b₄ o₄ y₄ m₄ κ₄ q₄ γ₄ b₅ o₅ y₅ m₅ κ₅ q₅ γ₅ b₆ o₆ y₆ m₆ κ₆ q₆ γ₆ v₀ v₁ ν₀ δ₀ ν₁ δ₁ ν₂ δ₂ w) (‵ (flft (ν₀ ∷ []) fullShare) ⊛ ‵ (flft (ν₁ ∷ []) fullShare) ⊛ ‵ (flft (ν₂ ∷ []) fullShare) ⊛ ‵ (flft κ₃ q₃) ⊛ ‵ (flft κ₄ q₄) ⊛ ‵ (flft κ₅ q₅) ⊛ ‵ (flft κ₆ q₆)))) (came-get-for 𝓤 H A mem run W b₀ o₀ y₀ m₀ b₁ o₁ y₁ m₁ b₂ o₂ y₂ m₂ b₃ o₃ y₃ m₃ κ₃ q₃ γ₃ b₄ o₄ y₄ m₄ κ₄ q₄ γ₄ b₅ o₅ y₅ m₅ κ₅ q₅ γ₅ b₆ o₆ y₆ m₆ κ₆ q₆ γ₆ v₀ v₁ ν₀ δ₀ ν₁ δ₁ ν₂ δ₂ w) $ await t tt $ learn t (λ e.
+      split t $ move t (1 ∷ []) $ split t $ move t (1 ∷ []) $ split t $ move t (1 ∷ []) $ split t $ move t (1 ∷ []) $ split t $ move t (1 ∷ []) $ split t $ 
+      move t (6 ∷ 13 ∷ []) $ back-shr t tt N4 ℓ₀ (named 0) γ₀ b₀ o₀ y₀ m₀ e₀ ν₀ room₀ $
+      move t (7 ∷ 13 ∷ []) $ back-shr t tt F4 ℓ₁ (named 1) γ₁ b₁ o₁ y₁ m₁ e₁ ν₁ room₁ $
+      move t (8 ∷ 13 ∷ []) $ back-shr t tt Z4 ℓ₂ (named 2) γ₂ b₂ o₂ y₂ m₂ e₂ ν₂ room₂ $
+      move t (13 ∷ 9 ∷ []) $ 
+      move t (13 ∷ 10 ∷ []) $ 
+      move t (13 ∷ 10 ∷ []) $ 
+      move t (13 ∷ 12 ∷ []) $ 
+      move t (12 ∷ 13 ∷ 10 ∷ 11 ∷ 8 ∷ 9 ∷ 6 ∷ 7 ∷ 4 ∷ 5 ∷ 2 ∷ 3 ∷ 0 ∷ 1 ∷ []) $ subst (λ (u : Val). Seq K W (‵ (MutSlice ℓ₀ κ₀ N4 .own (to N4 b₀ o₀ γ₀ y₀) (sliceVal (b₀, o₀) m₀ ∷ [])) ∷ ‵ (flft κ₀ q₀) ∷ ‵ (MutSlice ℓ₁ κ₁ F4 .own (to F4 b₁ o₁ γ₁ y₁) (sliceVal (b₁, o₁) m₁ ∷ [])) ∷ ‵ (flft κ₁ q₁) ∷ ‵ (MutSlice ℓ₂ κ₂ Z4 .own (to Z4 b₂ o₂ γ₂ y₂) (sliceVal (b₂, o₂) m₂ ∷ [])) ∷ ‵ (flft κ₂ q₂) ∷ ‵ (ShrSlice ℓ₃ κ₃ u64 .own (to u64 b₃ o₃ γ₃ y₃) (sliceVal (b₃, o₃) m₃ ∷ [])) ∷ ‵ (flft κ₃ q₃) ∷ ‵ (ShrSlice ℓ₄ κ₄ N2 .own (to N2 b₄ o₄ γ₄ y₄) (sliceVal (b₄, o₄) m₄ ∷ [])) ∷ ‵ (flft κ₄ q₄) ∷ ‵ (ShrSlice ℓ₅ κ₅ F2 .own (to F2 b₅ o₅ γ₅ y₅) (sliceVal (b₅, o₅) m₅ ∷ [])) ∷ ‵ (flft κ₅ q₅) ∷ ‵ (ShrSlice ℓ₆ κ₆ N2 .own (to N2 b₆ o₆ γ₆ y₆) (sliceVal (b₆, o₆) m₆ ∷ [])) ∷ ‵ (flft κ₆ q₆) ∷ Γ) (lands C Λ E d u rest p)) (sym (ap only (LL.tells GT.the-type GT′.the-laws (getFor v₀ (tables y₀ y₁ y₂ y₃ y₄ y₅ y₆) v₁) (w ∷ []) (e .0)))) (k (subst (Is GR (getFor v₀ (tables y₀ y₁ y₂ y₃ y₄ y₅ y₆) v₁)) (LL.tells GT.the-type GT′.the-laws (getFor v₀ (tables y₀ y₁ y₂ y₃ y₄ y₅ y₆) v₁) (w ∷ []) (e .0)) (e .0))))))))

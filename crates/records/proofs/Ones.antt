@@ -42,12 +42,24 @@ use Rattle.slots.proofs.Handle.Laws as HT′
 use Rattle.objects.specs.declared.Record.{Record}
 use Rattle.objects.proofs.Record as RT
 use Rattle.objects.proofs.Record.Laws as RT′
+use Rattle.replies.specs.declared.Reply.{Reply}
+use Rattle.replies.proofs.Reply as YT
+use Rattle.replies.proofs.Reply.Laws as YT′
+use Rattle.replies.specs.declared.Inserted.{Inserted}
+use Rattle.replies.proofs.Inserted as IT
+use Rattle.replies.proofs.Inserted.Laws as IT′
+use Rattle.maintain.specs.declared.Maintained.{Maintained}
+use Rattle.maintain.proofs.Maintained as MT
+use Rattle.maintain.proofs.Maintained.Laws as MT′
+use Rattle.reads.specs.declared.Got.{Got}
+use Rattle.reads.proofs.Got as GT
+use Rattle.reads.proofs.Got.Laws as GT′
 use Rattle.objects.specs.Columns.{numsOf, realsOf, intsOf}
 use Rattle.replies.specs.Replies.{reply}
 use Rattle.point_tables.specs.Tables.{tables}
 use Rattle.point_tables.specs.Outcome.{outcome}
 use Rattle.records.specs.Spread.{noRecord, laid, gathered, rowOr}
-use Rattle.records.specs.Calls.{setPositionFor}
+use Rattle.records.specs.Calls.{setPositionFor, removeFor, maintainFor, insertFor, getFor}
 use Rattle.records.proofs.Lends.{to, lend-mut, back-mut, lend-shr, back-shr, copies}
 use Rattle.records.proofs.record_at as record-at
 use Rattle.records.proofs.put_record as put-record
@@ -55,7 +67,7 @@ use Rattle.records.proofs.put_nums as put-nums
 use Rattle.records.proofs.put_reals as put-reals
 use Rattle.records.proofs.put_ints as put-ints
 use Rattle.records.proofs.row_or as row-or
-use Rattle.records.proofs.Rows.{R, val, vals, HR, hval, hvals, PR, pval, pvals, N4, F4, Z4, N2, F2}
+use Rattle.records.proofs.Rows.{R, val, vals, HR, hval, hvals, PR, pval, pvals, N4, F4, Z4, N2, F2, YR, Yval, Yvals, IR, Ival, Ivals, MR, Mval, Mvals, GR, Gval, Gvals}
 
 -- ---- `record_at`
 module _ {M : Type 1} (𝓤 : URA M) (H : Heap 𝓤) (A : Atoms 𝓤) (mem : Memory → SProp 𝓤) (run : Routine → Fun 𝓤) where

@@ -15,7 +15,19 @@ use Rattle.slots.proofs.Handle.Laws as HT′
 use Rattle.objects.specs.declared.Record.{Record}
 use Rattle.objects.proofs.Record as RT
 use Rattle.objects.proofs.Record.Laws as RT′
-use Rattle.records.specs.Calls.{setPositionFor}
+use Rattle.replies.specs.declared.Reply.{Reply}
+use Rattle.replies.proofs.Reply as YT
+use Rattle.replies.proofs.Reply.Laws as YT′
+use Rattle.replies.specs.declared.Inserted.{Inserted}
+use Rattle.replies.proofs.Inserted as IT
+use Rattle.replies.proofs.Inserted.Laws as IT′
+use Rattle.maintain.specs.declared.Maintained.{Maintained}
+use Rattle.maintain.proofs.Maintained as MT
+use Rattle.maintain.proofs.Maintained.Laws as MT′
+use Rattle.reads.specs.declared.Got.{Got}
+use Rattle.reads.proofs.Got as GT
+use Rattle.reads.proofs.Got.Laws as GT′
+use Rattle.records.specs.Calls.{setPositionFor, removeFor, maintainFor, insertFor, getFor}
 
 -- ---- the types of the slices' elements and of the values
 abbrev pub R : RattleType
@@ -59,3 +71,39 @@ N2 = Array u64 2
 
 abbrev pub F2 : RattleType
 F2 = Array f32 2
+
+abbrev pub YR : RattleType
+YR = YT.the-row
+
+abbrev pub Yval : Reply → Val
+Yval = LL.val YT.the-type YT′.the-laws
+
+abbrev pub Yvals : Reply → List Val
+Yvals = LL.vals YT.the-type YT′.the-laws
+
+abbrev pub IR : RattleType
+IR = IT.the-row
+
+abbrev pub Ival : Inserted → Val
+Ival = LL.val IT.the-type IT′.the-laws
+
+abbrev pub Ivals : Inserted → List Val
+Ivals = LL.vals IT.the-type IT′.the-laws
+
+abbrev pub MR : RattleType
+MR = MT.the-row
+
+abbrev pub Mval : Maintained → Val
+Mval = LL.val MT.the-type MT′.the-laws
+
+abbrev pub Mvals : Maintained → List Val
+Mvals = LL.vals MT.the-type MT′.the-laws
+
+abbrev pub GR : RattleType
+GR = GT.the-row
+
+abbrev pub Gval : Got → Val
+Gval = LL.val GT.the-type GT′.the-laws
+
+abbrev pub Gvals : Got → List Val
+Gvals = LL.vals GT.the-type GT′.the-laws

@@ -7,11 +7,17 @@ use Rattle.basics.specs.Refusals.{pick}
 use Rattle.geometry.specs.declared.Position.{Position}
 use Rattle.slots.specs.declared.Handle.{Handle}
 use Rattle.replies.specs.declared.Reply.{Reply}
-use Rattle.replies.specs.Replies.{reply}
+use Rattle.replies.specs.declared.Inserted.{Inserted}
+use Rattle.replies.specs.Replies.{reply, inserted}
 use Rattle.objects.specs.declared.Record.{Record}
 use Rattle.point_tables.specs.Tables.{Tables, slotsOf}
 use Rattle.point_tables.specs.Outcome.{Outcome, outcome}
-use Rattle.moves.specs.Moves.{setPositionOf}
+use Rattle.moves.specs.Moves.{setPositionOf, removeOf}
+use Rattle.inserts.specs.Insert.{insertOf}
+use Rattle.maintain.specs.declared.Maintained.{Maintained}
+use Rattle.maintain.specs.Maintain.{maintainedCounts, maintainOf}
+use Rattle.reads.specs.declared.Got.{Got}
+use Rattle.reads.specs.Meaning.{got, zero-position, getOf}
 use Rattle.records.specs.Spread.{besides, recordsIn}
 
 -- what is seen after a call: what it returns, the records, and the other tables with the columns
@@ -37,3 +43,31 @@ setPositionFor n t h at = sized n t (setPositionOf t h at) (reply 3 0)
 
 abbrev pub setPositionOn : List Record → Tables → Handle → Position → Seen Reply
 setPositionOn rs t h at = back rs (setPositionFor (length rs) (besides rs t) h at)
+
+-- ---- remove
+abbrev pub removeFor : ℕ → Tables → Handle → Outcome Reply
+removeFor n t h = sized n t (removeOf t h) (reply 3 0)
+
+abbrev pub removeOn : List Record → Tables → Handle → Seen Reply
+removeOn rs t h = back rs (removeFor (length rs) (besides rs t) h)
+
+-- ---- maintain
+abbrev pub maintainFor : ℕ → Tables → Outcome Maintained
+maintainFor n t = sized n t (maintainOf t) (maintainedCounts 3 0 0)
+
+abbrev pub maintainOn : List Record → Tables → Seen Maintained
+maintainOn rs t = back rs (maintainFor (length rs) (besides rs t))
+
+-- ---- insert
+abbrev pub insertFor : ℕ → Tables → Position → ℕ → Outcome Inserted
+insertFor n t at obj = sized n t (insertOf t at obj) (inserted 3 0 0)
+
+abbrev pub insertOn : List Record → Tables → Position → ℕ → Seen Inserted
+insertOn rs t at obj = back rs (insertFor (length rs) (besides rs t) at obj)
+
+-- ---- get: the records are read only
+abbrev pub getFor : ℕ → Tables → Handle → Got
+getFor n t h = pick (eqb n (slotsOf t)) (getOf t h) (got 3 zero-position 0)
+
+abbrev pub getOn : List Record → Tables → Handle → Outcome Got
+getOn rs t h = outcome (getFor (length rs) (besides rs t) h) (besides rs t)

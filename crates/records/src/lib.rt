@@ -6,13 +6,17 @@ ghost use lib.ListN.{length, getD, set};
 ghost use Rattle.objects.specs.Columns.{tagOf, pendingOf, targetOf, numsOf, realsOf, intsOf};
 ghost use Rattle.point_tables.specs.Lent.{lent};
 ghost use Rattle.records.specs.Spread.{noRecord, laid, gathered, rowOr, besides};
-ghost use Rattle.records.specs.Calls.{seen, setPositionFor, setPositionOn};
+ghost use Rattle.records.specs.Calls.{seen, setPositionFor, setPositionOn, removeFor, removeOn, maintainFor, maintainOn, insertFor, insertOn, getFor, getOn};
 ghost use Rattle.replies.specs.Replies.{reply};
 ghost use Rattle.point_tables.specs.Outcome.{outcome};
 use cells::Cell;
 use geometry::Position;
+use maintain::Maintained;
 use objects::Record;
 use objects::State;
+use reads::Got;
+use replies::Inserted;
+use replies::Reply;
 use slots::Handle;
 
 // ---- one record
@@ -97,7 +101,13 @@ pub fn put_ints(ints: &mut [[i32; 4]], i: usize, r: Record)
 }
 
 // The record of row i of the columns; r where a column has no such row.
-pub fn row_or(nums: &[[u32; 4]], reals: &[[f32; 4]], ints: &[[i32; 4]], i: usize, r: Record) -> Record
+pub fn row_or(
+    nums: &[[u32; 4]],
+    reals: &[[f32; 4]],
+    ints: &[[i32; 4]],
+    i: usize,
+    r: Record,
+) -> Record
     ensures { λ q. ⌜ q ≡ rowOr (now (nums .entry)) (now (reals .entry)) (now (ints .entry)) i r ⌝ }
 {
     if i < nums.len() {
@@ -111,7 +121,12 @@ pub fn row_or(nums: &[[u32; 4]], reals: &[[f32; 4]], ints: &[[i32; 4]], i: usize
 }
 
 // ---- all records
-pub fn spread(records: &[Record], nums: &mut [[u32; 4]], reals: &mut [[f32; 4]], ints: &mut [[i32; 4]])
+pub fn spread(
+    records: &[Record],
+    nums: &mut [[u32; 4]],
+    reals: &mut [[f32; 4]],
+    ints: &mut [[i32; 4]],
+)
     ensures { λ _. ⌜ (now (nums .exit) ≡ laid numsOf (now (records .entry)) (now (nums .entry)))
         × (now (reals .exit) ≡ laid realsOf (now (records .entry)) (now (reals .entry)))
         × (now (ints .exit) ≡ laid intsOf (now (records .entry)) (now (ints .entry))) ⌝ }
@@ -177,5 +192,178 @@ pub fn set_position(
     let n = records.len();
     let r = set_position_for(n, nums, reals, ints, map, pool, spots, cells, h, at);
     gather(records, nums, reals, ints);
+    r
+}
+
+pub fn remove_for(
+    n: usize,
+    nums: &mut [[u32; 4]],
+    reals: &mut [[f32; 4]],
+    ints: &mut [[i32; 4]],
+    map: &[u64],
+    pool: &[[u64; 2]],
+    spots: &[[f32; 2]],
+    cells: &mut [[u64; 2]],
+    h: Handle,
+) -> Reply
+    ensures { λ r. ⌜ outcome r (lent (nums .exit) (reals .exit) (ints .exit) (map .entry) (pool .entry) (spots .entry) (cells .exit)) ≡ removeFor n (lent (nums .entry) (reals .entry) (ints .entry) (map .entry) (pool .entry) (spots .entry) (cells .entry)) h ⌝ }
+{
+    if n != nums.len() {
+        return Reply { answer: 3, obj: 0 };
+    }
+    points::remove(nums, reals, ints, map, pool, spots, cells, h)
+}
+
+// Marks the object; gives the data. 3, 5.
+pub fn remove(
+    records: &mut [Record],
+    nums: &mut [[u32; 4]],
+    reals: &mut [[f32; 4]],
+    ints: &mut [[i32; 4]],
+    map: &[u64],
+    pool: &[[u64; 2]],
+    spots: &[[f32; 2]],
+    cells: &mut [[u64; 2]],
+    h: Handle,
+) -> Reply
+    ensures { λ r. ⌜ seen r (now (records .exit)) (lent (nums .exit) (reals .exit) (ints .exit) (map .entry) (pool .entry) (spots .entry) (cells .exit)) ≡ removeOn (now (records .entry)) (lent (nums .entry) (reals .entry) (ints .entry) (map .entry) (pool .entry) (spots .entry) (cells .entry)) h ⌝ }
+{
+    spread(records, nums, reals, ints);
+    let n = records.len();
+    let r = remove_for(n, nums, reals, ints, map, pool, spots, cells, h);
+    gather(records, nums, reals, ints);
+    r
+}
+
+pub fn maintain_for(
+    n: usize,
+    nums: &mut [[u32; 4]],
+    reals: &mut [[f32; 4]],
+    ints: &mut [[i32; 4]],
+    map: &mut [u64],
+    pool: &mut [[u64; 2]],
+    spots: &mut [[f32; 2]],
+    cells: &mut [[u64; 2]],
+) -> Maintained
+    ensures { λ r. ⌜ outcome r (lent (nums .exit) (reals .exit) (ints .exit) (map .exit) (pool .exit) (spots .exit) (cells .exit)) ≡ maintainFor n (lent (nums .entry) (reals .entry) (ints .entry) (map .entry) (pool .entry) (spots .entry) (cells .entry)) ⌝ }
+{
+    if n != nums.len() {
+        return Maintained {
+            answer: 3,
+            moved: 0,
+            removed: 0,
+        };
+    }
+    points::maintain(nums, reals, ints, map, pool, spots, cells)
+}
+
+// Applies what is pending. 3.
+pub fn maintain(
+    records: &mut [Record],
+    nums: &mut [[u32; 4]],
+    reals: &mut [[f32; 4]],
+    ints: &mut [[i32; 4]],
+    map: &mut [u64],
+    pool: &mut [[u64; 2]],
+    spots: &mut [[f32; 2]],
+    cells: &mut [[u64; 2]],
+) -> Maintained
+    ensures { λ r. ⌜ seen r (now (records .exit)) (lent (nums .exit) (reals .exit) (ints .exit) (map .exit) (pool .exit) (spots .exit) (cells .exit)) ≡ maintainOn (now (records .entry)) (lent (nums .entry) (reals .entry) (ints .entry) (map .entry) (pool .entry) (spots .entry) (cells .entry)) ⌝ }
+{
+    spread(records, nums, reals, ints);
+    let n = records.len();
+    let r = maintain_for(n, nums, reals, ints, map, pool, spots, cells);
+    gather(records, nums, reals, ints);
+    r
+}
+
+pub fn insert_for(
+    n: usize,
+    nums: &mut [[u32; 4]],
+    reals: &mut [[f32; 4]],
+    ints: &mut [[i32; 4]],
+    map: &mut [u64],
+    pool: &mut [[u64; 2]],
+    spots: &mut [[f32; 2]],
+    cells: &mut [[u64; 2]],
+    at: Position,
+    obj: u32,
+) -> Inserted
+    ensures { λ r. ⌜ outcome r (lent (nums .exit) (reals .exit) (ints .exit) (map .exit) (pool .exit) (spots .exit) (cells .exit)) ≡ insertFor n (lent (nums .entry) (reals .entry) (ints .entry) (map .entry) (pool .entry) (spots .entry) (cells .entry)) at obj ⌝ }
+{
+    if n != nums.len() {
+        return Inserted {
+            answer: 3,
+            handle: Handle {
+                slot: 0,
+                version: 0,
+            },
+        };
+    }
+    points::insert(nums, reals, ints, map, pool, spots, cells, at, obj)
+}
+
+// A new object at a position. 3, 6, 4.
+pub fn insert(
+    records: &mut [Record],
+    nums: &mut [[u32; 4]],
+    reals: &mut [[f32; 4]],
+    ints: &mut [[i32; 4]],
+    map: &mut [u64],
+    pool: &mut [[u64; 2]],
+    spots: &mut [[f32; 2]],
+    cells: &mut [[u64; 2]],
+    at: Position,
+    obj: u32,
+) -> Inserted
+    ensures { λ r. ⌜ seen r (now (records .exit)) (lent (nums .exit) (reals .exit) (ints .exit) (map .exit) (pool .exit) (spots .exit) (cells .exit)) ≡ insertOn (now (records .entry)) (lent (nums .entry) (reals .entry) (ints .entry) (map .entry) (pool .entry) (spots .entry) (cells .entry)) at obj ⌝ }
+{
+    spread(records, nums, reals, ints);
+    let n = records.len();
+    let r = insert_for(n, nums, reals, ints, map, pool, spots, cells, at, obj);
+    gather(records, nums, reals, ints);
+    r
+}
+
+pub fn get_for(
+    n: usize,
+    nums: &[[u32; 4]],
+    reals: &[[f32; 4]],
+    ints: &[[i32; 4]],
+    map: &[u64],
+    pool: &[[u64; 2]],
+    spots: &[[f32; 2]],
+    cells: &[[u64; 2]],
+    h: Handle,
+) -> Got
+    ensures { λ r. ⌜ r ≡ getFor n (lent (nums .entry) (reals .entry) (ints .entry) (map .entry) (pool .entry) (spots .entry) (cells .entry)) h ⌝ }
+{
+    if n != nums.len() {
+        return Got {
+            answer: 3,
+            position: Position { x: 0.0, y: 0.0 },
+            obj: 0,
+        };
+    }
+    points::get(nums, reals, ints, map, pool, spots, cells, h)
+}
+
+// The recorded position and the data. 3, 5.
+pub fn get(
+    records: &[Record],
+    nums: &mut [[u32; 4]],
+    reals: &mut [[f32; 4]],
+    ints: &mut [[i32; 4]],
+    map: &[u64],
+    pool: &[[u64; 2]],
+    spots: &[[f32; 2]],
+    cells: &[[u64; 2]],
+    h: Handle,
+) -> Got
+    ensures { λ r. ⌜ outcome r (lent (nums .exit) (reals .exit) (ints .exit) (map .entry) (pool .entry) (spots .entry) (cells .entry)) ≡ getOn (now (records .entry)) (lent (nums .entry) (reals .entry) (ints .entry) (map .entry) (pool .entry) (spots .entry) (cells .entry)) h ⌝ }
+{
+    spread(records, nums, reals, ints);
+    let n = records.len();
+    let r = get_for(n, nums, reals, ints, map, pool, spots, cells, h);
     r
 }

@@ -56,7 +56,19 @@ use Rattle.objects.proofs.Record as RT
 use Rattle.objects.proofs.Record.Laws as RT′
 use Rattle.objects.specs.Columns.{numsOf, realsOf, intsOf}
 use Rattle.records.specs.Spread.{noRecord, laid, gathered, rowOr}
-use Rattle.records.proofs.Rows.{R, val, vals, HR, hval, hvals, PR, pval, pvals, N4, F4, Z4, N2, F2}
+use Rattle.replies.specs.declared.Reply.{Reply}
+use Rattle.replies.proofs.Reply as YT
+use Rattle.replies.proofs.Reply.Laws as YT′
+use Rattle.replies.specs.declared.Inserted.{Inserted}
+use Rattle.replies.proofs.Inserted as IT
+use Rattle.replies.proofs.Inserted.Laws as IT′
+use Rattle.maintain.specs.declared.Maintained.{Maintained}
+use Rattle.maintain.proofs.Maintained as MT
+use Rattle.maintain.proofs.Maintained.Laws as MT′
+use Rattle.reads.specs.declared.Got.{Got}
+use Rattle.reads.proofs.Got as GT
+use Rattle.reads.proofs.Got.Laws as GT′
+use Rattle.records.proofs.Rows.{R, val, vals, HR, hval, hvals, PR, pval, pvals, N4, F4, Z4, N2, F2, YR, Yval, Yvals, IR, Ival, Ivals, MR, Mval, Mvals, GR, Gval, Gvals}
 use Rattle.records.proofs.Lends.{to}
 use Rattle.records.proofs.Laws.{firstLaid, laid-0, laid-all, laid-size, laid-next, firstGathered, gathered-0, gathered-all, gathered-size, gathered-next, laid-fit, gathered-fit}
 use Rattle.records.proofs.Ones.{RecordAt, calls-record-at, PutNums, calls-put-nums, PutReals, calls-put-reals, PutInts, calls-put-ints}

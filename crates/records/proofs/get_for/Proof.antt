@@ -1,0 +1,26 @@
+-- `records::get_for` meets its contract. Assumes nothing.
+use mathlib.Core.Path.{_≡_, sym, _∙_}
+use lib.ListN.{length}
+use borrow.Author.Tests.{eq-eqb, ne-eqb}
+use Rattle.records.proofs.Laws.{pick-true, pick-false}
+use borrow.Author.Needs.{needs}
+use Rattle.records.proofs.get_for.Statement.{statement}
+use Rattle.records.proofs.get_for.Tie as tie
+use Rattle.records.proofs.get_for.Reads as reads
+use Rattle.records.proofs.get_for.Lts as lts
+use Rattle.points.proofs.get.Reads as get-reads
+
+-- src/lib.rt:342:9
+returns : tie.Need-returns
+returns c = let a = c .before .before .args in sym (pick-false _ _ _ (ne-eqb (a .n) (length (a .nums .now)) (c .if1 .taken)))
+
+-- src/lib.rt:348:5
+get-requires : tie.Need-get-requires
+get-requires c κs = search needs
+
+-- src/lib.rt:328:1
+returns-2 : tie.Need-returns-2
+returns-2 c = let a = c .before .before .before .args in c .get .ensures ∙ sym (pick-true _ _ _ (eq-eqb (a .n) (length (a .nums .now)) (c .before .if1 .left)))
+
+pub get-for-spec : {M : Type 1} → statement M
+get-for-spec = tie.close (tie.spec returns get-requires returns-2)
