@@ -1,5 +1,6 @@
 -- `records::get_for` meets its contract. Assumes nothing.
 use mathlib.Core.Path.{_≡_, sym, _∙_}
+use lib.Ieee.{ofBits}
 use lib.ListN.{length}
 use borrow.Author.Tests.{eq-eqb, ne-eqb}
 use Rattle.records.proofs.Laws.{pick-true, pick-false}
@@ -12,6 +13,7 @@ use Rattle.points.proofs.get.Reads as get-reads
 
 -- src/lib.rt:342:9
 returns : tie.Need-returns
+unfolding ofBits
 returns c = let a = c .before .before .args in sym (pick-false _ _ _ (ne-eqb (a .n) (length (a .nums .now)) (c .if1 .taken)))
 
 -- src/lib.rt:348:5

@@ -48,7 +48,7 @@ same-length-7 c = search needs
 
 -- src/lib.rt:238:1
 returns-2 : tie.Need-returns-2
-returns-2 c = let a = c .before .before .before .before .before .before .before .before .before .before .before .before .before .before .before .before .before .args in c .before .before .before .before .before .before .before .maintain .ensures ∙ sym (pick-true _ _ _ (eq-eqb (a .n) (length (a .nums .now)) (c .before .before .before .before .before .before .before .before .before .before .before .before .before .before .before .if1 .left)))
+returns-2 c = let a = c .before .before .before .before .before .before .before .before .before .before .before .before .before .before .before .before .before .before .args in c .before .before .before .before .before .before .before .before .maintain .ensures ∙ sym (pick-true _ _ _ (eq-eqb (a .n) (length (a .nums .now)) (c .before .before .before .before .before .before .before .before .before .before .before .before .before .before .before .before .if1 .left)))
 
 pub maintain-for-spec : {M : Type 1} → statement M
 maintain-for-spec =
