@@ -2,3 +2,5 @@
 pub mod Spread
 pub mod SpreadLaws
 pub mod Calls
+pub mod Alike
+pub mod Again
