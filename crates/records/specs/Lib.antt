@@ -4,3 +4,4 @@ pub mod SpreadLaws
 pub mod Calls
 pub mod Alike
 pub mod Again
+pub mod After
