@@ -83,7 +83,7 @@ module _ {M : Type 1} (𝓤 : URA M) (H : Heap 𝓤) (A : Atoms 𝓤) (mem : Mem
     lent-spread = ‵ (flft (ν₀ ∷ []) fullShare) ∷ ‵ (flft (ν₁ ∷ []) fullShare) ∷ ‵ (flft (ν₂ ∷ []) fullShare) ∷ ‵ (flft (ν₃ ∷ []) fullShare) ∷ ‵ (ShrSlice (named 0) (ν₀ ∷ []) R .own (to R b₀ o₀ δ₀ y₀) (sliceVal (b₀, o₀) m₀ ∷ [])) ∷ ‵ (MutSlice (named 1) (ν₁ ∷ []) N4 .own (to N4 b₁ o₁ δ₁ y₁) (sliceVal (b₁, o₁) m₁ ∷ [])) ∷ ‵ (MutSlice (named 2) (ν₂ ∷ []) F4 .own (to F4 b₂ o₂ δ₂ y₂) (sliceVal (b₂, o₂) m₂ ∷ [])) ∷ ‵ (MutSlice (named 3) (ν₃ ∷ []) Z4 .own (to Z4 b₃ o₃ δ₃ y₃) (sliceVal (b₃, o₃) m₃ ∷ [])) ∷ []
 
     goes-spread : ent 𝓤 (⋆ 𝓤 H A lent-spread) (Spread .pre to-spread)
-    goes-spread  = qed W lent-spread ∵ nothing ! $ move ! (4 ∷ 0 ∷ []) $ join ! $ move ! (3 ∷ 0 ∷ []) $ join ! $ move ! (2 ∷ 0 ∷ []) $ join ! $ move ! (1 ∷ 0 ∷ []) $ join ! $ nothing ! $ move ! (5 ∷ 0 ∷ []) $ fjoin ! $ move ! (4 ∷ 0 ∷ []) $ fjoin ! $ move ! (3 ∷ 0 ∷ []) $ fjoin ! $ move ! (2 ∷ 0 ∷ []) $ fjoin ! $ move ! (1 ∷ 0 ∷ []) $ join ! $ nothing ! $ move ! (1 ∷ 0 ∷ []) $ done !
+    goes-spread = qed W lent-spread ∵ nothing ! $ move ! (4 ∷ 0 ∷ []) $ join ! $ move ! (3 ∷ 0 ∷ []) $ join ! $ move ! (2 ∷ 0 ∷ []) $ join ! $ move ! (1 ∷ 0 ∷ []) $ join ! $ nothing ! $ move ! (5 ∷ 0 ∷ []) $ fjoin ! $ move ! (4 ∷ 0 ∷ []) $ fjoin ! $ move ! (3 ∷ 0 ∷ []) $ fjoin ! $ move ! (2 ∷ 0 ∷ []) $ fjoin ! $ move ! (1 ∷ 0 ∷ []) $ join ! $ nothing ! $ move ! (1 ∷ 0 ∷ []) $ done !
 
     abbrev told-spread : Val → Type 0
     told-spread w = ((w ≡ vunit) × ((length ((laid numsOf y₀ y₁)) ≡ length y₁) × ((length ((laid realsOf y₀ y₂)) ≡ length y₂) × ((length ((laid intsOf y₀ y₃)) ≡ length y₃) × Unit {0}))))
@@ -101,19 +101,19 @@ module _ {M : Type 1} (𝓤 : URA M) (H : Heap 𝓤) (A : Atoms 𝓤) (mem : Mem
         check ! (ap only we, (subst (λ (us : List (List ℕ)). length us ≡ length y₁) (e .0) n₁, (subst (λ (us : List (List Float)). length us ≡ length y₂) (e .1) n₂, (subst (λ (us : List (List ℤ)). length us ≡ length y₃) (e .2) n₃, tt)))) $ keep ! (3 ∷ 2 ∷ 1 ∷ 0 ∷ 6 ∷ 5 ∷ 4 ∷ []) $ done !)))))))
 
 module _ {M : Type 1} {𝓤 : URA M} {H : Heap 𝓤} {A : Atoms 𝓤} {K : Type 0} {W : Given 𝓤 H A} {Γ : List (Item 𝓤)} {E : Env 𝓤 H} {C : Calls 𝓤 H} {Λ : Loops 𝓤 H} {p : Post 𝓤 H} {f : Name} {xs : List Operand} {d : Place} {rest : Body} where
-  pub calls-spread : K → (mem : Memory → SProp 𝓤) (run : Routine → Fun 𝓤) → FmC 𝓤 H (W .laws) C → Triple 𝓤 (C f) (Spread 𝓤 H A mem run) → (ℓ₀ : Lifetime) {κ₀ : Lft} {q₀ : Share} (γ₀ : GName) (b₀ o₀ : ℕ) (y₀ : List (Record)) (m₀ : ℕ) (ℓ₁ : Lifetime) {κ₁ : Lft} {q₁ : Share} (γ₁ : GName) (b₁ o₁ : ℕ) (y₁ : List (List ℕ)) (m₁ : ℕ) (ℓ₂ : Lifetime) {κ₂ : Lft} {q₂ : Share} (γ₂ : GName) (b₂ o₂ : ℕ) (y₂ : List (List Float)) (m₂ : ℕ) (ℓ₃ : Lifetime) {κ₃ : Lft} {q₃ : Share} (γ₃ : GName) (b₃ o₃ : ℕ) (y₃ : List (List ℤ)) (m₃ : ℕ) 
+  pub calls-spread : K → (mem : Memory → SProp 𝓤) (run : Routine → Fun 𝓤) → FmC 𝓤 H (W .laws) C → Triple 𝓤 (C f) (Spread 𝓤 H A mem run) → (ℓ₀ : Lifetime) {κ₀ : Lft} {q₀ : Share} (γ₀ : GName) (b₀ o₀ : ℕ) (y₀ : List (Record)) (m₀ : ℕ) (ℓ₁ : Lifetime) {κ₁ : Lft} {q₁ : Share} (γ₁ : GName) (b₁ o₁ : ℕ) (y₁ : List (List ℕ)) (m₁ : ℕ) (ℓ₂ : Lifetime) {κ₂ : Lft} {q₂ : Share} (γ₂ : GName) (b₂ o₂ : ℕ) (y₂ : List (List Float)) (m₂ : ℕ) (ℓ₃ : Lifetime) {κ₃ : Lft} {q₃ : Share} (γ₃ : GName) (b₃ o₃ : ℕ) (y₃ : List (List ℤ)) (m₃ : ℕ)
       → m₀ ≡ length y₀ → m₁ ≡ length y₁ → m₂ ≡ length y₂ → m₃ ≡ length y₃ → Room R m₀ → Room N4 m₁ → Room F4 m₂ → Room Z4 m₃ → ((i₀ i₁ i₂ i₃ i₄ : Item 𝓤) → Opds K W (i₀ ∷ i₁ ∷ i₂ ∷ i₃ ∷ i₄ ∷ Γ) E xs (sliceVal (b₀, o₀) m₀ ∷ sliceVal (b₁, o₁) m₁ ∷ sliceVal (b₂, o₂) m₂ ∷ sliceVal (b₃, o₃) m₃ ∷ []))
       → Seq K W (‵ (MutSlice ℓ₀ κ₀ R .own (to R b₀ o₀ γ₀ y₀) (sliceVal (b₀, o₀) m₀ ∷ [])) ∷ ‵ (flft κ₀ q₀) ∷ ‵ (MutSlice ℓ₁ κ₁ N4 .own (to N4 b₁ o₁ γ₁ (laid numsOf y₀ y₁)) (sliceVal (b₁, o₁) m₁ ∷ [])) ∷ ‵ (flft κ₁ q₁) ∷ ‵ (MutSlice ℓ₂ κ₂ F4 .own (to F4 b₂ o₂ γ₂ (laid realsOf y₀ y₂)) (sliceVal (b₂, o₂) m₂ ∷ [])) ∷ ‵ (flft κ₂ q₂) ∷ ‵ (MutSlice ℓ₃ κ₃ Z4 .own (to Z4 b₃ o₃ γ₃ (laid intsOf y₀ y₃)) (sliceVal (b₃, o₃) m₃ ∷ [])) ∷ ‵ (flft κ₃ q₃) ∷ Γ) (lands C Λ E d (vunit) rest p)
       → Seq K W (‵ (MutSlice ℓ₀ κ₀ R .own (to R b₀ o₀ γ₀ y₀) (sliceVal (b₀, o₀) m₀ ∷ [])) ∷ ‵ (flft κ₀ q₀) ∷ ‵ (MutSlice ℓ₁ κ₁ N4 .own (to N4 b₁ o₁ γ₁ y₁) (sliceVal (b₁, o₁) m₁ ∷ [])) ∷ ‵ (flft κ₁ q₁) ∷ ‵ (MutSlice ℓ₂ κ₂ F4 .own (to F4 b₂ o₂ γ₂ y₂) (sliceVal (b₂, o₂) m₂ ∷ [])) ∷ ‵ (flft κ₂ q₂) ∷ ‵ (MutSlice ℓ₃ κ₃ Z4 .own (to Z4 b₃ o₃ γ₃ y₃) (sliceVal (b₃, o₃) m₃ ∷ [])) ∷ ‵ (flft κ₃ q₃) ∷ Γ) (runs C Λ E (seq (call f xs d) rest) p)
-  calls-spread t mem run fm met ℓ₀ {κ₀} {q₀} γ₀ b₀ o₀ y₀ m₀ ℓ₁ {κ₁} {q₁} γ₁ b₁ o₁ y₁ m₁ ℓ₂ {κ₂} {q₂} γ₂ b₂ o₂ y₂ m₂ ℓ₃ {κ₃} {q₃} γ₃ b₃ o₃ y₃ m₃  e₀ e₁ e₂ e₃ room₀ room₁ room₂ room₃  os k =
+  calls-spread t mem run fm met ℓ₀ {κ₀} {q₀} γ₀ b₀ o₀ y₀ m₀ ℓ₁ {κ₁} {q₁} γ₁ b₁ o₁ y₁ m₁ ℓ₂ {κ₂} {q₂} γ₂ b₂ o₂ y₂ m₂ ℓ₃ {κ₃} {q₃} γ₃ b₃ o₃ y₃ m₃ e₀ e₁ e₂ e₃ room₀ room₁ room₂ room₃ os k =
       lend-shr t tt R ℓ₀ (named 0) γ₀ b₀ o₀ y₀ m₀ e₀ (λ ν₀ δ₀.
       move t (3 ∷ 4 ∷ []) $ lend-mut t tt N4 ℓ₁ (named 1) γ₁ b₁ o₁ y₁ m₁ e₁ (λ ν₁ δ₁.
       move t (6 ∷ 7 ∷ []) $ lend-mut t tt F4 ℓ₂ (named 2) γ₂ b₂ o₂ y₂ m₂ e₂ (λ ν₂ δ₂.
       move t (9 ∷ 10 ∷ []) $ lend-mut t tt Z4 ℓ₃ (named 3) γ₃ b₃ o₃ y₃ m₃ e₃ (λ ν₃ δ₃.
-      move t (9 ∷ 6 ∷ 3 ∷ 0 ∷ 10 ∷ 7 ∷ 4 ∷ 1 ∷ []) $ cut (lent-spread 𝓤 H A mem run W b₀ o₀ y₀ m₀ b₁ o₁ y₁ m₁ b₂ o₂ y₂ m₂ b₃ o₃ y₃ m₃ ν₀ δ₀ ν₁ δ₁ ν₂ δ₂ ν₃ δ₃) (raw (Spread 𝓤 H A mem run .pre (to-spread 𝓤 H A mem run W b₀ o₀ y₀ m₀ b₁ o₁ y₁ m₁ b₂ o₂ y₂ m₂ b₃ o₃ y₃ m₃ ν₀ δ₀ ν₁ δ₁ ν₂ δ₂ ν₃ δ₃)) ∷ []) _ (goes-spread 𝓤 H A mem run W b₀ o₀ y₀ m₀ b₁ o₁ y₁ m₁ b₂ o₂ y₂ m₂ b₃ o₃ y₃ m₃ ν₀ δ₀ ν₁ δ₁ ν₂ δ₂ ν₃ δ₃ ) $
+      move t (9 ∷ 6 ∷ 3 ∷ 0 ∷ 10 ∷ 7 ∷ 4 ∷ 1 ∷ []) $ cut (lent-spread 𝓤 H A mem run W b₀ o₀ y₀ m₀ b₁ o₁ y₁ m₁ b₂ o₂ y₂ m₂ b₃ o₃ y₃ m₃ ν₀ δ₀ ν₁ δ₁ ν₂ δ₂ ν₃ δ₃) (raw (Spread 𝓤 H A mem run .pre (to-spread 𝓤 H A mem run W b₀ o₀ y₀ m₀ b₁ o₁ y₁ m₁ b₂ o₂ y₂ m₂ b₃ o₃ y₃ m₃ ν₀ δ₀ ν₁ δ₁ ν₂ δ₂ ν₃ δ₃)) ∷ []) _ (goes-spread 𝓤 H A mem run W b₀ o₀ y₀ m₀ b₁ o₁ y₁ m₁ b₂ o₂ y₂ m₂ b₃ o₃ y₃ m₃ ν₀ δ₀ ν₁ δ₁ ν₂ δ₂ ν₃ δ₃) $
       calls-at t fm (Spread 𝓤 H A mem run) met (to-spread 𝓤 H A mem run W b₀ o₀ y₀ m₀ b₁ o₁ y₁ m₁ b₂ o₂ y₂ m₂ b₃ o₃ y₃ m₃ ν₀ δ₀ ν₁ δ₁ ν₂ δ₂ ν₃ δ₃) (os _ _ _ _ _) (λ w.
       use1 W (later (given (told-spread 𝓤 H A mem run W b₀ o₀ y₀ m₀ b₁ o₁ y₁ m₁ b₂ o₂ y₂ m₂ b₃ o₃ y₃ m₃ ν₀ δ₀ ν₁ δ₁ ν₂ δ₂ ν₃ δ₃ w) (‵ (flft (ν₀ ∷ []) fullShare) ⊛ ‵ (flft (ν₁ ∷ []) fullShare) ⊛ ‵ (flft (ν₂ ∷ []) fullShare) ⊛ ‵ (flft (ν₃ ∷ []) fullShare) ⊛ ‵ (finally N4 δ₁ ((laid numsOf y₀ y₁))) ⊛ ‵ (finally F4 δ₂ ((laid realsOf y₀ y₂))) ⊛ ‵ (finally Z4 δ₃ ((laid intsOf y₀ y₃)))))) (came-spread 𝓤 H A mem run W b₀ o₀ y₀ m₀ b₁ o₁ y₁ m₁ b₂ o₂ y₂ m₂ b₃ o₃ y₃ m₃ ν₀ δ₀ ν₁ δ₁ ν₂ δ₂ ν₃ δ₃ w) $ await t tt $ learn t (λ e.
-      split t $ move t (1 ∷ []) $ split t $ move t (1 ∷ []) $ split t $ move t (1 ∷ []) $ split t $ move t (1 ∷ []) $ split t $ move t (1 ∷ []) $ split t $ 
+      split t $ move t (1 ∷ []) $ split t $ move t (1 ∷ []) $ split t $ move t (1 ∷ []) $ split t $ move t (1 ∷ []) $ split t $ move t (1 ∷ []) $ split t $
       move t (6 ∷ 10 ∷ []) $ back-shr t tt R ℓ₀ (named 0) γ₀ b₀ o₀ y₀ m₀ e₀ ν₀ room₀ $
       move t (7 ∷ 4 ∷ 10 ∷ []) $ back-mut t tt N4 ℓ₁ (named 1) γ₁ b₁ o₁ y₁ m₁ e₁ ν₁ δ₁ ((laid numsOf y₀ y₁)) room₁ (e .1 .0) $
       move t (7 ∷ 4 ∷ 9 ∷ []) $ back-mut t tt F4 ℓ₂ (named 2) γ₂ b₂ o₂ y₂ m₂ e₂ ν₂ δ₂ ((laid realsOf y₀ y₂)) room₂ (e .1 .1 .0) $
@@ -133,7 +133,7 @@ module _ {M : Type 1} (𝓤 : URA M) (H : Heap 𝓤) (A : Atoms 𝓤) (mem : Mem
     lent-spread-own = ‵ (flft κ₀ q₀) ∷ ‵ (flft (ν₁ ∷ []) fullShare) ∷ ‵ (flft (ν₂ ∷ []) fullShare) ∷ ‵ (flft (ν₃ ∷ []) fullShare) ∷ ‵ (ShrSlice (named 0) κ₀ R .own (to R b₀ o₀ γ₀ y₀) (sliceVal (b₀, o₀) m₀ ∷ [])) ∷ ‵ (MutSlice (named 1) (ν₁ ∷ []) N4 .own (to N4 b₁ o₁ δ₁ y₁) (sliceVal (b₁, o₁) m₁ ∷ [])) ∷ ‵ (MutSlice (named 2) (ν₂ ∷ []) F4 .own (to F4 b₂ o₂ δ₂ y₂) (sliceVal (b₂, o₂) m₂ ∷ [])) ∷ ‵ (MutSlice (named 3) (ν₃ ∷ []) Z4 .own (to Z4 b₃ o₃ δ₃ y₃) (sliceVal (b₃, o₃) m₃ ∷ [])) ∷ []
 
     goes-spread-own : ent 𝓤 (⋆ 𝓤 H A lent-spread-own) (Spread-own .pre to-spread-own)
-    goes-spread-own  = qed W lent-spread-own ∵ nothing ! $ move ! (4 ∷ 0 ∷ []) $ join ! $ move ! (3 ∷ 0 ∷ []) $ join ! $ move ! (2 ∷ 0 ∷ []) $ join ! $ move ! (1 ∷ 0 ∷ []) $ join ! $ nothing ! $ move ! (5 ∷ 0 ∷ []) $ fjoin ! $ move ! (4 ∷ 0 ∷ []) $ fjoin ! $ move ! (3 ∷ 0 ∷ []) $ fjoin ! $ move ! (2 ∷ 0 ∷ []) $ fjoin ! $ move ! (1 ∷ 0 ∷ []) $ join ! $ nothing ! $ move ! (1 ∷ 0 ∷ []) $ done !
+    goes-spread-own = qed W lent-spread-own ∵ nothing ! $ move ! (4 ∷ 0 ∷ []) $ join ! $ move ! (3 ∷ 0 ∷ []) $ join ! $ move ! (2 ∷ 0 ∷ []) $ join ! $ move ! (1 ∷ 0 ∷ []) $ join ! $ nothing ! $ move ! (5 ∷ 0 ∷ []) $ fjoin ! $ move ! (4 ∷ 0 ∷ []) $ fjoin ! $ move ! (3 ∷ 0 ∷ []) $ fjoin ! $ move ! (2 ∷ 0 ∷ []) $ fjoin ! $ move ! (1 ∷ 0 ∷ []) $ join ! $ nothing ! $ move ! (1 ∷ 0 ∷ []) $ done !
 
     abbrev told-spread-own : Val → Type 0
     told-spread-own w = ((w ≡ vunit) × ((length ((laid numsOf y₀ y₁)) ≡ length y₁) × ((length ((laid realsOf y₀ y₂)) ≡ length y₂) × ((length ((laid intsOf y₀ y₃)) ≡ length y₃) × Unit {0}))))
@@ -151,20 +151,20 @@ module _ {M : Type 1} (𝓤 : URA M) (H : Heap 𝓤) (A : Atoms 𝓤) (mem : Mem
         check ! (ap only we, (subst (λ (us : List (List ℕ)). length us ≡ length y₁) (e .0) n₁, (subst (λ (us : List (List Float)). length us ≡ length y₂) (e .1) n₂, (subst (λ (us : List (List ℤ)). length us ≡ length y₃) (e .2) n₃, tt)))) $ keep ! (3 ∷ 2 ∷ 1 ∷ 0 ∷ 6 ∷ 5 ∷ 4 ∷ []) $ done !)))))))
 
 module _ {M : Type 1} {𝓤 : URA M} {H : Heap 𝓤} {A : Atoms 𝓤} {K : Type 0} {W : Given 𝓤 H A} {Γ : List (Item 𝓤)} {E : Env 𝓤 H} {C : Calls 𝓤 H} {Λ : Loops 𝓤 H} {p : Post 𝓤 H} {f : Name} {xs : List Operand} {d : Place} {rest : Body} where
-  pub calls-spread-own : K → (mem : Memory → SProp 𝓤) (run : Routine → Fun 𝓤) → FmC 𝓤 H (W .laws) C → Triple 𝓤 (C f) (Spread-own 𝓤 H A mem run) → (ℓ₀ : Lifetime) {κ₀ : Lft} {q₀ : Share} (γ₀ : GName) (b₀ o₀ : ℕ) (y₀ : List (Record)) (m₀ : ℕ) (ℓ₁ : Lifetime) {κ₁ : Lft} {q₁ : Share} (γ₁ : GName) (b₁ o₁ : ℕ) (y₁ : List (List ℕ)) (m₁ : ℕ) (ℓ₂ : Lifetime) {κ₂ : Lft} {q₂ : Share} (γ₂ : GName) (b₂ o₂ : ℕ) (y₂ : List (List Float)) (m₂ : ℕ) (ℓ₃ : Lifetime) {κ₃ : Lft} {q₃ : Share} (γ₃ : GName) (b₃ o₃ : ℕ) (y₃ : List (List ℤ)) (m₃ : ℕ) 
+  pub calls-spread-own : K → (mem : Memory → SProp 𝓤) (run : Routine → Fun 𝓤) → FmC 𝓤 H (W .laws) C → Triple 𝓤 (C f) (Spread-own 𝓤 H A mem run) → (ℓ₀ : Lifetime) {κ₀ : Lft} {q₀ : Share} (γ₀ : GName) (b₀ o₀ : ℕ) (y₀ : List (Record)) (m₀ : ℕ) (ℓ₁ : Lifetime) {κ₁ : Lft} {q₁ : Share} (γ₁ : GName) (b₁ o₁ : ℕ) (y₁ : List (List ℕ)) (m₁ : ℕ) (ℓ₂ : Lifetime) {κ₂ : Lft} {q₂ : Share} (γ₂ : GName) (b₂ o₂ : ℕ) (y₂ : List (List Float)) (m₂ : ℕ) (ℓ₃ : Lifetime) {κ₃ : Lft} {q₃ : Share} (γ₃ : GName) (b₃ o₃ : ℕ) (y₃ : List (List ℤ)) (m₃ : ℕ)
       → m₁ ≡ length y₁ → m₂ ≡ length y₂ → m₃ ≡ length y₃ → Room N4 m₁ → Room F4 m₂ → Room Z4 m₃ → ((i₀ i₁ i₂ i₃ i₄ : Item 𝓤) → Opds K W (i₀ ∷ i₁ ∷ i₂ ∷ i₃ ∷ i₄ ∷ Γ) E xs (sliceVal (b₀, o₀) m₀ ∷ sliceVal (b₁, o₁) m₁ ∷ sliceVal (b₂, o₂) m₂ ∷ sliceVal (b₃, o₃) m₃ ∷ []))
       → Seq K W (‵ (ShrSlice ℓ₀ κ₀ R .own (to R b₀ o₀ γ₀ y₀) (sliceVal (b₀, o₀) m₀ ∷ [])) ∷ ‵ (flft κ₀ q₀) ∷ ‵ (MutSlice ℓ₁ κ₁ N4 .own (to N4 b₁ o₁ γ₁ (laid numsOf y₀ y₁)) (sliceVal (b₁, o₁) m₁ ∷ [])) ∷ ‵ (flft κ₁ q₁) ∷ ‵ (MutSlice ℓ₂ κ₂ F4 .own (to F4 b₂ o₂ γ₂ (laid realsOf y₀ y₂)) (sliceVal (b₂, o₂) m₂ ∷ [])) ∷ ‵ (flft κ₂ q₂) ∷ ‵ (MutSlice ℓ₃ κ₃ Z4 .own (to Z4 b₃ o₃ γ₃ (laid intsOf y₀ y₃)) (sliceVal (b₃, o₃) m₃ ∷ [])) ∷ ‵ (flft κ₃ q₃) ∷ Γ) (lands C Λ E d (vunit) rest p)
       → Seq K W (‵ (ShrSlice ℓ₀ κ₀ R .own (to R b₀ o₀ γ₀ y₀) (sliceVal (b₀, o₀) m₀ ∷ [])) ∷ ‵ (flft κ₀ q₀) ∷ ‵ (MutSlice ℓ₁ κ₁ N4 .own (to N4 b₁ o₁ γ₁ y₁) (sliceVal (b₁, o₁) m₁ ∷ [])) ∷ ‵ (flft κ₁ q₁) ∷ ‵ (MutSlice ℓ₂ κ₂ F4 .own (to F4 b₂ o₂ γ₂ y₂) (sliceVal (b₂, o₂) m₂ ∷ [])) ∷ ‵ (flft κ₂ q₂) ∷ ‵ (MutSlice ℓ₃ κ₃ Z4 .own (to Z4 b₃ o₃ γ₃ y₃) (sliceVal (b₃, o₃) m₃ ∷ [])) ∷ ‵ (flft κ₃ q₃) ∷ Γ) (runs C Λ E (seq (call f xs d) rest) p)
-  calls-spread-own t mem run fm met ℓ₀ {κ₀} {q₀} γ₀ b₀ o₀ y₀ m₀ ℓ₁ {κ₁} {q₁} γ₁ b₁ o₁ y₁ m₁ ℓ₂ {κ₂} {q₂} γ₂ b₂ o₂ y₂ m₂ ℓ₃ {κ₃} {q₃} γ₃ b₃ o₃ y₃ m₃  e₁ e₂ e₃ room₁ room₂ room₃  os k =
+  calls-spread-own t mem run fm met ℓ₀ {κ₀} {q₀} γ₀ b₀ o₀ y₀ m₀ ℓ₁ {κ₁} {q₁} γ₁ b₁ o₁ y₁ m₁ ℓ₂ {κ₂} {q₂} γ₂ b₂ o₂ y₂ m₂ ℓ₃ {κ₃} {q₃} γ₃ b₃ o₃ y₃ m₃ e₁ e₂ e₃ room₁ room₂ room₃ os k =
       copies t R ℓ₀ κ₀ q₀ (to R b₀ o₀ γ₀ y₀) (sliceVal (b₀, o₀) m₀ ∷ []) $
       move t (3 ∷ 4 ∷ []) $ lend-mut t tt N4 ℓ₁ (named 1) γ₁ b₁ o₁ y₁ m₁ e₁ (λ ν₁ δ₁.
       move t (6 ∷ 7 ∷ []) $ lend-mut t tt F4 ℓ₂ (named 2) γ₂ b₂ o₂ y₂ m₂ e₂ (λ ν₂ δ₂.
       move t (9 ∷ 10 ∷ []) $ lend-mut t tt Z4 ℓ₃ (named 3) γ₃ b₃ o₃ y₃ m₃ e₃ (λ ν₃ δ₃.
-      move t (9 ∷ 6 ∷ 3 ∷ 0 ∷ 10 ∷ 7 ∷ 4 ∷ 1 ∷ []) $ cut (lent-spread-own 𝓤 H A mem run W b₀ o₀ y₀ m₀ κ₀ q₀ γ₀ b₁ o₁ y₁ m₁ b₂ o₂ y₂ m₂ b₃ o₃ y₃ m₃ ν₁ δ₁ ν₂ δ₂ ν₃ δ₃) (raw (Spread-own 𝓤 H A mem run .pre (to-spread-own 𝓤 H A mem run W b₀ o₀ y₀ m₀ κ₀ q₀ γ₀ b₁ o₁ y₁ m₁ b₂ o₂ y₂ m₂ b₃ o₃ y₃ m₃ ν₁ δ₁ ν₂ δ₂ ν₃ δ₃)) ∷ []) _ (goes-spread-own 𝓤 H A mem run W b₀ o₀ y₀ m₀ κ₀ q₀ γ₀ b₁ o₁ y₁ m₁ b₂ o₂ y₂ m₂ b₃ o₃ y₃ m₃ ν₁ δ₁ ν₂ δ₂ ν₃ δ₃ ) $
+      move t (9 ∷ 6 ∷ 3 ∷ 0 ∷ 10 ∷ 7 ∷ 4 ∷ 1 ∷ []) $ cut (lent-spread-own 𝓤 H A mem run W b₀ o₀ y₀ m₀ κ₀ q₀ γ₀ b₁ o₁ y₁ m₁ b₂ o₂ y₂ m₂ b₃ o₃ y₃ m₃ ν₁ δ₁ ν₂ δ₂ ν₃ δ₃) (raw (Spread-own 𝓤 H A mem run .pre (to-spread-own 𝓤 H A mem run W b₀ o₀ y₀ m₀ κ₀ q₀ γ₀ b₁ o₁ y₁ m₁ b₂ o₂ y₂ m₂ b₃ o₃ y₃ m₃ ν₁ δ₁ ν₂ δ₂ ν₃ δ₃)) ∷ []) _ (goes-spread-own 𝓤 H A mem run W b₀ o₀ y₀ m₀ κ₀ q₀ γ₀ b₁ o₁ y₁ m₁ b₂ o₂ y₂ m₂ b₃ o₃ y₃ m₃ ν₁ δ₁ ν₂ δ₂ ν₃ δ₃) $
       calls-at t fm (Spread-own 𝓤 H A mem run) met (to-spread-own 𝓤 H A mem run W b₀ o₀ y₀ m₀ κ₀ q₀ γ₀ b₁ o₁ y₁ m₁ b₂ o₂ y₂ m₂ b₃ o₃ y₃ m₃ ν₁ δ₁ ν₂ δ₂ ν₃ δ₃) (os _ _ _ _ _) (λ w.
       use1 W (later (given (told-spread-own 𝓤 H A mem run W b₀ o₀ y₀ m₀ κ₀ q₀ γ₀ b₁ o₁ y₁ m₁ b₂ o₂ y₂ m₂ b₃ o₃ y₃ m₃ ν₁ δ₁ ν₂ δ₂ ν₃ δ₃ w) (‵ (flft κ₀ q₀) ⊛ ‵ (flft (ν₁ ∷ []) fullShare) ⊛ ‵ (flft (ν₂ ∷ []) fullShare) ⊛ ‵ (flft (ν₃ ∷ []) fullShare) ⊛ ‵ (finally N4 δ₁ ((laid numsOf y₀ y₁))) ⊛ ‵ (finally F4 δ₂ ((laid realsOf y₀ y₂))) ⊛ ‵ (finally Z4 δ₃ ((laid intsOf y₀ y₃)))))) (came-spread-own 𝓤 H A mem run W b₀ o₀ y₀ m₀ κ₀ q₀ γ₀ b₁ o₁ y₁ m₁ b₂ o₂ y₂ m₂ b₃ o₃ y₃ m₃ ν₁ δ₁ ν₂ δ₂ ν₃ δ₃ w) $ await t tt $ learn t (λ e.
-      split t $ move t (1 ∷ []) $ split t $ move t (1 ∷ []) $ split t $ move t (1 ∷ []) $ split t $ move t (1 ∷ []) $ split t $ move t (1 ∷ []) $ split t $ 
-      move t (10 ∷ 6 ∷ []) $ 
+      split t $ move t (1 ∷ []) $ split t $ move t (1 ∷ []) $ split t $ move t (1 ∷ []) $ split t $ move t (1 ∷ []) $ split t $ move t (1 ∷ []) $ split t $
+      move t (10 ∷ 6 ∷ []) $
       move t (7 ∷ 4 ∷ 10 ∷ []) $ back-mut t tt N4 ℓ₁ (named 1) γ₁ b₁ o₁ y₁ m₁ e₁ ν₁ δ₁ ((laid numsOf y₀ y₁)) room₁ (e .1 .0) $
       move t (7 ∷ 4 ∷ 9 ∷ []) $ back-mut t tt F4 ℓ₂ (named 2) γ₂ b₂ o₂ y₂ m₂ e₂ ν₂ δ₂ ((laid realsOf y₀ y₂)) room₂ (e .1 .1 .0) $
       move t (7 ∷ 6 ∷ 8 ∷ []) $ back-mut t tt Z4 ℓ₃ (named 3) γ₃ b₃ o₃ y₃ m₃ e₃ ν₃ δ₃ ((laid intsOf y₀ y₃)) room₃ (e .1 .1 .1 .0) $
@@ -183,7 +183,7 @@ module _ {M : Type 1} (𝓤 : URA M) (H : Heap 𝓤) (A : Atoms 𝓤) (mem : Mem
     lent-gather = ‵ (flft (ν₀ ∷ []) fullShare) ∷ ‵ (flft (ν₁ ∷ []) fullShare) ∷ ‵ (flft (ν₂ ∷ []) fullShare) ∷ ‵ (flft (ν₃ ∷ []) fullShare) ∷ ‵ (MutSlice (named 0) (ν₀ ∷ []) R .own (to R b₀ o₀ δ₀ y₀) (sliceVal (b₀, o₀) m₀ ∷ [])) ∷ ‵ (ShrSlice (named 1) (ν₁ ∷ []) N4 .own (to N4 b₁ o₁ δ₁ y₁) (sliceVal (b₁, o₁) m₁ ∷ [])) ∷ ‵ (ShrSlice (named 2) (ν₂ ∷ []) F4 .own (to F4 b₂ o₂ δ₂ y₂) (sliceVal (b₂, o₂) m₂ ∷ [])) ∷ ‵ (ShrSlice (named 3) (ν₃ ∷ []) Z4 .own (to Z4 b₃ o₃ δ₃ y₃) (sliceVal (b₃, o₃) m₃ ∷ [])) ∷ []
 
     goes-gather : ent 𝓤 (⋆ 𝓤 H A lent-gather) (Gather .pre to-gather)
-    goes-gather  = qed W lent-gather ∵ nothing ! $ move ! (4 ∷ 0 ∷ []) $ join ! $ move ! (3 ∷ 0 ∷ []) $ join ! $ move ! (2 ∷ 0 ∷ []) $ join ! $ move ! (1 ∷ 0 ∷ []) $ join ! $ nothing ! $ move ! (5 ∷ 0 ∷ []) $ fjoin ! $ move ! (4 ∷ 0 ∷ []) $ fjoin ! $ move ! (3 ∷ 0 ∷ []) $ fjoin ! $ move ! (2 ∷ 0 ∷ []) $ fjoin ! $ move ! (1 ∷ 0 ∷ []) $ join ! $ nothing ! $ move ! (1 ∷ 0 ∷ []) $ done !
+    goes-gather = qed W lent-gather ∵ nothing ! $ move ! (4 ∷ 0 ∷ []) $ join ! $ move ! (3 ∷ 0 ∷ []) $ join ! $ move ! (2 ∷ 0 ∷ []) $ join ! $ move ! (1 ∷ 0 ∷ []) $ join ! $ nothing ! $ move ! (5 ∷ 0 ∷ []) $ fjoin ! $ move ! (4 ∷ 0 ∷ []) $ fjoin ! $ move ! (3 ∷ 0 ∷ []) $ fjoin ! $ move ! (2 ∷ 0 ∷ []) $ fjoin ! $ move ! (1 ∷ 0 ∷ []) $ join ! $ nothing ! $ move ! (1 ∷ 0 ∷ []) $ done !
 
     abbrev told-gather : Val → Type 0
     told-gather w = ((w ≡ vunit) × ((length ((gathered y₁ y₂ y₃ y₀)) ≡ length y₀) × Unit {0}))
@@ -201,19 +201,19 @@ module _ {M : Type 1} (𝓤 : URA M) (H : Heap 𝓤) (A : Atoms 𝓤) (mem : Mem
         check ! (ap only we, (subst (λ (us : List (Record)). length us ≡ length y₀) e n₀, tt)) $ keep ! (3 ∷ 2 ∷ 1 ∷ 0 ∷ 4 ∷ []) $ done !)))))
 
 module _ {M : Type 1} {𝓤 : URA M} {H : Heap 𝓤} {A : Atoms 𝓤} {K : Type 0} {W : Given 𝓤 H A} {Γ : List (Item 𝓤)} {E : Env 𝓤 H} {C : Calls 𝓤 H} {Λ : Loops 𝓤 H} {p : Post 𝓤 H} {f : Name} {xs : List Operand} {d : Place} {rest : Body} where
-  pub calls-gather : K → (mem : Memory → SProp 𝓤) (run : Routine → Fun 𝓤) → FmC 𝓤 H (W .laws) C → Triple 𝓤 (C f) (Gather 𝓤 H A mem run) → (ℓ₀ : Lifetime) {κ₀ : Lft} {q₀ : Share} (γ₀ : GName) (b₀ o₀ : ℕ) (y₀ : List (Record)) (m₀ : ℕ) (ℓ₁ : Lifetime) {κ₁ : Lft} {q₁ : Share} (γ₁ : GName) (b₁ o₁ : ℕ) (y₁ : List (List ℕ)) (m₁ : ℕ) (ℓ₂ : Lifetime) {κ₂ : Lft} {q₂ : Share} (γ₂ : GName) (b₂ o₂ : ℕ) (y₂ : List (List Float)) (m₂ : ℕ) (ℓ₃ : Lifetime) {κ₃ : Lft} {q₃ : Share} (γ₃ : GName) (b₃ o₃ : ℕ) (y₃ : List (List ℤ)) (m₃ : ℕ) 
+  pub calls-gather : K → (mem : Memory → SProp 𝓤) (run : Routine → Fun 𝓤) → FmC 𝓤 H (W .laws) C → Triple 𝓤 (C f) (Gather 𝓤 H A mem run) → (ℓ₀ : Lifetime) {κ₀ : Lft} {q₀ : Share} (γ₀ : GName) (b₀ o₀ : ℕ) (y₀ : List (Record)) (m₀ : ℕ) (ℓ₁ : Lifetime) {κ₁ : Lft} {q₁ : Share} (γ₁ : GName) (b₁ o₁ : ℕ) (y₁ : List (List ℕ)) (m₁ : ℕ) (ℓ₂ : Lifetime) {κ₂ : Lft} {q₂ : Share} (γ₂ : GName) (b₂ o₂ : ℕ) (y₂ : List (List Float)) (m₂ : ℕ) (ℓ₃ : Lifetime) {κ₃ : Lft} {q₃ : Share} (γ₃ : GName) (b₃ o₃ : ℕ) (y₃ : List (List ℤ)) (m₃ : ℕ)
       → m₀ ≡ length y₀ → m₁ ≡ length y₁ → m₂ ≡ length y₂ → m₃ ≡ length y₃ → Room R m₀ → Room N4 m₁ → Room F4 m₂ → Room Z4 m₃ → ((i₀ i₁ i₂ i₃ i₄ : Item 𝓤) → Opds K W (i₀ ∷ i₁ ∷ i₂ ∷ i₃ ∷ i₄ ∷ Γ) E xs (sliceVal (b₀, o₀) m₀ ∷ sliceVal (b₁, o₁) m₁ ∷ sliceVal (b₂, o₂) m₂ ∷ sliceVal (b₃, o₃) m₃ ∷ []))
       → Seq K W (‵ (MutSlice ℓ₀ κ₀ R .own (to R b₀ o₀ γ₀ (gathered y₁ y₂ y₃ y₀)) (sliceVal (b₀, o₀) m₀ ∷ [])) ∷ ‵ (flft κ₀ q₀) ∷ ‵ (MutSlice ℓ₁ κ₁ N4 .own (to N4 b₁ o₁ γ₁ y₁) (sliceVal (b₁, o₁) m₁ ∷ [])) ∷ ‵ (flft κ₁ q₁) ∷ ‵ (MutSlice ℓ₂ κ₂ F4 .own (to F4 b₂ o₂ γ₂ y₂) (sliceVal (b₂, o₂) m₂ ∷ [])) ∷ ‵ (flft κ₂ q₂) ∷ ‵ (MutSlice ℓ₃ κ₃ Z4 .own (to Z4 b₃ o₃ γ₃ y₃) (sliceVal (b₃, o₃) m₃ ∷ [])) ∷ ‵ (flft κ₃ q₃) ∷ Γ) (lands C Λ E d (vunit) rest p)
       → Seq K W (‵ (MutSlice ℓ₀ κ₀ R .own (to R b₀ o₀ γ₀ y₀) (sliceVal (b₀, o₀) m₀ ∷ [])) ∷ ‵ (flft κ₀ q₀) ∷ ‵ (MutSlice ℓ₁ κ₁ N4 .own (to N4 b₁ o₁ γ₁ y₁) (sliceVal (b₁, o₁) m₁ ∷ [])) ∷ ‵ (flft κ₁ q₁) ∷ ‵ (MutSlice ℓ₂ κ₂ F4 .own (to F4 b₂ o₂ γ₂ y₂) (sliceVal (b₂, o₂) m₂ ∷ [])) ∷ ‵ (flft κ₂ q₂) ∷ ‵ (MutSlice ℓ₃ κ₃ Z4 .own (to Z4 b₃ o₃ γ₃ y₃) (sliceVal (b₃, o₃) m₃ ∷ [])) ∷ ‵ (flft κ₃ q₃) ∷ Γ) (runs C Λ E (seq (call f xs d) rest) p)
-  calls-gather t mem run fm met ℓ₀ {κ₀} {q₀} γ₀ b₀ o₀ y₀ m₀ ℓ₁ {κ₁} {q₁} γ₁ b₁ o₁ y₁ m₁ ℓ₂ {κ₂} {q₂} γ₂ b₂ o₂ y₂ m₂ ℓ₃ {κ₃} {q₃} γ₃ b₃ o₃ y₃ m₃  e₀ e₁ e₂ e₃ room₀ room₁ room₂ room₃  os k =
+  calls-gather t mem run fm met ℓ₀ {κ₀} {q₀} γ₀ b₀ o₀ y₀ m₀ ℓ₁ {κ₁} {q₁} γ₁ b₁ o₁ y₁ m₁ ℓ₂ {κ₂} {q₂} γ₂ b₂ o₂ y₂ m₂ ℓ₃ {κ₃} {q₃} γ₃ b₃ o₃ y₃ m₃ e₀ e₁ e₂ e₃ room₀ room₁ room₂ room₃ os k =
       lend-mut t tt R ℓ₀ (named 0) γ₀ b₀ o₀ y₀ m₀ e₀ (λ ν₀ δ₀.
       move t (3 ∷ 4 ∷ []) $ lend-shr t tt N4 ℓ₁ (named 1) γ₁ b₁ o₁ y₁ m₁ e₁ (λ ν₁ δ₁.
       move t (6 ∷ 7 ∷ []) $ lend-shr t tt F4 ℓ₂ (named 2) γ₂ b₂ o₂ y₂ m₂ e₂ (λ ν₂ δ₂.
       move t (9 ∷ 10 ∷ []) $ lend-shr t tt Z4 ℓ₃ (named 3) γ₃ b₃ o₃ y₃ m₃ e₃ (λ ν₃ δ₃.
-      move t (9 ∷ 6 ∷ 3 ∷ 0 ∷ 10 ∷ 7 ∷ 4 ∷ 1 ∷ []) $ cut (lent-gather 𝓤 H A mem run W b₀ o₀ y₀ m₀ b₁ o₁ y₁ m₁ b₂ o₂ y₂ m₂ b₃ o₃ y₃ m₃ ν₀ δ₀ ν₁ δ₁ ν₂ δ₂ ν₃ δ₃) (raw (Gather 𝓤 H A mem run .pre (to-gather 𝓤 H A mem run W b₀ o₀ y₀ m₀ b₁ o₁ y₁ m₁ b₂ o₂ y₂ m₂ b₃ o₃ y₃ m₃ ν₀ δ₀ ν₁ δ₁ ν₂ δ₂ ν₃ δ₃)) ∷ []) _ (goes-gather 𝓤 H A mem run W b₀ o₀ y₀ m₀ b₁ o₁ y₁ m₁ b₂ o₂ y₂ m₂ b₃ o₃ y₃ m₃ ν₀ δ₀ ν₁ δ₁ ν₂ δ₂ ν₃ δ₃ ) $
+      move t (9 ∷ 6 ∷ 3 ∷ 0 ∷ 10 ∷ 7 ∷ 4 ∷ 1 ∷ []) $ cut (lent-gather 𝓤 H A mem run W b₀ o₀ y₀ m₀ b₁ o₁ y₁ m₁ b₂ o₂ y₂ m₂ b₃ o₃ y₃ m₃ ν₀ δ₀ ν₁ δ₁ ν₂ δ₂ ν₃ δ₃) (raw (Gather 𝓤 H A mem run .pre (to-gather 𝓤 H A mem run W b₀ o₀ y₀ m₀ b₁ o₁ y₁ m₁ b₂ o₂ y₂ m₂ b₃ o₃ y₃ m₃ ν₀ δ₀ ν₁ δ₁ ν₂ δ₂ ν₃ δ₃)) ∷ []) _ (goes-gather 𝓤 H A mem run W b₀ o₀ y₀ m₀ b₁ o₁ y₁ m₁ b₂ o₂ y₂ m₂ b₃ o₃ y₃ m₃ ν₀ δ₀ ν₁ δ₁ ν₂ δ₂ ν₃ δ₃) $
       calls-at t fm (Gather 𝓤 H A mem run) met (to-gather 𝓤 H A mem run W b₀ o₀ y₀ m₀ b₁ o₁ y₁ m₁ b₂ o₂ y₂ m₂ b₃ o₃ y₃ m₃ ν₀ δ₀ ν₁ δ₁ ν₂ δ₂ ν₃ δ₃) (os _ _ _ _ _) (λ w.
       use1 W (later (given (told-gather 𝓤 H A mem run W b₀ o₀ y₀ m₀ b₁ o₁ y₁ m₁ b₂ o₂ y₂ m₂ b₃ o₃ y₃ m₃ ν₀ δ₀ ν₁ δ₁ ν₂ δ₂ ν₃ δ₃ w) (‵ (flft (ν₀ ∷ []) fullShare) ⊛ ‵ (flft (ν₁ ∷ []) fullShare) ⊛ ‵ (flft (ν₂ ∷ []) fullShare) ⊛ ‵ (flft (ν₃ ∷ []) fullShare) ⊛ ‵ (finally R δ₀ ((gathered y₁ y₂ y₃ y₀)))))) (came-gather 𝓤 H A mem run W b₀ o₀ y₀ m₀ b₁ o₁ y₁ m₁ b₂ o₂ y₂ m₂ b₃ o₃ y₃ m₃ ν₀ δ₀ ν₁ δ₁ ν₂ δ₂ ν₃ δ₃ w) $ await t tt $ learn t (λ e.
-      split t $ move t (1 ∷ []) $ split t $ move t (1 ∷ []) $ split t $ move t (1 ∷ []) $ split t $ 
+      split t $ move t (1 ∷ []) $ split t $ move t (1 ∷ []) $ split t $ move t (1 ∷ []) $ split t $
       move t (4 ∷ 1 ∷ 8 ∷ []) $ back-mut t tt R ℓ₀ (named 0) γ₀ b₀ o₀ y₀ m₀ e₀ ν₀ δ₀ ((gathered y₁ y₂ y₃ y₀)) room₀ (e .1 .0) $
       move t (4 ∷ 7 ∷ []) $ back-shr t tt N4 ℓ₁ (named 1) γ₁ b₁ o₁ y₁ m₁ e₁ ν₁ room₁ $
       move t (5 ∷ 7 ∷ []) $ back-shr t tt F4 ℓ₂ (named 2) γ₂ b₂ o₂ y₂ m₂ e₂ ν₂ room₂ $
@@ -266,13 +266,13 @@ module _ {M : Type 1} {𝓤 : URA M} {H : Heap 𝓤} {A : Atoms 𝓤} {K : Type 
       move t (18 ∷ 15 ∷ 12 ∷ 9 ∷ 6 ∷ 3 ∷ 0 ∷ 19 ∷ 16 ∷ 13 ∷ 10 ∷ 7 ∷ 4 ∷ 1 ∷ []) $ cut (lent-set-position-for 𝓤 H A mem run W b₀ o₀ y₀ m₀ b₁ o₁ y₁ m₁ b₂ o₂ y₂ m₂ b₃ o₃ y₃ m₃ κ₃ q₃ γ₃ b₄ o₄ y₄ m₄ κ₄ q₄ γ₄ b₅ o₅ y₅ m₅ κ₅ q₅ γ₅ b₆ o₆ y₆ m₆ v₀ v₁ v₂ ν₀ δ₀ ν₁ δ₁ ν₂ δ₂ ν₆ δ₆) (raw (SetPositionFor 𝓤 H A mem run .pre (to-set-position-for 𝓤 H A mem run W b₀ o₀ y₀ m₀ b₁ o₁ y₁ m₁ b₂ o₂ y₂ m₂ b₃ o₃ y₃ m₃ κ₃ q₃ γ₃ b₄ o₄ y₄ m₄ κ₄ q₄ γ₄ b₅ o₅ y₅ m₅ κ₅ q₅ γ₅ b₆ o₆ y₆ m₆ v₀ v₁ v₂ ν₀ δ₀ ν₁ δ₁ ν₂ δ₂ ν₆ δ₆)) ∷ []) _ (goes-set-position-for 𝓤 H A mem run W b₀ o₀ y₀ m₀ b₁ o₁ y₁ m₁ b₂ o₂ y₂ m₂ b₃ o₃ y₃ m₃ κ₃ q₃ γ₃ b₄ o₄ y₄ m₄ κ₄ q₄ γ₄ b₅ o₅ y₅ m₅ κ₅ q₅ γ₅ b₆ o₆ y₆ m₆ v₀ v₁ v₂ ν₀ δ₀ ν₁ δ₁ ν₂ δ₂ ν₆ δ₆ g₀ g₁ g₂) $
       calls-at t fm (SetPositionFor 𝓤 H A mem run) met (to-set-position-for 𝓤 H A mem run W b₀ o₀ y₀ m₀ b₁ o₁ y₁ m₁ b₂ o₂ y₂ m₂ b₃ o₃ y₃ m₃ κ₃ q₃ γ₃ b₄ o₄ y₄ m₄ κ₄ q₄ γ₄ b₅ o₅ y₅ m₅ κ₅ q₅ γ₅ b₆ o₆ y₆ m₆ v₀ v₁ v₂ ν₀ δ₀ ν₁ δ₁ ν₂ δ₂ ν₆ δ₆) (os _ _ _ _ _ _ _ _) (λ w.
       use1 W (later (some (λ (y : ℕ × (Unit {0} × (List (List ℕ) × (List (List Float) × (List (List ℤ) × (Unit {0} × (Unit {0} × (Unit {0} × (List (List ℕ) × (Unit {0} × (Unit {0} × Unit {0}))))))))))). given (told-set-position-for 𝓤 H A mem run W b₀ o₀ y₀ m₀ b₁ o₁ y₁ m₁ b₂ o₂ y₂ m₂ b₃ o₃ y₃ m₃ κ₃ q₃ γ₃ b₄ o₄ y₄ m₄ κ₄ q₄ γ₄ b₅ o₅ y₅ m₅ κ₅ q₅ γ₅ b₆ o₆ y₆ m₆ v₀ v₁ v₂ ν₀ δ₀ ν₁ δ₁ ν₂ δ₂ ν₆ δ₆ w (y .0) (y .1)) (‵ (flft (ν₀ ∷ []) fullShare) ⊛ ‵ (flft (ν₁ ∷ []) fullShare) ⊛ ‵ (flft (ν₂ ∷ []) fullShare) ⊛ ‵ (flft κ₃ q₃) ⊛ ‵ (flft κ₄ q₄) ⊛ ‵ (flft κ₅ q₅) ⊛ ‵ (flft (ν₆ ∷ []) fullShare) ⊛ ‵ (finally N4 δ₀ (y .1 .1 .0)) ⊛ ‵ (finally F4 δ₁ (y .1 .1 .1 .0)) ⊛ ‵ (finally Z4 δ₂ (y .1 .1 .1 .1 .0)) ⊛ ‵ (finally N2 δ₆ (y .1 .1 .1 .1 .1 .1 .1 .1 .0)))))) (came-set-position-for 𝓤 H A mem run W b₀ o₀ y₀ m₀ b₁ o₁ y₁ m₁ b₂ o₂ y₂ m₂ b₃ o₃ y₃ m₃ κ₃ q₃ γ₃ b₄ o₄ y₄ m₄ κ₄ q₄ γ₄ b₅ o₅ y₅ m₅ κ₅ q₅ γ₅ b₆ o₆ y₆ m₆ v₀ v₁ v₂ ν₀ δ₀ ν₁ δ₁ ν₂ δ₂ ν₆ δ₆ w) $ await t tt $ pick t (λ y. learn t (λ e.
-      split t $ move t (1 ∷ []) $ split t $ move t (1 ∷ []) $ split t $ move t (1 ∷ []) $ split t $ move t (1 ∷ []) $ split t $ move t (1 ∷ []) $ split t $ move t (1 ∷ []) $ split t $ move t (1 ∷ []) $ split t $ move t (1 ∷ []) $ split t $ move t (1 ∷ []) $ split t $ 
+      split t $ move t (1 ∷ []) $ split t $ move t (1 ∷ []) $ split t $ move t (1 ∷ []) $ split t $ move t (1 ∷ []) $ split t $ move t (1 ∷ []) $ split t $ move t (1 ∷ []) $ split t $ move t (1 ∷ []) $ split t $ move t (1 ∷ []) $ split t $ move t (1 ∷ []) $ split t $
       move t (10 ∷ 3 ∷ 17 ∷ []) $ back-mut t tt N4 ℓ₀ (named 0) γ₀ b₀ o₀ y₀ m₀ e₀ ν₀ δ₀ (y .1 .1 .0) room₀ (e .1 .0) $
       move t (10 ∷ 4 ∷ 16 ∷ []) $ back-mut t tt F4 ℓ₁ (named 1) γ₁ b₁ o₁ y₁ m₁ e₁ ν₁ δ₁ (y .1 .1 .1 .0) room₁ (e .1 .1 .0) $
       move t (10 ∷ 4 ∷ 15 ∷ []) $ back-mut t tt Z4 ℓ₂ (named 2) γ₂ b₂ o₂ y₂ m₂ e₂ ν₂ δ₂ (y .1 .1 .1 .1 .0) room₂ (e .1 .1 .1 .0) $
-      move t (14 ∷ 10 ∷ []) $ 
-      move t (14 ∷ 11 ∷ []) $ 
-      move t (14 ∷ 12 ∷ []) $ 
+      move t (14 ∷ 10 ∷ []) $
+      move t (14 ∷ 11 ∷ []) $
+      move t (14 ∷ 12 ∷ []) $
       move t (13 ∷ 12 ∷ 14 ∷ []) $ back-mut t tt N2 ℓ₆ (named 6) γ₆ b₆ o₆ y₆ m₆ e₆ ν₆ δ₆ (y .1 .1 .1 .1 .1 .1 .1 .1 .0) room₆ (e .1 .1 .1 .1 .0) $
       move t (12 ∷ 13 ∷ 10 ∷ 11 ∷ 8 ∷ 9 ∷ 6 ∷ 7 ∷ 4 ∷ 5 ∷ 2 ∷ 3 ∷ 0 ∷ 1 ∷ []) $ subst (λ (u : Val). Seq K W (‵ (MutSlice ℓ₀ κ₀ N4 .own (to N4 b₀ o₀ γ₀ (y .1 .1 .0)) (sliceVal (b₀, o₀) m₀ ∷ [])) ∷ ‵ (flft κ₀ q₀) ∷ ‵ (MutSlice ℓ₁ κ₁ F4 .own (to F4 b₁ o₁ γ₁ (y .1 .1 .1 .0)) (sliceVal (b₁, o₁) m₁ ∷ [])) ∷ ‵ (flft κ₁ q₁) ∷ ‵ (MutSlice ℓ₂ κ₂ Z4 .own (to Z4 b₂ o₂ γ₂ (y .1 .1 .1 .1 .0)) (sliceVal (b₂, o₂) m₂ ∷ [])) ∷ ‵ (flft κ₂ q₂) ∷ ‵ (ShrSlice ℓ₃ κ₃ u64 .own (to u64 b₃ o₃ γ₃ y₃) (sliceVal (b₃, o₃) m₃ ∷ [])) ∷ ‵ (flft κ₃ q₃) ∷ ‵ (ShrSlice ℓ₄ κ₄ N2 .own (to N2 b₄ o₄ γ₄ y₄) (sliceVal (b₄, o₄) m₄ ∷ [])) ∷ ‵ (flft κ₄ q₄) ∷ ‵ (ShrSlice ℓ₅ κ₅ F2 .own (to F2 b₅ o₅ γ₅ y₅) (sliceVal (b₅, o₅) m₅ ∷ [])) ∷ ‵ (flft κ₅ q₅) ∷ ‵ (MutSlice ℓ₆ κ₆ N2 .own (to N2 b₆ o₆ γ₆ (y .1 .1 .1 .1 .1 .1 .1 .1 .0)) (sliceVal (b₆, o₆) m₆ ∷ [])) ∷ ‵ (flft κ₆ q₆) ∷ Γ) (lands C Λ E d u rest p)) (sym (ap only (e .0 .0))) (k (y .0) (y .1) (e .1 .0) (e .1 .1 .0) (e .1 .1 .1 .0) (e .1 .1 .1 .1 .0) (e .1 .1 .1 .1 .1 .0) (e .0 .1)))))))))
 
@@ -322,13 +322,13 @@ module _ {M : Type 1} {𝓤 : URA M} {H : Heap 𝓤} {A : Atoms 𝓤} {K : Type 
       move t (18 ∷ 15 ∷ 12 ∷ 9 ∷ 6 ∷ 3 ∷ 0 ∷ 19 ∷ 16 ∷ 13 ∷ 10 ∷ 7 ∷ 4 ∷ 1 ∷ []) $ cut (lent-remove-for 𝓤 H A mem run W b₀ o₀ y₀ m₀ b₁ o₁ y₁ m₁ b₂ o₂ y₂ m₂ b₃ o₃ y₃ m₃ κ₃ q₃ γ₃ b₄ o₄ y₄ m₄ κ₄ q₄ γ₄ b₅ o₅ y₅ m₅ κ₅ q₅ γ₅ b₆ o₆ y₆ m₆ v₀ v₁ ν₀ δ₀ ν₁ δ₁ ν₂ δ₂ ν₆ δ₆) (raw (RemoveFor 𝓤 H A mem run .pre (to-remove-for 𝓤 H A mem run W b₀ o₀ y₀ m₀ b₁ o₁ y₁ m₁ b₂ o₂ y₂ m₂ b₃ o₃ y₃ m₃ κ₃ q₃ γ₃ b₄ o₄ y₄ m₄ κ₄ q₄ γ₄ b₅ o₅ y₅ m₅ κ₅ q₅ γ₅ b₆ o₆ y₆ m₆ v₀ v₁ ν₀ δ₀ ν₁ δ₁ ν₂ δ₂ ν₆ δ₆)) ∷ []) _ (goes-remove-for 𝓤 H A mem run W b₀ o₀ y₀ m₀ b₁ o₁ y₁ m₁ b₂ o₂ y₂ m₂ b₃ o₃ y₃ m₃ κ₃ q₃ γ₃ b₄ o₄ y₄ m₄ κ₄ q₄ γ₄ b₅ o₅ y₅ m₅ κ₅ q₅ γ₅ b₆ o₆ y₆ m₆ v₀ v₁ ν₀ δ₀ ν₁ δ₁ ν₂ δ₂ ν₆ δ₆ g₀ g₁) $
       calls-at t fm (RemoveFor 𝓤 H A mem run) met (to-remove-for 𝓤 H A mem run W b₀ o₀ y₀ m₀ b₁ o₁ y₁ m₁ b₂ o₂ y₂ m₂ b₃ o₃ y₃ m₃ κ₃ q₃ γ₃ b₄ o₄ y₄ m₄ κ₄ q₄ γ₄ b₅ o₅ y₅ m₅ κ₅ q₅ γ₅ b₆ o₆ y₆ m₆ v₀ v₁ ν₀ δ₀ ν₁ δ₁ ν₂ δ₂ ν₆ δ₆) (os _ _ _ _ _ _ _ _) (λ w.
       use1 W (later (some (λ (y : Reply × (Unit {0} × (List (List ℕ) × (List (List Float) × (List (List ℤ) × (Unit {0} × (Unit {0} × (Unit {0} × (List (List ℕ) × (Unit {0} × Unit {0})))))))))). given (told-remove-for 𝓤 H A mem run W b₀ o₀ y₀ m₀ b₁ o₁ y₁ m₁ b₂ o₂ y₂ m₂ b₃ o₃ y₃ m₃ κ₃ q₃ γ₃ b₄ o₄ y₄ m₄ κ₄ q₄ γ₄ b₅ o₅ y₅ m₅ κ₅ q₅ γ₅ b₆ o₆ y₆ m₆ v₀ v₁ ν₀ δ₀ ν₁ δ₁ ν₂ δ₂ ν₆ δ₆ w (y .0) (y .1)) (‵ (flft (ν₀ ∷ []) fullShare) ⊛ ‵ (flft (ν₁ ∷ []) fullShare) ⊛ ‵ (flft (ν₂ ∷ []) fullShare) ⊛ ‵ (flft κ₃ q₃) ⊛ ‵ (flft κ₄ q₄) ⊛ ‵ (flft κ₅ q₅) ⊛ ‵ (flft (ν₆ ∷ []) fullShare) ⊛ ‵ (finally N4 δ₀ (y .1 .1 .0)) ⊛ ‵ (finally F4 δ₁ (y .1 .1 .1 .0)) ⊛ ‵ (finally Z4 δ₂ (y .1 .1 .1 .1 .0)) ⊛ ‵ (finally N2 δ₆ (y .1 .1 .1 .1 .1 .1 .1 .1 .0)))))) (came-remove-for 𝓤 H A mem run W b₀ o₀ y₀ m₀ b₁ o₁ y₁ m₁ b₂ o₂ y₂ m₂ b₃ o₃ y₃ m₃ κ₃ q₃ γ₃ b₄ o₄ y₄ m₄ κ₄ q₄ γ₄ b₅ o₅ y₅ m₅ κ₅ q₅ γ₅ b₆ o₆ y₆ m₆ v₀ v₁ ν₀ δ₀ ν₁ δ₁ ν₂ δ₂ ν₆ δ₆ w) $ await t tt $ pick t (λ y. learn t (λ e.
-      split t $ move t (1 ∷ []) $ split t $ move t (1 ∷ []) $ split t $ move t (1 ∷ []) $ split t $ move t (1 ∷ []) $ split t $ move t (1 ∷ []) $ split t $ move t (1 ∷ []) $ split t $ move t (1 ∷ []) $ split t $ move t (1 ∷ []) $ split t $ move t (1 ∷ []) $ split t $ 
+      split t $ move t (1 ∷ []) $ split t $ move t (1 ∷ []) $ split t $ move t (1 ∷ []) $ split t $ move t (1 ∷ []) $ split t $ move t (1 ∷ []) $ split t $ move t (1 ∷ []) $ split t $ move t (1 ∷ []) $ split t $ move t (1 ∷ []) $ split t $ move t (1 ∷ []) $ split t $
       move t (10 ∷ 3 ∷ 17 ∷ []) $ back-mut t tt N4 ℓ₀ (named 0) γ₀ b₀ o₀ y₀ m₀ e₀ ν₀ δ₀ (y .1 .1 .0) room₀ (e .1 .0) $
       move t (10 ∷ 4 ∷ 16 ∷ []) $ back-mut t tt F4 ℓ₁ (named 1) γ₁ b₁ o₁ y₁ m₁ e₁ ν₁ δ₁ (y .1 .1 .1 .0) room₁ (e .1 .1 .0) $
       move t (10 ∷ 4 ∷ 15 ∷ []) $ back-mut t tt Z4 ℓ₂ (named 2) γ₂ b₂ o₂ y₂ m₂ e₂ ν₂ δ₂ (y .1 .1 .1 .1 .0) room₂ (e .1 .1 .1 .0) $
-      move t (14 ∷ 10 ∷ []) $ 
-      move t (14 ∷ 11 ∷ []) $ 
-      move t (14 ∷ 12 ∷ []) $ 
+      move t (14 ∷ 10 ∷ []) $
+      move t (14 ∷ 11 ∷ []) $
+      move t (14 ∷ 12 ∷ []) $
       move t (13 ∷ 12 ∷ 14 ∷ []) $ back-mut t tt N2 ℓ₆ (named 6) γ₆ b₆ o₆ y₆ m₆ e₆ ν₆ δ₆ (y .1 .1 .1 .1 .1 .1 .1 .1 .0) room₆ (e .1 .1 .1 .1 .0) $
       move t (12 ∷ 13 ∷ 10 ∷ 11 ∷ 8 ∷ 9 ∷ 6 ∷ 7 ∷ 4 ∷ 5 ∷ 2 ∷ 3 ∷ 0 ∷ 1 ∷ []) $ subst (λ (u : Val). Seq K W (‵ (MutSlice ℓ₀ κ₀ N4 .own (to N4 b₀ o₀ γ₀ (y .1 .1 .0)) (sliceVal (b₀, o₀) m₀ ∷ [])) ∷ ‵ (flft κ₀ q₀) ∷ ‵ (MutSlice ℓ₁ κ₁ F4 .own (to F4 b₁ o₁ γ₁ (y .1 .1 .1 .0)) (sliceVal (b₁, o₁) m₁ ∷ [])) ∷ ‵ (flft κ₁ q₁) ∷ ‵ (MutSlice ℓ₂ κ₂ Z4 .own (to Z4 b₂ o₂ γ₂ (y .1 .1 .1 .1 .0)) (sliceVal (b₂, o₂) m₂ ∷ [])) ∷ ‵ (flft κ₂ q₂) ∷ ‵ (ShrSlice ℓ₃ κ₃ u64 .own (to u64 b₃ o₃ γ₃ y₃) (sliceVal (b₃, o₃) m₃ ∷ [])) ∷ ‵ (flft κ₃ q₃) ∷ ‵ (ShrSlice ℓ₄ κ₄ N2 .own (to N2 b₄ o₄ γ₄ y₄) (sliceVal (b₄, o₄) m₄ ∷ [])) ∷ ‵ (flft κ₄ q₄) ∷ ‵ (ShrSlice ℓ₅ κ₅ F2 .own (to F2 b₅ o₅ γ₅ y₅) (sliceVal (b₅, o₅) m₅ ∷ [])) ∷ ‵ (flft κ₅ q₅) ∷ ‵ (MutSlice ℓ₆ κ₆ N2 .own (to N2 b₆ o₆ γ₆ (y .1 .1 .1 .1 .1 .1 .1 .1 .0)) (sliceVal (b₆, o₆) m₆ ∷ [])) ∷ ‵ (flft κ₆ q₆) ∷ Γ) (lands C Λ E d u rest p)) (sym (ap only (LL.tells YT.the-type YT′.the-laws (y .0) (w ∷ []) (e .0)))) (k (y .0) (y .1) (e .1 .0) (e .1 .1 .0) (e .1 .1 .1 .0) (e .1 .1 .1 .1 .0) (e .1 .1 .1 .1 .1 .0) (subst (Is YR (y .0)) (LL.tells YT.the-type YT′.the-laws (y .0) (w ∷ []) (e .0)) (e .0))))))))))
 
@@ -378,7 +378,7 @@ module _ {M : Type 1} {𝓤 : URA M} {H : Heap 𝓤} {A : Atoms 𝓤} {K : Type 
       move t (18 ∷ 15 ∷ 12 ∷ 9 ∷ 6 ∷ 3 ∷ 0 ∷ 19 ∷ 16 ∷ 13 ∷ 10 ∷ 7 ∷ 4 ∷ 1 ∷ []) $ cut (lent-maintain-for 𝓤 H A mem run W b₀ o₀ y₀ m₀ b₁ o₁ y₁ m₁ b₂ o₂ y₂ m₂ b₃ o₃ y₃ m₃ b₄ o₄ y₄ m₄ b₅ o₅ y₅ m₅ b₆ o₆ y₆ m₆ v₀ ν₀ δ₀ ν₁ δ₁ ν₂ δ₂ ν₃ δ₃ ν₄ δ₄ ν₅ δ₅ ν₆ δ₆) (raw (MaintainFor 𝓤 H A mem run .pre (to-maintain-for 𝓤 H A mem run W b₀ o₀ y₀ m₀ b₁ o₁ y₁ m₁ b₂ o₂ y₂ m₂ b₃ o₃ y₃ m₃ b₄ o₄ y₄ m₄ b₅ o₅ y₅ m₅ b₆ o₆ y₆ m₆ v₀ ν₀ δ₀ ν₁ δ₁ ν₂ δ₂ ν₃ δ₃ ν₄ δ₄ ν₅ δ₅ ν₆ δ₆)) ∷ []) _ (goes-maintain-for 𝓤 H A mem run W b₀ o₀ y₀ m₀ b₁ o₁ y₁ m₁ b₂ o₂ y₂ m₂ b₃ o₃ y₃ m₃ b₄ o₄ y₄ m₄ b₅ o₅ y₅ m₅ b₆ o₆ y₆ m₆ v₀ ν₀ δ₀ ν₁ δ₁ ν₂ δ₂ ν₃ δ₃ ν₄ δ₄ ν₅ δ₅ ν₆ δ₆ g₀) $
       calls-at t fm (MaintainFor 𝓤 H A mem run) met (to-maintain-for 𝓤 H A mem run W b₀ o₀ y₀ m₀ b₁ o₁ y₁ m₁ b₂ o₂ y₂ m₂ b₃ o₃ y₃ m₃ b₄ o₄ y₄ m₄ b₅ o₅ y₅ m₅ b₆ o₆ y₆ m₆ v₀ ν₀ δ₀ ν₁ δ₁ ν₂ δ₂ ν₃ δ₃ ν₄ δ₄ ν₅ δ₅ ν₆ δ₆) (os _ _ _ _ _ _ _ _) (λ w.
       use1 W (later (some (λ (y : Maintained × (Unit {0} × (List (List ℕ) × (List (List Float) × (List (List ℤ) × (List (ℕ) × (List (List ℕ) × (List (List Float) × (List (List ℕ) × Unit {0}))))))))). given (told-maintain-for 𝓤 H A mem run W b₀ o₀ y₀ m₀ b₁ o₁ y₁ m₁ b₂ o₂ y₂ m₂ b₃ o₃ y₃ m₃ b₄ o₄ y₄ m₄ b₅ o₅ y₅ m₅ b₆ o₆ y₆ m₆ v₀ ν₀ δ₀ ν₁ δ₁ ν₂ δ₂ ν₃ δ₃ ν₄ δ₄ ν₅ δ₅ ν₆ δ₆ w (y .0) (y .1)) (‵ (flft (ν₀ ∷ []) fullShare) ⊛ ‵ (flft (ν₁ ∷ []) fullShare) ⊛ ‵ (flft (ν₂ ∷ []) fullShare) ⊛ ‵ (flft (ν₃ ∷ []) fullShare) ⊛ ‵ (flft (ν₄ ∷ []) fullShare) ⊛ ‵ (flft (ν₅ ∷ []) fullShare) ⊛ ‵ (flft (ν₆ ∷ []) fullShare) ⊛ ‵ (finally N4 δ₀ (y .1 .1 .0)) ⊛ ‵ (finally F4 δ₁ (y .1 .1 .1 .0)) ⊛ ‵ (finally Z4 δ₂ (y .1 .1 .1 .1 .0)) ⊛ ‵ (finally u64 δ₃ (y .1 .1 .1 .1 .1 .0)) ⊛ ‵ (finally N2 δ₄ (y .1 .1 .1 .1 .1 .1 .0)) ⊛ ‵ (finally F2 δ₅ (y .1 .1 .1 .1 .1 .1 .1 .0)) ⊛ ‵ (finally N2 δ₆ (y .1 .1 .1 .1 .1 .1 .1 .1 .0)))))) (came-maintain-for 𝓤 H A mem run W b₀ o₀ y₀ m₀ b₁ o₁ y₁ m₁ b₂ o₂ y₂ m₂ b₃ o₃ y₃ m₃ b₄ o₄ y₄ m₄ b₅ o₅ y₅ m₅ b₆ o₆ y₆ m₆ v₀ ν₀ δ₀ ν₁ δ₁ ν₂ δ₂ ν₃ δ₃ ν₄ δ₄ ν₅ δ₅ ν₆ δ₆ w) $ await t tt $ pick t (λ y. learn t (λ e.
-      split t $ move t (1 ∷ []) $ split t $ move t (1 ∷ []) $ split t $ move t (1 ∷ []) $ split t $ move t (1 ∷ []) $ split t $ move t (1 ∷ []) $ split t $ move t (1 ∷ []) $ split t $ move t (1 ∷ []) $ split t $ move t (1 ∷ []) $ split t $ move t (1 ∷ []) $ split t $ move t (1 ∷ []) $ split t $ move t (1 ∷ []) $ split t $ move t (1 ∷ []) $ split t $ 
+      split t $ move t (1 ∷ []) $ split t $ move t (1 ∷ []) $ split t $ move t (1 ∷ []) $ split t $ move t (1 ∷ []) $ split t $ move t (1 ∷ []) $ split t $ move t (1 ∷ []) $ split t $ move t (1 ∷ []) $ split t $ move t (1 ∷ []) $ split t $ move t (1 ∷ []) $ split t $ move t (1 ∷ []) $ split t $ move t (1 ∷ []) $ split t $ move t (1 ∷ []) $ split t $
       move t (13 ∷ 6 ∷ 20 ∷ []) $ back-mut t tt N4 ℓ₀ (named 0) γ₀ b₀ o₀ y₀ m₀ e₀ ν₀ δ₀ (y .1 .1 .0) room₀ (e .1 .0) $
       move t (13 ∷ 7 ∷ 19 ∷ []) $ back-mut t tt F4 ℓ₁ (named 1) γ₁ b₁ o₁ y₁ m₁ e₁ ν₁ δ₁ (y .1 .1 .1 .0) room₁ (e .1 .1 .0) $
       move t (13 ∷ 8 ∷ 18 ∷ []) $ back-mut t tt Z4 ℓ₂ (named 2) γ₂ b₂ o₂ y₂ m₂ e₂ ν₂ δ₂ (y .1 .1 .1 .1 .0) room₂ (e .1 .1 .1 .0) $
@@ -434,7 +434,7 @@ module _ {M : Type 1} {𝓤 : URA M} {H : Heap 𝓤} {A : Atoms 𝓤} {K : Type 
       move t (18 ∷ 15 ∷ 12 ∷ 9 ∷ 6 ∷ 3 ∷ 0 ∷ 19 ∷ 16 ∷ 13 ∷ 10 ∷ 7 ∷ 4 ∷ 1 ∷ []) $ cut (lent-insert-for 𝓤 H A mem run W b₀ o₀ y₀ m₀ b₁ o₁ y₁ m₁ b₂ o₂ y₂ m₂ b₃ o₃ y₃ m₃ b₄ o₄ y₄ m₄ b₅ o₅ y₅ m₅ b₆ o₆ y₆ m₆ v₀ v₁ v₂ ν₀ δ₀ ν₁ δ₁ ν₂ δ₂ ν₃ δ₃ ν₄ δ₄ ν₅ δ₅ ν₆ δ₆) (raw (InsertFor 𝓤 H A mem run .pre (to-insert-for 𝓤 H A mem run W b₀ o₀ y₀ m₀ b₁ o₁ y₁ m₁ b₂ o₂ y₂ m₂ b₃ o₃ y₃ m₃ b₄ o₄ y₄ m₄ b₅ o₅ y₅ m₅ b₆ o₆ y₆ m₆ v₀ v₁ v₂ ν₀ δ₀ ν₁ δ₁ ν₂ δ₂ ν₃ δ₃ ν₄ δ₄ ν₅ δ₅ ν₆ δ₆)) ∷ []) _ (goes-insert-for 𝓤 H A mem run W b₀ o₀ y₀ m₀ b₁ o₁ y₁ m₁ b₂ o₂ y₂ m₂ b₃ o₃ y₃ m₃ b₄ o₄ y₄ m₄ b₅ o₅ y₅ m₅ b₆ o₆ y₆ m₆ v₀ v₁ v₂ ν₀ δ₀ ν₁ δ₁ ν₂ δ₂ ν₃ δ₃ ν₄ δ₄ ν₅ δ₅ ν₆ δ₆ g₀ g₁ g₂) $
       calls-at t fm (InsertFor 𝓤 H A mem run) met (to-insert-for 𝓤 H A mem run W b₀ o₀ y₀ m₀ b₁ o₁ y₁ m₁ b₂ o₂ y₂ m₂ b₃ o₃ y₃ m₃ b₄ o₄ y₄ m₄ b₅ o₅ y₅ m₅ b₆ o₆ y₆ m₆ v₀ v₁ v₂ ν₀ δ₀ ν₁ δ₁ ν₂ δ₂ ν₃ δ₃ ν₄ δ₄ ν₅ δ₅ ν₆ δ₆) (os _ _ _ _ _ _ _ _) (λ w.
       use1 W (later (some (λ (y : Inserted × (Unit {0} × (List (List ℕ) × (List (List Float) × (List (List ℤ) × (List (ℕ) × (List (List ℕ) × (List (List Float) × (List (List ℕ) × (Unit {0} × (Unit {0} × Unit {0}))))))))))). given (told-insert-for 𝓤 H A mem run W b₀ o₀ y₀ m₀ b₁ o₁ y₁ m₁ b₂ o₂ y₂ m₂ b₃ o₃ y₃ m₃ b₄ o₄ y₄ m₄ b₅ o₅ y₅ m₅ b₆ o₆ y₆ m₆ v₀ v₁ v₂ ν₀ δ₀ ν₁ δ₁ ν₂ δ₂ ν₃ δ₃ ν₄ δ₄ ν₅ δ₅ ν₆ δ₆ w (y .0) (y .1)) (‵ (flft (ν₀ ∷ []) fullShare) ⊛ ‵ (flft (ν₁ ∷ []) fullShare) ⊛ ‵ (flft (ν₂ ∷ []) fullShare) ⊛ ‵ (flft (ν₃ ∷ []) fullShare) ⊛ ‵ (flft (ν₄ ∷ []) fullShare) ⊛ ‵ (flft (ν₅ ∷ []) fullShare) ⊛ ‵ (flft (ν₆ ∷ []) fullShare) ⊛ ‵ (finally N4 δ₀ (y .1 .1 .0)) ⊛ ‵ (finally F4 δ₁ (y .1 .1 .1 .0)) ⊛ ‵ (finally Z4 δ₂ (y .1 .1 .1 .1 .0)) ⊛ ‵ (finally u64 δ₃ (y .1 .1 .1 .1 .1 .0)) ⊛ ‵ (finally N2 δ₄ (y .1 .1 .1 .1 .1 .1 .0)) ⊛ ‵ (finally F2 δ₅ (y .1 .1 .1 .1 .1 .1 .1 .0)) ⊛ ‵ (finally N2 δ₆ (y .1 .1 .1 .1 .1 .1 .1 .1 .0)))))) (came-insert-for 𝓤 H A mem run W b₀ o₀ y₀ m₀ b₁ o₁ y₁ m₁ b₂ o₂ y₂ m₂ b₃ o₃ y₃ m₃ b₄ o₄ y₄ m₄ b₅ o₅ y₅ m₅ b₆ o₆ y₆ m₆ v₀ v₁ v₂ ν₀ δ₀ ν₁ δ₁ ν₂ δ₂ ν₃ δ₃ ν₄ δ₄ ν₅ δ₅ ν₆ δ₆ w) $ await t tt $ pick t (λ y. learn t (λ e.
-      split t $ move t (1 ∷ []) $ split t $ move t (1 ∷ []) $ split t $ move t (1 ∷ []) $ split t $ move t (1 ∷ []) $ split t $ move t (1 ∷ []) $ split t $ move t (1 ∷ []) $ split t $ move t (1 ∷ []) $ split t $ move t (1 ∷ []) $ split t $ move t (1 ∷ []) $ split t $ move t (1 ∷ []) $ split t $ move t (1 ∷ []) $ split t $ move t (1 ∷ []) $ split t $ 
+      split t $ move t (1 ∷ []) $ split t $ move t (1 ∷ []) $ split t $ move t (1 ∷ []) $ split t $ move t (1 ∷ []) $ split t $ move t (1 ∷ []) $ split t $ move t (1 ∷ []) $ split t $ move t (1 ∷ []) $ split t $ move t (1 ∷ []) $ split t $ move t (1 ∷ []) $ split t $ move t (1 ∷ []) $ split t $ move t (1 ∷ []) $ split t $ move t (1 ∷ []) $ split t $
       move t (13 ∷ 6 ∷ 20 ∷ []) $ back-mut t tt N4 ℓ₀ (named 0) γ₀ b₀ o₀ y₀ m₀ e₀ ν₀ δ₀ (y .1 .1 .0) room₀ (e .1 .0) $
       move t (13 ∷ 7 ∷ 19 ∷ []) $ back-mut t tt F4 ℓ₁ (named 1) γ₁ b₁ o₁ y₁ m₁ e₁ ν₁ δ₁ (y .1 .1 .1 .0) room₁ (e .1 .1 .0) $
       move t (13 ∷ 8 ∷ 18 ∷ []) $ back-mut t tt Z4 ℓ₂ (named 2) γ₂ b₂ o₂ y₂ m₂ e₂ ν₂ δ₂ (y .1 .1 .1 .1 .0) room₂ (e .1 .1 .1 .0) $
@@ -490,12 +490,12 @@ module _ {M : Type 1} {𝓤 : URA M} {H : Heap 𝓤} {A : Atoms 𝓤} {K : Type 
       move t (18 ∷ 15 ∷ 12 ∷ 9 ∷ 6 ∷ 3 ∷ 0 ∷ 19 ∷ 16 ∷ 13 ∷ 10 ∷ 7 ∷ 4 ∷ 1 ∷ []) $ cut (lent-get-for 𝓤 H A mem run W b₀ o₀ y₀ m₀ b₁ o₁ y₁ m₁ b₂ o₂ y₂ m₂ b₃ o₃ y₃ m₃ κ₃ q₃ γ₃ b₄ o₄ y₄ m₄ κ₄ q₄ γ₄ b₅ o₅ y₅ m₅ κ₅ q₅ γ₅ b₆ o₆ y₆ m₆ κ₆ q₆ γ₆ v₀ v₁ ν₀ δ₀ ν₁ δ₁ ν₂ δ₂) (raw (GetFor 𝓤 H A mem run .pre (to-get-for 𝓤 H A mem run W b₀ o₀ y₀ m₀ b₁ o₁ y₁ m₁ b₂ o₂ y₂ m₂ b₃ o₃ y₃ m₃ κ₃ q₃ γ₃ b₄ o₄ y₄ m₄ κ₄ q₄ γ₄ b₅ o₅ y₅ m₅ κ₅ q₅ γ₅ b₆ o₆ y₆ m₆ κ₆ q₆ γ₆ v₀ v₁ ν₀ δ₀ ν₁ δ₁ ν₂ δ₂)) ∷ []) _ (goes-get-for 𝓤 H A mem run W b₀ o₀ y₀ m₀ b₁ o₁ y₁ m₁ b₂ o₂ y₂ m₂ b₃ o₃ y₃ m₃ κ₃ q₃ γ₃ b₄ o₄ y₄ m₄ κ₄ q₄ γ₄ b₅ o₅ y₅ m₅ κ₅ q₅ γ₅ b₆ o₆ y₆ m₆ κ₆ q₆ γ₆ v₀ v₁ ν₀ δ₀ ν₁ δ₁ ν₂ δ₂ g₀ g₁) $
       calls-at t fm (GetFor 𝓤 H A mem run) met (to-get-for 𝓤 H A mem run W b₀ o₀ y₀ m₀ b₁ o₁ y₁ m₁ b₂ o₂ y₂ m₂ b₃ o₃ y₃ m₃ κ₃ q₃ γ₃ b₄ o₄ y₄ m₄ κ₄ q₄ γ₄ b₅ o₅ y₅ m₅ κ₅ q₅ γ₅ b₆ o₆ y₆ m₆ κ₆ q₆ γ₆ v₀ v₁ ν₀ δ₀ ν₁ δ₁ ν₂ δ₂) (os _ _ _ _ _ _ _ _) (λ w.
       use1 W (later (given (told-get-for 𝓤 H A mem run W b₀ o₀ y₀ m₀ b₁ o₁ y₁ m₁ b₂ o₂ y₂ m₂ b₃ o₃ y₃ m₃ κ₃ q₃ γ₃ b₄ o₄ y₄ m₄ κ₄ q₄ γ₄ b₅ o₅ y₅ m₅ κ₅ q₅ γ₅ b₆ o₆ y₆ m₆ κ₆ q₆ γ₆ v₀ v₁ ν₀ δ₀ ν₁ δ₁ ν₂ δ₂ w) (‵ (flft (ν₀ ∷ []) fullShare) ⊛ ‵ (flft (ν₁ ∷ []) fullShare) ⊛ ‵ (flft (ν₂ ∷ []) fullShare) ⊛ ‵ (flft κ₃ q₃) ⊛ ‵ (flft κ₄ q₄) ⊛ ‵ (flft κ₅ q₅) ⊛ ‵ (flft κ₆ q₆)))) (came-get-for 𝓤 H A mem run W b₀ o₀ y₀ m₀ b₁ o₁ y₁ m₁ b₂ o₂ y₂ m₂ b₃ o₃ y₃ m₃ κ₃ q₃ γ₃ b₄ o₄ y₄ m₄ κ₄ q₄ γ₄ b₅ o₅ y₅ m₅ κ₅ q₅ γ₅ b₆ o₆ y₆ m₆ κ₆ q₆ γ₆ v₀ v₁ ν₀ δ₀ ν₁ δ₁ ν₂ δ₂ w) $ await t tt $ learn t (λ e.
-      split t $ move t (1 ∷ []) $ split t $ move t (1 ∷ []) $ split t $ move t (1 ∷ []) $ split t $ move t (1 ∷ []) $ split t $ move t (1 ∷ []) $ split t $ 
+      split t $ move t (1 ∷ []) $ split t $ move t (1 ∷ []) $ split t $ move t (1 ∷ []) $ split t $ move t (1 ∷ []) $ split t $ move t (1 ∷ []) $ split t $
       move t (6 ∷ 13 ∷ []) $ back-shr t tt N4 ℓ₀ (named 0) γ₀ b₀ o₀ y₀ m₀ e₀ ν₀ room₀ $
       move t (7 ∷ 13 ∷ []) $ back-shr t tt F4 ℓ₁ (named 1) γ₁ b₁ o₁ y₁ m₁ e₁ ν₁ room₁ $
       move t (8 ∷ 13 ∷ []) $ back-shr t tt Z4 ℓ₂ (named 2) γ₂ b₂ o₂ y₂ m₂ e₂ ν₂ room₂ $
-      move t (13 ∷ 9 ∷ []) $ 
-      move t (13 ∷ 10 ∷ []) $ 
-      move t (13 ∷ 10 ∷ []) $ 
-      move t (13 ∷ 12 ∷ []) $ 
+      move t (13 ∷ 9 ∷ []) $
+      move t (13 ∷ 10 ∷ []) $
+      move t (13 ∷ 10 ∷ []) $
+      move t (13 ∷ 12 ∷ []) $
       move t (12 ∷ 13 ∷ 10 ∷ 11 ∷ 8 ∷ 9 ∷ 6 ∷ 7 ∷ 4 ∷ 5 ∷ 2 ∷ 3 ∷ 0 ∷ 1 ∷ []) $ subst (λ (u : Val). Seq K W (‵ (MutSlice ℓ₀ κ₀ N4 .own (to N4 b₀ o₀ γ₀ y₀) (sliceVal (b₀, o₀) m₀ ∷ [])) ∷ ‵ (flft κ₀ q₀) ∷ ‵ (MutSlice ℓ₁ κ₁ F4 .own (to F4 b₁ o₁ γ₁ y₁) (sliceVal (b₁, o₁) m₁ ∷ [])) ∷ ‵ (flft κ₁ q₁) ∷ ‵ (MutSlice ℓ₂ κ₂ Z4 .own (to Z4 b₂ o₂ γ₂ y₂) (sliceVal (b₂, o₂) m₂ ∷ [])) ∷ ‵ (flft κ₂ q₂) ∷ ‵ (ShrSlice ℓ₃ κ₃ u64 .own (to u64 b₃ o₃ γ₃ y₃) (sliceVal (b₃, o₃) m₃ ∷ [])) ∷ ‵ (flft κ₃ q₃) ∷ ‵ (ShrSlice ℓ₄ κ₄ N2 .own (to N2 b₄ o₄ γ₄ y₄) (sliceVal (b₄, o₄) m₄ ∷ [])) ∷ ‵ (flft κ₄ q₄) ∷ ‵ (ShrSlice ℓ₅ κ₅ F2 .own (to F2 b₅ o₅ γ₅ y₅) (sliceVal (b₅, o₅) m₅ ∷ [])) ∷ ‵ (flft κ₅ q₅) ∷ ‵ (ShrSlice ℓ₆ κ₆ N2 .own (to N2 b₆ o₆ γ₆ y₆) (sliceVal (b₆, o₆) m₆ ∷ [])) ∷ ‵ (flft κ₆ q₆) ∷ Γ) (lands C Λ E d u rest p)) (sym (ap only (LL.tells GT.the-type GT′.the-laws (getFor v₀ (tables y₀ y₁ y₂ y₃ y₄ y₅ y₆) v₁) (w ∷ []) (e .0)))) (k (subst (Is GR (getFor v₀ (tables y₀ y₁ y₂ y₃ y₄ y₅ y₆) v₁)) (LL.tells GT.the-type GT′.the-laws (getFor v₀ (tables y₀ y₁ y₂ y₃ y₄ y₅ y₆) v₁) (w ∷ []) (e .0)) (e .0))))))))

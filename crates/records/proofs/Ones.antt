@@ -74,7 +74,7 @@ module _ {M : Type 1} (𝓤 : URA M) (H : Heap 𝓤) (A : Atoms 𝓤) (mem : Mem
   abbrev pub RecordAt : Contract 𝓤
   RecordAt = tripleOf 𝓤 H A record-at.signature (record-at.spec 𝓤 H A mem run)
 
-  module _ (W : Given 𝓤 H A) (b₀ o₀ : ℕ) (y₀ : List (Record)) (m₀ : ℕ) (κ₀ : Lft) (q₀ : Share) (γ₀ : GName) (v₀ : ℕ)  where
+  module _ (W : Given 𝓤 H A) (b₀ o₀ : ℕ) (y₀ : List (Record)) (m₀ : ℕ) (κ₀ : Lft) (q₀ : Share) (γ₀ : GName) (v₀ : ℕ) where
     abbrev to-record-at : RecordAt .Ghost
     to-record-at = (((κ₀, tt), (q₀, tt), tt, (to R b₀ o₀ γ₀ y₀, (v₀, tt)), ((sliceVal (b₀, o₀) m₀ ∷ []), ((vint w64 v₀ ∷ []), tt))), tt)
 
@@ -104,13 +104,12 @@ module _ {M : Type 1} {𝓤 : URA M} {H : Heap 𝓤} {A : Atoms 𝓤} {K : Type 
       → v₀ < 2 ^ 64 → v₀ < length y₀ → ((i₀ i₁ : Item 𝓤) → Opds K W (i₀ ∷ i₁ ∷ Γ) E xs (sliceVal (b₀, o₀) m₀ ∷ vint w64 v₀ ∷ []))
       → (Is R (getD y₀ v₀ noRecord) (vals (getD y₀ v₀ noRecord)) → Seq K W (‵ (ShrSlice ℓ₀ κ₀ R .own (to R b₀ o₀ γ₀ y₀) (sliceVal (b₀, o₀) m₀ ∷ [])) ∷ ‵ (flft κ₀ q₀) ∷ Γ) (lands C Λ E d (val (getD y₀ v₀ noRecord)) rest p))
       → Seq K W (‵ (ShrSlice ℓ₀ κ₀ R .own (to R b₀ o₀ γ₀ y₀) (sliceVal (b₀, o₀) m₀ ∷ [])) ∷ ‵ (flft κ₀ q₀) ∷ Γ) (runs C Λ E (seq (call f xs d) rest) p)
-  calls-record-at t mem run fm met ℓ₀ {κ₀} {q₀} γ₀ b₀ o₀ y₀ m₀ v₀  g₀ l os k =
+  calls-record-at t mem run fm met ℓ₀ {κ₀} {q₀} γ₀ b₀ o₀ y₀ m₀ v₀ g₀ l os k =
       copies t R ℓ₀ κ₀ q₀ (to R b₀ o₀ γ₀ y₀) (sliceVal (b₀, o₀) m₀ ∷ []) $
-      cut (lent-record-at 𝓤 H A mem run W b₀ o₀ y₀ m₀ κ₀ q₀ γ₀ v₀ ) (raw (RecordAt 𝓤 H A mem run .pre (to-record-at 𝓤 H A mem run W b₀ o₀ y₀ m₀ κ₀ q₀ γ₀ v₀ )) ∷ []) _ (goes-record-at 𝓤 H A mem run W b₀ o₀ y₀ m₀ κ₀ q₀ γ₀ v₀  g₀ l) $
-      calls-at t fm (RecordAt 𝓤 H A mem run) met (to-record-at 𝓤 H A mem run W b₀ o₀ y₀ m₀ κ₀ q₀ γ₀ v₀ ) (os _ _) (λ w.
-      use1 W (later (given (told-record-at 𝓤 H A mem run W b₀ o₀ y₀ m₀ κ₀ q₀ γ₀ v₀  w) (‵ (flft κ₀ q₀)))) (came-record-at 𝓤 H A mem run W b₀ o₀ y₀ m₀ κ₀ q₀ γ₀ v₀  w) $ await t tt $ learn t (λ e.
-      
-      move t (1 ∷ 0 ∷ []) $ 
+      cut (lent-record-at 𝓤 H A mem run W b₀ o₀ y₀ m₀ κ₀ q₀ γ₀ v₀) (raw (RecordAt 𝓤 H A mem run .pre (to-record-at 𝓤 H A mem run W b₀ o₀ y₀ m₀ κ₀ q₀ γ₀ v₀)) ∷ []) _ (goes-record-at 𝓤 H A mem run W b₀ o₀ y₀ m₀ κ₀ q₀ γ₀ v₀ g₀ l) $
+      calls-at t fm (RecordAt 𝓤 H A mem run) met (to-record-at 𝓤 H A mem run W b₀ o₀ y₀ m₀ κ₀ q₀ γ₀ v₀) (os _ _) (λ w.
+      use1 W (later (given (told-record-at 𝓤 H A mem run W b₀ o₀ y₀ m₀ κ₀ q₀ γ₀ v₀ w) (‵ (flft κ₀ q₀)))) (came-record-at 𝓤 H A mem run W b₀ o₀ y₀ m₀ κ₀ q₀ γ₀ v₀ w) $ await t tt $ learn t (λ e.
+      move t (1 ∷ 0 ∷ []) $
       subst (λ (u : Val). Seq K W (‵ (ShrSlice ℓ₀ κ₀ R .own (to R b₀ o₀ γ₀ y₀) (sliceVal (b₀, o₀) m₀ ∷ [])) ∷ ‵ (flft κ₀ q₀) ∷ Γ) (lands C Λ E d u rest p)) (sym (ap only (LL.tells RT.the-type RT′.the-laws (getD y₀ v₀ noRecord) (w ∷ []) (e .0)))) (k (subst (Is R (getD y₀ v₀ noRecord)) (LL.tells RT.the-type RT′.the-laws (getD y₀ v₀ noRecord) (w ∷ []) (e .0)) (e .0)))))
 
 -- ---- `record_at`
@@ -153,7 +152,6 @@ module _ {M : Type 1} {𝓤 : URA M} {H : Heap 𝓤} {A : Atoms 𝓤} {K : Type 
       cut (lent-record-at-lent 𝓤 H A mem run W b₀ o₀ y₀ m₀ v₀ ν₀ δ₀) (raw (RecordAt-lent 𝓤 H A mem run .pre (to-record-at-lent 𝓤 H A mem run W b₀ o₀ y₀ m₀ v₀ ν₀ δ₀)) ∷ []) _ (goes-record-at-lent 𝓤 H A mem run W b₀ o₀ y₀ m₀ v₀ ν₀ δ₀ g₀ l) $
       calls-at t fm (RecordAt-lent 𝓤 H A mem run) met (to-record-at-lent 𝓤 H A mem run W b₀ o₀ y₀ m₀ v₀ ν₀ δ₀) (os _ _) (λ w.
       use1 W (later (given (told-record-at-lent 𝓤 H A mem run W b₀ o₀ y₀ m₀ v₀ ν₀ δ₀ w) (‵ (flft (ν₀ ∷ []) fullShare)))) (came-record-at-lent 𝓤 H A mem run W b₀ o₀ y₀ m₀ v₀ ν₀ δ₀ w) $ await t tt $ learn t (λ e.
-      
       back-shr t tt R ℓ₀ (named 0) γ₀ b₀ o₀ y₀ m₀ e₀ ν₀ room₀ $
       subst (λ (u : Val). Seq K W (‵ (MutSlice ℓ₀ κ₀ R .own (to R b₀ o₀ γ₀ y₀) (sliceVal (b₀, o₀) m₀ ∷ [])) ∷ ‵ (flft κ₀ q₀) ∷ Γ) (lands C Λ E d u rest p)) (sym (ap only (LL.tells RT.the-type RT′.the-laws (getD y₀ v₀ noRecord) (w ∷ []) (e .0)))) (k (subst (Is R (getD y₀ v₀ noRecord)) (LL.tells RT.the-type RT′.the-laws (getD y₀ v₀ noRecord) (w ∷ []) (e .0)) (e .0))))))
 
@@ -197,7 +195,7 @@ module _ {M : Type 1} {𝓤 : URA M} {H : Heap 𝓤} {A : Atoms 𝓤} {K : Type 
       cut (lent-put-record 𝓤 H A mem run W b₀ o₀ y₀ m₀ v₀ v₁ ν₀ δ₀) (raw (PutRecord 𝓤 H A mem run .pre (to-put-record 𝓤 H A mem run W b₀ o₀ y₀ m₀ v₀ v₁ ν₀ δ₀)) ∷ []) _ (goes-put-record 𝓤 H A mem run W b₀ o₀ y₀ m₀ v₀ v₁ ν₀ δ₀ g₀ g₁ l) $
       calls-at t fm (PutRecord 𝓤 H A mem run) met (to-put-record 𝓤 H A mem run W b₀ o₀ y₀ m₀ v₀ v₁ ν₀ δ₀) (os _ _) (λ w.
       use1 W (later (given (told-put-record 𝓤 H A mem run W b₀ o₀ y₀ m₀ v₀ v₁ ν₀ δ₀ w) (‵ (flft (ν₀ ∷ []) fullShare) ⊛ ‵ (finally R δ₀ ((set y₀ v₀ v₁)))))) (came-put-record 𝓤 H A mem run W b₀ o₀ y₀ m₀ v₀ v₁ ν₀ δ₀ w) $ await t tt $ learn t (λ e.
-      split t $ 
+      split t $
       back-mut t tt R ℓ₀ (named 0) γ₀ b₀ o₀ y₀ m₀ e₀ ν₀ δ₀ ((set y₀ v₀ v₁)) room₀ (e .1 .0) $
       subst (λ (u : Val). Seq K W (‵ (MutSlice ℓ₀ κ₀ R .own (to R b₀ o₀ γ₀ (set y₀ v₀ v₁)) (sliceVal (b₀, o₀) m₀ ∷ [])) ∷ ‵ (flft κ₀ q₀) ∷ Γ) (lands C Λ E d u rest p)) (sym (e .0)) k)))
 
@@ -241,7 +239,7 @@ module _ {M : Type 1} {𝓤 : URA M} {H : Heap 𝓤} {A : Atoms 𝓤} {K : Type 
       cut (lent-put-nums 𝓤 H A mem run W b₀ o₀ y₀ m₀ v₀ v₁ ν₀ δ₀) (raw (PutNums 𝓤 H A mem run .pre (to-put-nums 𝓤 H A mem run W b₀ o₀ y₀ m₀ v₀ v₁ ν₀ δ₀)) ∷ []) _ (goes-put-nums 𝓤 H A mem run W b₀ o₀ y₀ m₀ v₀ v₁ ν₀ δ₀ g₀ g₁) $
       calls-at t fm (PutNums 𝓤 H A mem run) met (to-put-nums 𝓤 H A mem run W b₀ o₀ y₀ m₀ v₀ v₁ ν₀ δ₀) (os _ _) (λ w.
       use1 W (later (given (told-put-nums 𝓤 H A mem run W b₀ o₀ y₀ m₀ v₀ v₁ ν₀ δ₀ w) (‵ (flft (ν₀ ∷ []) fullShare) ⊛ ‵ (finally N4 δ₀ ((set y₀ v₀ (numsOf v₁))))))) (came-put-nums 𝓤 H A mem run W b₀ o₀ y₀ m₀ v₀ v₁ ν₀ δ₀ w) $ await t tt $ learn t (λ e.
-      split t $ 
+      split t $
       back-mut t tt N4 ℓ₀ (named 0) γ₀ b₀ o₀ y₀ m₀ e₀ ν₀ δ₀ ((set y₀ v₀ (numsOf v₁))) room₀ (e .1 .0) $
       subst (λ (u : Val). Seq K W (‵ (MutSlice ℓ₀ κ₀ N4 .own (to N4 b₀ o₀ γ₀ (set y₀ v₀ (numsOf v₁))) (sliceVal (b₀, o₀) m₀ ∷ [])) ∷ ‵ (flft κ₀ q₀) ∷ Γ) (lands C Λ E d u rest p)) (sym (e .0)) k)))
 
@@ -285,7 +283,7 @@ module _ {M : Type 1} {𝓤 : URA M} {H : Heap 𝓤} {A : Atoms 𝓤} {K : Type 
       cut (lent-put-reals 𝓤 H A mem run W b₀ o₀ y₀ m₀ v₀ v₁ ν₀ δ₀) (raw (PutReals 𝓤 H A mem run .pre (to-put-reals 𝓤 H A mem run W b₀ o₀ y₀ m₀ v₀ v₁ ν₀ δ₀)) ∷ []) _ (goes-put-reals 𝓤 H A mem run W b₀ o₀ y₀ m₀ v₀ v₁ ν₀ δ₀ g₀ g₁) $
       calls-at t fm (PutReals 𝓤 H A mem run) met (to-put-reals 𝓤 H A mem run W b₀ o₀ y₀ m₀ v₀ v₁ ν₀ δ₀) (os _ _) (λ w.
       use1 W (later (given (told-put-reals 𝓤 H A mem run W b₀ o₀ y₀ m₀ v₀ v₁ ν₀ δ₀ w) (‵ (flft (ν₀ ∷ []) fullShare) ⊛ ‵ (finally F4 δ₀ ((set y₀ v₀ (realsOf v₁))))))) (came-put-reals 𝓤 H A mem run W b₀ o₀ y₀ m₀ v₀ v₁ ν₀ δ₀ w) $ await t tt $ learn t (λ e.
-      split t $ 
+      split t $
       back-mut t tt F4 ℓ₀ (named 0) γ₀ b₀ o₀ y₀ m₀ e₀ ν₀ δ₀ ((set y₀ v₀ (realsOf v₁))) room₀ (e .1 .0) $
       subst (λ (u : Val). Seq K W (‵ (MutSlice ℓ₀ κ₀ F4 .own (to F4 b₀ o₀ γ₀ (set y₀ v₀ (realsOf v₁))) (sliceVal (b₀, o₀) m₀ ∷ [])) ∷ ‵ (flft κ₀ q₀) ∷ Γ) (lands C Λ E d u rest p)) (sym (e .0)) k)))
 
@@ -329,7 +327,7 @@ module _ {M : Type 1} {𝓤 : URA M} {H : Heap 𝓤} {A : Atoms 𝓤} {K : Type 
       cut (lent-put-ints 𝓤 H A mem run W b₀ o₀ y₀ m₀ v₀ v₁ ν₀ δ₀) (raw (PutInts 𝓤 H A mem run .pre (to-put-ints 𝓤 H A mem run W b₀ o₀ y₀ m₀ v₀ v₁ ν₀ δ₀)) ∷ []) _ (goes-put-ints 𝓤 H A mem run W b₀ o₀ y₀ m₀ v₀ v₁ ν₀ δ₀ g₀ g₁) $
       calls-at t fm (PutInts 𝓤 H A mem run) met (to-put-ints 𝓤 H A mem run W b₀ o₀ y₀ m₀ v₀ v₁ ν₀ δ₀) (os _ _) (λ w.
       use1 W (later (given (told-put-ints 𝓤 H A mem run W b₀ o₀ y₀ m₀ v₀ v₁ ν₀ δ₀ w) (‵ (flft (ν₀ ∷ []) fullShare) ⊛ ‵ (finally Z4 δ₀ ((set y₀ v₀ (intsOf v₁))))))) (came-put-ints 𝓤 H A mem run W b₀ o₀ y₀ m₀ v₀ v₁ ν₀ δ₀ w) $ await t tt $ learn t (λ e.
-      split t $ 
+      split t $
       back-mut t tt Z4 ℓ₀ (named 0) γ₀ b₀ o₀ y₀ m₀ e₀ ν₀ δ₀ ((set y₀ v₀ (intsOf v₁))) room₀ (e .1 .0) $
       subst (λ (u : Val). Seq K W (‵ (MutSlice ℓ₀ κ₀ Z4 .own (to Z4 b₀ o₀ γ₀ (set y₀ v₀ (intsOf v₁))) (sliceVal (b₀, o₀) m₀ ∷ [])) ∷ ‵ (flft κ₀ q₀) ∷ Γ) (lands C Λ E d u rest p)) (sym (e .0)) k)))
 
@@ -338,7 +336,7 @@ module _ {M : Type 1} (𝓤 : URA M) (H : Heap 𝓤) (A : Atoms 𝓤) (mem : Mem
   abbrev pub RowOr : Contract 𝓤
   RowOr = tripleOf 𝓤 H A row-or.signature (row-or.spec 𝓤 H A mem run)
 
-  module _ (W : Given 𝓤 H A) (b₀ o₀ : ℕ) (y₀ : List (List ℕ)) (m₀ : ℕ) (κ₀ : Lft) (q₀ : Share) (γ₀ : GName) (b₁ o₁ : ℕ) (y₁ : List (List Float)) (m₁ : ℕ) (κ₁ : Lft) (q₁ : Share) (γ₁ : GName) (b₂ o₂ : ℕ) (y₂ : List (List ℤ)) (m₂ : ℕ) (κ₂ : Lft) (q₂ : Share) (γ₂ : GName) (v₀ : ℕ) (v₁ : Record)  where
+  module _ (W : Given 𝓤 H A) (b₀ o₀ : ℕ) (y₀ : List (List ℕ)) (m₀ : ℕ) (κ₀ : Lft) (q₀ : Share) (γ₀ : GName) (b₁ o₁ : ℕ) (y₁ : List (List Float)) (m₁ : ℕ) (κ₁ : Lft) (q₁ : Share) (γ₁ : GName) (b₂ o₂ : ℕ) (y₂ : List (List ℤ)) (m₂ : ℕ) (κ₂ : Lft) (q₂ : Share) (γ₂ : GName) (v₀ : ℕ) (v₁ : Record) where
     abbrev to-row-or : RowOr .Ghost
     to-row-or = (((κ₀, (κ₁, (κ₂, tt))), (q₀, (q₁, (q₂, tt))), tt, (to N4 b₀ o₀ γ₀ y₀, (to F4 b₁ o₁ γ₁ y₁, (to Z4 b₂ o₂ γ₂ y₂, (v₀, (v₁, tt))))), ((sliceVal (b₀, o₀) m₀ ∷ []), ((sliceVal (b₁, o₁) m₁ ∷ []), ((sliceVal (b₂, o₂) m₂ ∷ []), ((vint w64 v₀ ∷ []), ((vals v₁), tt)))))), tt)
 
@@ -368,15 +366,15 @@ module _ {M : Type 1} {𝓤 : URA M} {H : Heap 𝓤} {A : Atoms 𝓤} {K : Type 
       → v₀ < 2 ^ 64 → Is R v₁ (vals v₁) → ((i₀ i₁ i₂ i₃ : Item 𝓤) → Opds K W (i₀ ∷ i₁ ∷ i₂ ∷ i₃ ∷ Γ) E xs (sliceVal (b₀, o₀) m₀ ∷ sliceVal (b₁, o₁) m₁ ∷ sliceVal (b₂, o₂) m₂ ∷ vint w64 v₀ ∷ val v₁ ∷ []))
       → (Is R (rowOr y₀ y₁ y₂ v₀ v₁) (vals (rowOr y₀ y₁ y₂ v₀ v₁)) → Seq K W (‵ (ShrSlice ℓ₀ κ₀ N4 .own (to N4 b₀ o₀ γ₀ y₀) (sliceVal (b₀, o₀) m₀ ∷ [])) ∷ ‵ (flft κ₀ q₀) ∷ ‵ (ShrSlice ℓ₁ κ₁ F4 .own (to F4 b₁ o₁ γ₁ y₁) (sliceVal (b₁, o₁) m₁ ∷ [])) ∷ ‵ (flft κ₁ q₁) ∷ ‵ (ShrSlice ℓ₂ κ₂ Z4 .own (to Z4 b₂ o₂ γ₂ y₂) (sliceVal (b₂, o₂) m₂ ∷ [])) ∷ ‵ (flft κ₂ q₂) ∷ Γ) (lands C Λ E d (val (rowOr y₀ y₁ y₂ v₀ v₁)) rest p))
       → Seq K W (‵ (ShrSlice ℓ₀ κ₀ N4 .own (to N4 b₀ o₀ γ₀ y₀) (sliceVal (b₀, o₀) m₀ ∷ [])) ∷ ‵ (flft κ₀ q₀) ∷ ‵ (ShrSlice ℓ₁ κ₁ F4 .own (to F4 b₁ o₁ γ₁ y₁) (sliceVal (b₁, o₁) m₁ ∷ [])) ∷ ‵ (flft κ₁ q₁) ∷ ‵ (ShrSlice ℓ₂ κ₂ Z4 .own (to Z4 b₂ o₂ γ₂ y₂) (sliceVal (b₂, o₂) m₂ ∷ [])) ∷ ‵ (flft κ₂ q₂) ∷ Γ) (runs C Λ E (seq (call f xs d) rest) p)
-  calls-row-or t mem run fm met ℓ₀ {κ₀} {q₀} γ₀ b₀ o₀ y₀ m₀ ℓ₁ {κ₁} {q₁} γ₁ b₁ o₁ y₁ m₁ ℓ₂ {κ₂} {q₂} γ₂ b₂ o₂ y₂ m₂ v₀ v₁  g₀ g₁ os k =
+  calls-row-or t mem run fm met ℓ₀ {κ₀} {q₀} γ₀ b₀ o₀ y₀ m₀ ℓ₁ {κ₁} {q₁} γ₁ b₁ o₁ y₁ m₁ ℓ₂ {κ₂} {q₂} γ₂ b₂ o₂ y₂ m₂ v₀ v₁ g₀ g₁ os k =
       copies t N4 ℓ₀ κ₀ q₀ (to N4 b₀ o₀ γ₀ y₀) (sliceVal (b₀, o₀) m₀ ∷ []) $
       move t (3 ∷ 4 ∷ []) $ copies t F4 ℓ₁ κ₁ q₁ (to F4 b₁ o₁ γ₁ y₁) (sliceVal (b₁, o₁) m₁ ∷ []) $
       move t (6 ∷ 7 ∷ []) $ copies t Z4 ℓ₂ κ₂ q₂ (to Z4 b₂ o₂ γ₂ y₂) (sliceVal (b₂, o₂) m₂ ∷ []) $
-      move t (6 ∷ 3 ∷ 0 ∷ 7 ∷ 4 ∷ 1 ∷ []) $ cut (lent-row-or 𝓤 H A mem run W b₀ o₀ y₀ m₀ κ₀ q₀ γ₀ b₁ o₁ y₁ m₁ κ₁ q₁ γ₁ b₂ o₂ y₂ m₂ κ₂ q₂ γ₂ v₀ v₁ ) (raw (RowOr 𝓤 H A mem run .pre (to-row-or 𝓤 H A mem run W b₀ o₀ y₀ m₀ κ₀ q₀ γ₀ b₁ o₁ y₁ m₁ κ₁ q₁ γ₁ b₂ o₂ y₂ m₂ κ₂ q₂ γ₂ v₀ v₁ )) ∷ []) _ (goes-row-or 𝓤 H A mem run W b₀ o₀ y₀ m₀ κ₀ q₀ γ₀ b₁ o₁ y₁ m₁ κ₁ q₁ γ₁ b₂ o₂ y₂ m₂ κ₂ q₂ γ₂ v₀ v₁  g₀ g₁) $
-      calls-at t fm (RowOr 𝓤 H A mem run) met (to-row-or 𝓤 H A mem run W b₀ o₀ y₀ m₀ κ₀ q₀ γ₀ b₁ o₁ y₁ m₁ κ₁ q₁ γ₁ b₂ o₂ y₂ m₂ κ₂ q₂ γ₂ v₀ v₁ ) (os _ _ _ _) (λ w.
-      use1 W (later (given (told-row-or 𝓤 H A mem run W b₀ o₀ y₀ m₀ κ₀ q₀ γ₀ b₁ o₁ y₁ m₁ κ₁ q₁ γ₁ b₂ o₂ y₂ m₂ κ₂ q₂ γ₂ v₀ v₁  w) (‵ (flft κ₀ q₀) ⊛ ‵ (flft κ₁ q₁) ⊛ ‵ (flft κ₂ q₂)))) (came-row-or 𝓤 H A mem run W b₀ o₀ y₀ m₀ κ₀ q₀ γ₀ b₁ o₁ y₁ m₁ κ₁ q₁ γ₁ b₂ o₂ y₂ m₂ κ₂ q₂ γ₂ v₀ v₁  w) $ await t tt $ learn t (λ e.
-      split t $ move t (1 ∷ []) $ split t $ 
-      move t (5 ∷ 2 ∷ []) $ 
-      move t (5 ∷ 2 ∷ []) $ 
-      move t (5 ∷ 4 ∷ []) $ 
+      move t (6 ∷ 3 ∷ 0 ∷ 7 ∷ 4 ∷ 1 ∷ []) $ cut (lent-row-or 𝓤 H A mem run W b₀ o₀ y₀ m₀ κ₀ q₀ γ₀ b₁ o₁ y₁ m₁ κ₁ q₁ γ₁ b₂ o₂ y₂ m₂ κ₂ q₂ γ₂ v₀ v₁) (raw (RowOr 𝓤 H A mem run .pre (to-row-or 𝓤 H A mem run W b₀ o₀ y₀ m₀ κ₀ q₀ γ₀ b₁ o₁ y₁ m₁ κ₁ q₁ γ₁ b₂ o₂ y₂ m₂ κ₂ q₂ γ₂ v₀ v₁)) ∷ []) _ (goes-row-or 𝓤 H A mem run W b₀ o₀ y₀ m₀ κ₀ q₀ γ₀ b₁ o₁ y₁ m₁ κ₁ q₁ γ₁ b₂ o₂ y₂ m₂ κ₂ q₂ γ₂ v₀ v₁ g₀ g₁) $
+      calls-at t fm (RowOr 𝓤 H A mem run) met (to-row-or 𝓤 H A mem run W b₀ o₀ y₀ m₀ κ₀ q₀ γ₀ b₁ o₁ y₁ m₁ κ₁ q₁ γ₁ b₂ o₂ y₂ m₂ κ₂ q₂ γ₂ v₀ v₁) (os _ _ _ _) (λ w.
+      use1 W (later (given (told-row-or 𝓤 H A mem run W b₀ o₀ y₀ m₀ κ₀ q₀ γ₀ b₁ o₁ y₁ m₁ κ₁ q₁ γ₁ b₂ o₂ y₂ m₂ κ₂ q₂ γ₂ v₀ v₁ w) (‵ (flft κ₀ q₀) ⊛ ‵ (flft κ₁ q₁) ⊛ ‵ (flft κ₂ q₂)))) (came-row-or 𝓤 H A mem run W b₀ o₀ y₀ m₀ κ₀ q₀ γ₀ b₁ o₁ y₁ m₁ κ₁ q₁ γ₁ b₂ o₂ y₂ m₂ κ₂ q₂ γ₂ v₀ v₁ w) $ await t tt $ learn t (λ e.
+      split t $ move t (1 ∷ []) $ split t $
+      move t (5 ∷ 2 ∷ []) $
+      move t (5 ∷ 2 ∷ []) $
+      move t (5 ∷ 4 ∷ []) $
       move t (4 ∷ 5 ∷ 2 ∷ 3 ∷ 0 ∷ 1 ∷ []) $ subst (λ (u : Val). Seq K W (‵ (ShrSlice ℓ₀ κ₀ N4 .own (to N4 b₀ o₀ γ₀ y₀) (sliceVal (b₀, o₀) m₀ ∷ [])) ∷ ‵ (flft κ₀ q₀) ∷ ‵ (ShrSlice ℓ₁ κ₁ F4 .own (to F4 b₁ o₁ γ₁ y₁) (sliceVal (b₁, o₁) m₁ ∷ [])) ∷ ‵ (flft κ₁ q₁) ∷ ‵ (ShrSlice ℓ₂ κ₂ Z4 .own (to Z4 b₂ o₂ γ₂ y₂) (sliceVal (b₂, o₂) m₂ ∷ [])) ∷ ‵ (flft κ₂ q₂) ∷ Γ) (lands C Λ E d u rest p)) (sym (ap only (LL.tells RT.the-type RT′.the-laws (rowOr y₀ y₁ y₂ v₀ v₁) (w ∷ []) (e .0)))) (k (subst (Is R (rowOr y₀ y₁ y₂ v₀ v₁)) (LL.tells RT.the-type RT′.the-laws (rowOr y₀ y₁ y₂ v₀ v₁) (w ∷ []) (e .0)) (e .0)))))

@@ -33,14 +33,8 @@ other (Brem i) h = refl
 other (Bqry p q) h = absurd (miss keys 12 tt h)
 other Unreadable h = refl
 
-enum-told : tie.Need-enum-told
-enum-told c = search needs
-
-returns : tie.Need-returns
-returns c = search needs
-
 returns-2 : tie.Need-returns-2
 returns-2 c = other (c .before .args .r) (c .match .keys2)
 
 pub searches-boxes-spec : {M : Type 1} → statement M
-searches-boxes-spec = tie.close (tie.spec enum-told returns returns-2)
+searches-boxes-spec = tie.close (tie.spec (λ c. search needs) (λ c. search needs) returns-2)

@@ -33,14 +33,8 @@ other (Brem i) h = refl
 other (Bqry p q) h = refl
 other Unreadable h = refl
 
-enum-known-r : tie.Need-enum-known-r
-enum-known-r c = search needs
-
-returns : tie.Need-returns
-returns c = search needs
-
 returns-2 : tie.Need-returns-2
 returns-2 c = other (c .before .args .r) (c .match .keys2)
 
 pub size-asked-spec : {M : Type 1} → statement M
-size-asked-spec = tie.close (tie.spec enum-known-r returns returns-2)
+size-asked-spec = tie.close (tie.spec (λ c. search needs) (λ c. search needs) returns-2)

@@ -5,24 +5,6 @@ use borrow.Author.Needs.{needs}
 use Rattle.box_answers.proofs.bqry.Statement.{statement}
 use Rattle.box_answers.proofs.bqry.Tie as tie
 
-corners-requires : tie.Need-corners-requires
-corners-requires c κs = search needs
-
-query-requires : tie.Need-query-requires
-query-requires c κs = search needs
-
-boxes-requires : tie.Need-boxes-requires
-boxes-requires c κs = search needs
-
-same-length : tie.Need-same-length
-same-length c = search needs
-
-same-length-2 : tie.Need-same-length-2
-same-length-2 c = search needs
-
-same-length-3 : tie.Need-same-length-3
-same-length-3 c = search needs
-
 returns : tie.Need-returns
 returns c =
     let a = c .before .before .before .before .before .before .before .before .before .before .before .before .args in
@@ -32,10 +14,10 @@ pub bqry-spec : {M : Type 1} → statement M
 bqry-spec =
     tie.close
     (tie.spec
-    corners-requires
-    query-requires
-    boxes-requires
-    same-length
-    same-length-2
-    same-length-3
+    (λ c κs. search needs)
+    (λ c κs. search needs)
+    (λ c κs. search needs)
+    (λ c. search needs)
+    (λ c. search needs)
+    (λ c. search needs)
     returns)

@@ -5,24 +5,6 @@ use borrow.Author.Needs.{needs}
 use Rattle.box_answers.proofs.bset.Statement.{statement}
 use Rattle.box_answers.proofs.bset.Tie as tie
 
-corners-requires : tie.Need-corners-requires
-corners-requires c κs = search needs
-
-set-aabb-requires : tie.Need-set-aabb-requires
-set-aabb-requires c κs = search needs
-
-done-requires : tie.Need-done-requires
-done-requires c κs = search needs
-
-same-length : tie.Need-same-length
-same-length c = search needs
-
-same-length-2 : tie.Need-same-length-2
-same-length-2 c = search needs
-
-same-length-3 : tie.Need-same-length-3
-same-length-3 c = search needs
-
 returns : tie.Need-returns
 returns c =
     let a = c .before .before .before .before .before .before .before .before .before .before .before .args in
@@ -32,10 +14,10 @@ pub bset-spec : {M : Type 1} → statement M
 bset-spec =
     tie.close
     (tie.spec
-    corners-requires
-    set-aabb-requires
-    done-requires
-    same-length
-    same-length-2
-    same-length-3
+    (λ c κs. search needs)
+    (λ c κs. search needs)
+    (λ c κs. search needs)
+    (λ c. search needs)
+    (λ c. search needs)
+    (λ c. search needs)
     returns)

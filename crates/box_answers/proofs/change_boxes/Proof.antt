@@ -39,35 +39,11 @@ other t (Brem i) h = absurd (miss keys 11 tt h)
 other t (Bqry p q) h = refl
 other t Unreadable h = refl
 
-enum-known-r : tie.Need-enum-known-r
-enum-known-r c = search needs
-
 bin-requires : tie.Need-bin-requires
 bin-requires c κs = let m = c .before .before .before .before .before in subst InRange (m .r .given .1) (m .before .before .before .pre)
 
-enum-known-r-2 : tie.Need-enum-known-r-2
-enum-known-r-2 c = search needs
-
 bset-requires : tie.Need-bset-requires
 bset-requires c κs = let m = c .before .before .before .before .before in subst InRange (m .r2 .given .1) (m .before .before .before .pre)
-
-enum-known-r-3 : tie.Need-enum-known-r-3
-enum-known-r-3 c = search needs
-
-brem-requires : tie.Need-brem-requires
-brem-requires c κs = search needs
-
-same-length : tie.Need-same-length
-same-length c = search needs
-
-same-length-2 : tie.Need-same-length-2
-same-length-2 c = search needs
-
-same-length-3 : tie.Need-same-length-3
-same-length-3 c = search needs
-
-same-length-4 : tie.Need-same-length-4
-same-length-4 c = search needs
 
 returns : tie.Need-returns
 returns c =
@@ -75,35 +51,11 @@ returns c =
     let a = m .before .before .before .args in
     c .before .before .before .before .before .bin .ensures ∙ is-bin (lent (a .nums) (a .reals) (a .map) (a .pool)) (m .r .given .1)
 
-same-length-5 : tie.Need-same-length-5
-same-length-5 c = search needs
-
-same-length-6 : tie.Need-same-length-6
-same-length-6 c = search needs
-
-same-length-7 : tie.Need-same-length-7
-same-length-7 c = search needs
-
-same-length-8 : tie.Need-same-length-8
-same-length-8 c = search needs
-
 returns-2 : tie.Need-returns-2
 returns-2 c =
     let m = c .before .before .before .before .before .before .before .before .before .before in
     let a = m .before .before .before .args in
     c .before .before .before .before .bset .ensures ∙ is-bset (lent (a .nums) (a .reals) (a .map) (a .pool)) (m .r2 .given .1)
-
-same-length-9 : tie.Need-same-length-9
-same-length-9 c = search needs
-
-same-length-10 : tie.Need-same-length-10
-same-length-10 c = search needs
-
-same-length-11 : tie.Need-same-length-11
-same-length-11 c = search needs
-
-same-length-12 : tie.Need-same-length-12
-same-length-12 c = search needs
 
 returns-3 : tie.Need-returns-3
 returns-3 c =
@@ -120,25 +72,25 @@ pub change-boxes-spec : {M : Type 1} → statement M
 change-boxes-spec =
     tie.close
     (tie.spec
-    enum-known-r
+    (λ c. search needs)
     bin-requires
-    enum-known-r-2
+    (λ c. search needs)
     bset-requires
-    enum-known-r-3
-    brem-requires
-    same-length
-    same-length-2
-    same-length-3
-    same-length-4
+    (λ c. search needs)
+    (λ c κs. search needs)
+    (λ c. search needs)
+    (λ c. search needs)
+    (λ c. search needs)
+    (λ c. search needs)
     returns
-    same-length-5
-    same-length-6
-    same-length-7
-    same-length-8
+    (λ c. search needs)
+    (λ c. search needs)
+    (λ c. search needs)
+    (λ c. search needs)
     returns-2
-    same-length-9
-    same-length-10
-    same-length-11
-    same-length-12
+    (λ c. search needs)
+    (λ c. search needs)
+    (λ c. search needs)
+    (λ c. search needs)
     returns-3
     returns-4)

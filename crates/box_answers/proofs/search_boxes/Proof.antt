@@ -39,20 +39,8 @@ other t h′ k′ o (Brem i) h = refl
 other t h′ k′ o (Bqry p q) h = absurd (miss keys 12 tt h)
 other t h′ k′ o Unreadable h = refl
 
-enum-known-r : tie.Need-enum-known-r
-enum-known-r c = search needs
-
 bqry-requires : tie.Need-bqry-requires
 bqry-requires c κs = let m = c .before .before .before .before in subst InRange (m .r .given .1) (c .before .before .before .before .before .before .before .before .pre)
-
-same-length : tie.Need-same-length
-same-length c = search needs
-
-same-length-2 : tie.Need-same-length-2
-same-length-2 c = search needs
-
-same-length-3 : tie.Need-same-length-3
-same-length-3 c = search needs
 
 returns : tie.Need-returns
 returns c =
@@ -67,4 +55,4 @@ returns-2 c =
 pub search-boxes-spec : {M : Type 1} → statement M
 search-boxes-spec =
     tie.close
-    (tie.spec enum-known-r bqry-requires same-length same-length-2 same-length-3 returns returns-2)
+    (tie.spec (λ c. search needs) bqry-requires (λ c. search needs) (λ c. search needs) (λ c. search needs) returns returns-2)

@@ -9,9 +9,6 @@ use borrow.Author.Needs.{needs}
 use Rattle.cells.proofs.cell_at.Statement.{statement}
 use Rattle.cells.proofs.cell_at.Tie as tie
 
-cast-s : tie.Need-cast-s
-cast-s c = search needs
-
 cell-id-requires : tie.Need-cell-id-requires
 cell-id-requires c κs = (size-some (c .args .size) (c .pre .0 .0) (c .pre .0 .1), c .pre .1 .0)
 
@@ -25,4 +22,4 @@ returns c =
     cell-ext (toZ-ofZ (record { sfits = c .before .cell-id .ok }) ∙ c .before .cell-id .ensures ∙ ap (λ (z : ℤ). cellOf z (s .args .p .x)) e) (toZ-ofZ (record { sfits = c .cell-id2 .ok }) ∙ c .cell-id2 .ensures ∙ ap (λ (z : ℤ). cellOf z (s .args .p .y)) e)
 
 pub cell-at-spec : {M : Type 1} → statement M
-cell-at-spec = tie.close (tie.spec cast-s cell-id-requires cell-id-requires-2 returns)
+cell-at-spec = tie.close (tie.spec (λ c. search needs) cell-id-requires cell-id-requires-2 returns)

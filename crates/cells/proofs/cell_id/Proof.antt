@@ -10,9 +10,6 @@ use Rattle.cells.proofs.Quotient.{asks, quotient, under-fits, cell-unde
 use Rattle.cells.proofs.cell_id.Statement.{statement}
 use Rattle.cells.proofs.cell_id.Tie as tie
 
-whole-requires : tie.Need-whole-requires
-whole-requires c κs = search needs
-
 div-q : tie.Need-div-q
 div-q c = asks (c .whole .result) (c .before .args .size) (record { sfits = c .whole .ok }) (c .before .fits .size) (c .before .pre .0)
 
@@ -36,4 +33,4 @@ returns-2 : tie.Need-returns-2
 returns-2 c = read (c .before) ∙ cell-over (c .before .whole .result) (c .before .before .args .size) (c .before .before .args .x) (c .before .whole .ensures) (c .if1 .left)
 
 pub cell-id-spec : {M : Type 1} → statement M
-cell-id-spec = tie.close (tie.spec whole-requires div-q sub-result returns returns-2)
+cell-id-spec = tie.close (tie.spec (λ c κs. search needs) div-q sub-result returns returns-2)

@@ -20,15 +20,6 @@ returns c = no-number _ (c .if1 .taken)
 float-to-bits-b : tie.Need-float-to-bits-b
 float-to-bits-b c = number _ (c .if1 .left)
 
-cut-requires : tie.Need-cut-requires
-cut-requires c κs = search needs
-
-cast-result : tie.Need-cast-result
-cast-result c = search needs
-
-sub-result : tie.Need-sub-result
-sub-result c = search needs
-
 -- x, the fact that it fits, and that it is a number
 abbrev x : tie.Else1 → Float
 x c = c .before .args .x
@@ -79,9 +70,9 @@ whole-spec =
     (tie.spec
     returns
     float-to-bits-b
-    cut-requires
-    cast-result
-    sub-result
+    (λ c κs. search needs)
+    (λ c. search needs)
+    (λ c. search needs)
     cast-result-2
     sub-result-2
     returns-2

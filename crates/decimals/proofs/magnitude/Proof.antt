@@ -19,9 +19,6 @@ returns c = raised (c .before .args .k) (c .before .fits .k) (c .if1 .taken)
 cast-result-2 : tie.Need-cast-result-2
 cast-result-2 c = above-cast (c .before .args .k) (c .before .fits .k) (c .if1 .left)
 
-returns-2 : tie.Need-returns-2
-returns-2 c = search needs
-
 pub magnitude-spec : {M : Type 1} → statement M
 magnitude-spec =
-    tie.close (tie.spec sub-result cast-result add-result returns cast-result-2 returns-2)
+    tie.close (tie.spec sub-result cast-result add-result returns cast-result-2 (λ c. search needs))

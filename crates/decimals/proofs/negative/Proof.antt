@@ -15,27 +15,15 @@ v c = c .before .before .n .given .0 .0
 most : (c : tie.Else1) → v c ≤ farthest
 most c = subst Short (c .before .before .n .given .1) (c .before .before .before .before .pre)
 
-enum-known-n : tie.Need-enum-known-n
-enum-known-n c = search needs
-
-returns : tie.Need-returns
-returns c = search needs
-
 cast-t5 : tie.Need-cast-t5
 cast-t5 c = record { sfits = omega (arith, most c) }
 
 sub-t6 : tie.Need-sub-t6
 sub-t6 c = minus-fits (v c) (c .if1 .left) (most c)
 
-enum-told : tie.Need-enum-told
-enum-told c = search needs
-
 returns-2 : tie.Need-returns-2
 returns-2 c = minus-read (v c) (c .if1 .left) (most c) ∙ ap negative (sym (c .before .before .n .given .1))
 
-returns-3 : tie.Need-returns-3
-returns-3 c = search needs
-
 pub negative-spec : {M : Type 1} → statement M
 negative-spec =
-    tie.close (tie.spec enum-known-n returns cast-t5 sub-t6 enum-told returns-2 returns-3)
+    tie.close (tie.spec (λ c. search needs) (λ c. search needs) cast-t5 sub-t6 (λ c. search needs) returns-2 (λ c. search needs))

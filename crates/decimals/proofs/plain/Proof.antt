@@ -10,17 +10,11 @@ use Rattle.decimals.specs.Fields.{Short, farthest, plain}
 use Rattle.decimals.proofs.plain.Statement.{statement}
 use Rattle.decimals.proofs.plain.Tie as tie
 
-enum-known-n : tie.Need-enum-known-n
-enum-known-n c = search needs
-
 cast-t4 : tie.Need-cast-t4
 cast-t4 c =
     let s = c .before .before .before in
     let h : c .before .n .given .0 .0 ≤ farthest = subst Short (c .before .n .given .1) (s .pre) in
     record { sfits = omega arith }
-
-enum-told : tie.Need-enum-told
-enum-told c = search needs
 
 returns : tie.Need-returns
 returns c =
@@ -29,8 +23,5 @@ returns c =
     let h : v ≤ farthest = subst Short (c .before .n .given .1) (s .pre) in
     ap Counted (toZ-pos w32 v (omega arith)) ∙ ap plain (sym (c .before .n .given .1))
 
-returns-2 : tie.Need-returns-2
-returns-2 c = search needs
-
 pub plain-spec : {M : Type 1} → statement M
-plain-spec = tie.close (tie.spec enum-known-n cast-t4 enum-told returns returns-2)
+plain-spec = tie.close (tie.spec (λ c. search needs) cast-t4 (λ c. search needs) returns (λ c. search needs))

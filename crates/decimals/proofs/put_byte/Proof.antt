@@ -4,17 +4,8 @@ use Rattle.decimals.specs.WrittenLaws.{one-byte}
 use Rattle.decimals.proofs.put_byte.Statement.{statement}
 use Rattle.decimals.proofs.put_byte.Tie as tie
 
-slice-write-out : tie.Need-slice-write-out
-slice-write-out c = search needs
-
-add-result : tie.Need-add-result
-add-result c = search needs
-
-same-length : tie.Need-same-length
-same-length c = search needs
-
 returns : tie.Need-returns
 returns c = one-byte (c .args .out .now) (c .args .at) (c .args .c) (c .pre)
 
 pub put-byte-spec : {M : Type 1} → statement M
-put-byte-spec = tie.close (tie.spec slice-write-out add-result same-length returns)
+put-byte-spec = tie.close (tie.spec (λ c. search needs) (λ c. search needs) (λ c. search needs) returns)

@@ -29,20 +29,11 @@ unfolding signedText
 plain-text (pos n) h = refl
 plain-text (negsuc n) h = absurd (apart (sym h))
 
-put-byte-requires : tie.Need-put-byte-requires
-put-byte-requires c κs = search needs
-
-magnitude-requires : tie.Need-magnitude-requires
-magnitude-requires c κs = search needs
-
 put-number-requires : tie.Need-put-number-requires
 put-number-requires c κs =
     let p = c .before .before .before .before in
     let s = p .before .before .before .before in
     omega (arith, next-is (s .args .out .now) (s .args .at) (45 ∷ []) (p .put-byte .ensures), length-is (s .args .out .now) (s .args .at) (45 ∷ []) (p .put-byte .ensures) (omega arith))
-
-same-length : tie.Need-same-length
-same-length c = search needs
 
 returns : tie.Need-returns
 returns c =
@@ -56,15 +47,6 @@ returns c =
     n .put-number .ensures ∙ (λ z. put (p .put-byte .ensures z) (decimal (size z)))
     ∙ put-put w (45 ∷ []) (decimal (natAbs (s .args .k))) (omega arith)
     ∙ ap (put w) (minus-text (s .args .k) (subst (λ (z : ℤ). ltZ z (pos 0) ≡ true) k (p .before .before .if1 .taken)))
-
-magnitude-requires-2 : tie.Need-magnitude-requires-2
-magnitude-requires-2 c κs = search needs
-
-put-number-requires-2 : tie.Need-put-number-requires-2
-put-number-requires-2 c κs = search needs
-
-same-length-2 : tie.Need-same-length-2
-same-length-2 c = search needs
 
 returns-2 : tie.Need-returns-2
 returns-2 c =
@@ -80,12 +62,12 @@ pub put-count-spec : {M : Type 1} → statement M
 put-count-spec =
     tie.close
     (tie.spec
-    put-byte-requires
-    magnitude-requires
+    (λ c κs. search needs)
+    (λ c κs. search needs)
     put-number-requires
-    same-length
+    (λ c. search needs)
     returns
-    magnitude-requires-2
-    put-number-requires-2
-    same-length-2
+    (λ c κs. search needs)
+    (λ c κs. search needs)
+    (λ c. search needs)
     returns-2)

@@ -8,11 +8,5 @@ use Rattle.decimals.proofs.put_number.Tie as tie
 put-digits-requires : tie.Need-put-digits-requires
 put-digits-requires c κs = omega (arith, number-length (c .before .before .args .n) (omega arith))
 
-same-length : tie.Need-same-length
-same-length c = search needs
-
-returns : tie.Need-returns
-returns c = search needs
-
 pub put-number-spec : {M : Type 1} → statement M
-put-number-spec = tie.close (tie.spec put-digits-requires same-length returns)
+put-number-spec = tie.close (tie.spec put-digits-requires (λ c. search needs) (λ c. search needs))

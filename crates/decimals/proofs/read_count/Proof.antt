@@ -13,15 +13,6 @@ returns c =
     let a = c .before .before .args in
     no-byte (a .b .now) (a .from) (a .to) (c .if1 .taken)
 
-shared-slice-read-if2 : tie.Need-shared-slice-read-if2
-shared-slice-read-if2 c = search needs
-
-add-read-up-to : tie.Need-add-read-up-to
-add-read-up-to c = search needs
-
-read-up-to-requires : tie.Need-read-up-to-requires
-read-up-to-requires c κs = search needs
-
 negative-requires : tie.Need-negative-requires
 negative-requires c κs = subst Short (sym (c .read-up-to .ensures)) (short _)
 
@@ -30,9 +21,6 @@ returns-2 c =
     let s = c .before .before .before .before .before .before in
     c .negative .ensures ∙ ap negative (c .before .read-up-to .ensures)
     ∙ minus (s .args .b .now) (s .args .from) (s .args .to) (omega arith) (s .pre .1) (c .before .before .if2 .taken)
-
-read-up-to-requires-2 : tie.Need-read-up-to-requires-2
-read-up-to-requires-2 c κs = search needs
 
 plain-requires : tie.Need-plain-requires
 plain-requires c κs = subst Short (sym (c .read-up-to2 .ensures)) (short _)
@@ -48,11 +36,11 @@ read-count-spec =
     tie.close
     (tie.spec
     returns
-    shared-slice-read-if2
-    add-read-up-to
-    read-up-to-requires
+    (λ c. search needs)
+    (λ c. search needs)
+    (λ c κs. search needs)
     negative-requires
     returns-2
-    read-up-to-requires-2
+    (λ c κs. search needs)
     plain-requires
     returns-3)

@@ -13,19 +13,10 @@ returns c =
     let a = c .before .before .args in
     no-digit (a .b .now) (a .most) (a .from) (a .to) (c .if1 .taken)
 
-add-if2 : tie.Need-add-if2
-add-if2 c = search needs
-
-shared-slice-read-if3 : tie.Need-shared-slice-read-if3
-shared-slice-read-if3 c = search needs
-
 returns-2 : tie.Need-returns-2
 returns-2 c =
     let s = c .before .before .before .before .before in
     leading-zero (s .args .b .now) (s .args .from) (s .args .to) (omega arith) (s .pre .1) (s .args .most) (c .if3 .taken)
-
-read-digits-requires : tie.Need-read-digits-requires
-read-digits-requires c κs = search needs
 
 returns-3 : tie.Need-returns-3
 returns-3 c =
@@ -41,4 +32,4 @@ returns-3 c =
 pub read-up-to-spec : {M : Type 1} → statement M
 read-up-to-spec =
     tie.close
-    (tie.spec returns add-if2 shared-slice-read-if3 returns-2 read-digits-requires returns-3)
+    (tie.spec returns (λ c. search needs) (λ c. search needs) returns-2 (λ c κs. search needs) returns-3)

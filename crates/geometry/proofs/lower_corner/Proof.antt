@@ -4,14 +4,8 @@ use Rattle.geometry.specs.BitsLaws.{same-by-axes}
 use Rattle.geometry.proofs.lower_corner.Statement.{statement}
 use Rattle.geometry.proofs.lower_corner.Tie as tie
 
-lesser-requires : tie.Need-lesser-requires
-lesser-requires c κs = search needs
-
-lesser-requires-2 : tie.Need-lesser-requires-2
-lesser-requires-2 c κs = search needs
-
 returns : tie.Need-returns
 returns c = same-by-axes _ _ (c .before .lesser .ensures) (c .lesser2 .ensures)
 
 pub lower-corner-spec : {M : Type 1} → statement M
-lower-corner-spec = tie.close (tie.spec lesser-requires lesser-requires-2 returns)
+lower-corner-spec = tie.close (tie.spec (λ c κs. search needs) (λ c κs. search needs) returns)

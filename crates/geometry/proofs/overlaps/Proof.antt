@@ -6,9 +6,6 @@ use Rattle.geometry.specs.Intersects.{overlaps}
 use Rattle.geometry.proofs.overlaps.Statement.{statement}
 use Rattle.geometry.proofs.overlaps.Tie as tie
 
-absolute-requires : tie.Need-absolute-requires
-absolute-requires c κs = search needs
-
 returns : tie.Need-returns
 unfolding overlaps
 returns c =
@@ -16,4 +13,4 @@ returns c =
     ap (λ (z : Float). le z (sub binary32 (add binary32 (sub binary32 (s .hi) (s .lo)) (s .bhi)) (s .blo))) (c .absolute .ensures)
 
 pub overlaps-spec : {M : Type 1} → statement M
-overlaps-spec = tie.close (tie.spec absolute-requires returns)
+overlaps-spec = tie.close (tie.spec (λ c κs. search needs) returns)

@@ -7,12 +7,6 @@ use Rattle.geometry.proofs.Tests.{both, both-true}
 use Rattle.geometry.proofs.same_position.Statement.{statement}
 use Rattle.geometry.proofs.same_position.Tie as tie
 
-same-bits-requires : tie.Need-same-bits-requires
-same-bits-requires c κs = search needs
-
-same-bits-requires-2 : tie.Need-same-bits-requires-2
-same-bits-requires-2 c κs = search needs
-
 returns : tie.Need-returns
 returns c =
     let p = c .before .before .args .p in
@@ -29,4 +23,4 @@ returns c =
     }
 
 pub same-position-spec : {M : Type 1} → statement M
-same-position-spec = tie.close (tie.spec same-bits-requires same-bits-requires-2 returns)
+same-position-spec = tie.close (tie.spec (λ c κs. search needs) (λ c κs. search needs) returns)

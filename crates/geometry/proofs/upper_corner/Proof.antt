@@ -4,14 +4,8 @@ use Rattle.geometry.specs.BitsLaws.{same-by-axes}
 use Rattle.geometry.proofs.upper_corner.Statement.{statement}
 use Rattle.geometry.proofs.upper_corner.Tie as tie
 
-greater-requires : tie.Need-greater-requires
-greater-requires c κs = search needs
-
-greater-requires-2 : tie.Need-greater-requires-2
-greater-requires-2 c κs = search needs
-
 returns : tie.Need-returns
 returns c = same-by-axes _ _ (c .before .greater .ensures) (c .greater2 .ensures)
 
 pub upper-corner-spec : {M : Type 1} → statement M
-upper-corner-spec = tie.close (tie.spec greater-requires greater-requires-2 returns)
+upper-corner-spec = tie.close (tie.spec (λ c κs. search needs) (λ c κs. search needs) returns)

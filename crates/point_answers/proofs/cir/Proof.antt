@@ -9,24 +9,6 @@ use borrow.Author.Needs.{needs}
 use Rattle.point_answers.proofs.cir.Statement.{statement}
 use Rattle.point_answers.proofs.cir.Tie as tie
 
-place-requires : tie.Need-place-requires
-place-requires c κs = search needs
-
-from-sixteenths-requires : tie.Need-from-sixteenths-requires
-from-sixteenths-requires c κs = search needs
-
-query-around-requires : tie.Need-query-around-requires
-query-around-requires c κs = search needs
-
-points-requires : tie.Need-points-requires
-points-requires c κs = search needs
-
-same-length : tie.Need-same-length
-same-length c = search needs
-
-same-length-2 : tie.Need-same-length-2
-same-length-2 c = search needs
-
 returns : tie.Need-returns
 returns c =
     let s = c .before .before .before .before .before .before .before .before .before in
@@ -38,10 +20,10 @@ pub cir-spec : {M : Type 1} → statement M
 cir-spec =
     tie.close
     (tie.spec
-    place-requires
-    from-sixteenths-requires
-    query-around-requires
-    points-requires
-    same-length
-    same-length-2
+    (λ c κs. search needs)
+    (λ c κs. search needs)
+    (λ c κs. search needs)
+    (λ c κs. search needs)
+    (λ c. search needs)
+    (λ c. search needs)
     returns)

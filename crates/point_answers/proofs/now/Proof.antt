@@ -5,27 +5,6 @@ use borrow.Author.Needs.{needs}
 use Rattle.point_answers.proofs.now.Statement.{statement}
 use Rattle.point_answers.proofs.now.Tie as tie
 
-remove-maintain-requires : tie.Need-remove-maintain-requires
-remove-maintain-requires c κs = search needs
-
-one-requires : tie.Need-one-requires
-one-requires c κs = search needs
-
-same-length : tie.Need-same-length
-same-length c = search needs
-
-same-length-2 : tie.Need-same-length-2
-same-length-2 c = search needs
-
-same-length-3 : tie.Need-same-length-3
-same-length-3 c = search needs
-
-same-length-4 : tie.Need-same-length-4
-same-length-4 c = search needs
-
-same-length-5 : tie.Need-same-length-5
-same-length-5 c = search needs
-
 returns : tie.Need-returns
 returns c = said-of (λ r. oneOr (r .answer) (r .obj)) (c .one .ensures) (c .before .before .before .before .before .before .before .remove-maintain .ensures)
 
@@ -33,11 +12,11 @@ pub now-spec : {M : Type 1} → statement M
 now-spec =
     tie.close
     (tie.spec
-    remove-maintain-requires
-    one-requires
-    same-length
-    same-length-2
-    same-length-3
-    same-length-4
-    same-length-5
+    (λ c κs. search needs)
+    (λ c κs. search needs)
+    (λ c. search needs)
+    (λ c. search needs)
+    (λ c. search needs)
+    (λ c. search needs)
+    (λ c. search needs)
     returns)

@@ -5,27 +5,6 @@ use borrow.Author.Needs.{needs}
 use Rattle.point_answers.proofs.pos.Statement.{statement}
 use Rattle.point_answers.proofs.pos.Tie as tie
 
-place-requires : tie.Need-place-requires
-place-requires c κs = search needs
-
-set-position-requires : tie.Need-set-position-requires
-set-position-requires c κs = search needs
-
-done-requires : tie.Need-done-requires
-done-requires c κs = search needs
-
-same-length : tie.Need-same-length
-same-length c = search needs
-
-same-length-2 : tie.Need-same-length-2
-same-length-2 c = search needs
-
-same-length-3 : tie.Need-same-length-3
-same-length-3 c = search needs
-
-same-length-4 : tie.Need-same-length-4
-same-length-4 c = search needs
-
 returns : tie.Need-returns
 returns c =
     let a = c .before .before .before .before .before .before .before .before .before .before .before .before .args in
@@ -35,11 +14,11 @@ pub pos-spec : {M : Type 1} → statement M
 pos-spec =
     tie.close
     (tie.spec
-    place-requires
-    set-position-requires
-    done-requires
-    same-length
-    same-length-2
-    same-length-3
-    same-length-4
+    (λ c κs. search needs)
+    (λ c κs. search needs)
+    (λ c κs. search needs)
+    (λ c. search needs)
+    (λ c. search needs)
+    (λ c. search needs)
+    (λ c. search needs)
     returns)

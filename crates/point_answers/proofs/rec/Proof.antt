@@ -5,24 +5,6 @@ use borrow.Author.Needs.{needs}
 use Rattle.point_answers.proofs.rec.Statement.{statement}
 use Rattle.point_answers.proofs.rec.Tie as tie
 
-place-requires : tie.Need-place-requires
-place-requires c κs = search needs
-
-place-requires-2 : tie.Need-place-requires-2
-place-requires-2 c κs = search needs
-
-query-aabb-requires : tie.Need-query-aabb-requires
-query-aabb-requires c κs = search needs
-
-points-requires : tie.Need-points-requires
-points-requires c κs = search needs
-
-same-length : tie.Need-same-length
-same-length c = search needs
-
-same-length-2 : tie.Need-same-length-2
-same-length-2 c = search needs
-
 returns : tie.Need-returns
 returns c =
     let a = c .before .before .before .before .before .before .before .before .before .args in
@@ -32,10 +14,10 @@ pub rec-spec : {M : Type 1} → statement M
 rec-spec =
     tie.close
     (tie.spec
-    place-requires
-    place-requires-2
-    query-aabb-requires
-    points-requires
-    same-length
-    same-length-2
+    (λ c κs. search needs)
+    (λ c κs. search needs)
+    (λ c κs. search needs)
+    (λ c κs. search needs)
+    (λ c. search needs)
+    (λ c. search needs)
     returns)

@@ -5,24 +5,6 @@ use borrow.Author.Needs.{needs}
 use Rattle.point_answers.proofs.rem.Statement.{statement}
 use Rattle.point_answers.proofs.rem.Tie as tie
 
-remove-requires : tie.Need-remove-requires
-remove-requires c κs = search needs
-
-one-requires : tie.Need-one-requires
-one-requires c κs = search needs
-
-same-length : tie.Need-same-length
-same-length c = search needs
-
-same-length-2 : tie.Need-same-length-2
-same-length-2 c = search needs
-
-same-length-3 : tie.Need-same-length-3
-same-length-3 c = search needs
-
-same-length-4 : tie.Need-same-length-4
-same-length-4 c = search needs
-
 returns : tie.Need-returns
 returns c = said-of (λ r. oneOr (r .answer) (r .obj)) (c .one .ensures) (c .before .before .before .before .before .remove .ensures)
 
@@ -30,10 +12,10 @@ pub rem-spec : {M : Type 1} → statement M
 rem-spec =
     tie.close
     (tie.spec
-    remove-requires
-    one-requires
-    same-length
-    same-length-2
-    same-length-3
-    same-length-4
+    (λ c κs. search needs)
+    (λ c κs. search needs)
+    (λ c. search needs)
+    (λ c. search needs)
+    (λ c. search needs)
+    (λ c. search needs)
     returns)

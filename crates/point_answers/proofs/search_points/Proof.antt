@@ -43,32 +43,17 @@ other t h′ p′ (Brem i) h = refl
 other t h′ p′ (Bqry p q) h = refl
 other t h′ p′ Unreadable h = refl
 
-enum-known-r : tie.Need-enum-known-r
-enum-known-r c = search needs
-
 cir-requires : tie.Need-cir-requires
 cir-requires c κs =
     let m = c .before .before .before in
     let h = subst InRange (m .r .given .1) (m .before .before .before .pre) in
     (h .0, subst (λ (k : ℤ). CountInRange k) (sym (toZ-ofZ w32 (m .r .given .0 .1 .0) (in-range-fits _ (h .1)))) (h .1))
 
-enum-known-r-2 : tie.Need-enum-known-r-2
-enum-known-r-2 c = search needs
-
 rec-requires : tie.Need-rec-requires
 rec-requires c κs = let m = c .before .before .before in subst InRange (m .r2 .given .1) (m .before .before .before .pre)
 
-enum-known-r-3 : tie.Need-enum-known-r-3
-enum-known-r-3 c = search needs
-
 cel-requires : tie.Need-cel-requires
 cel-requires c κs = let m = c .before .before .before in subst InRange (m .r3 .given .1) (m .before .before .before .pre)
-
-same-length : tie.Need-same-length
-same-length c = search needs
-
-same-length-2 : tie.Need-same-length-2
-same-length-2 c = search needs
 
 returns : tie.Need-returns
 returns c =
@@ -80,23 +65,11 @@ returns c =
     ∙ ap (λ (k : ℤ). aroundIn (lent (a .nums) (a .reals) (a .ints) (a .map) (a .pool) (a .spots) (a .cells)) (m .r .given .0 .0) k (a .handles .now) (a .places .now)) (toZ-ofZ w32 (m .r .given .0 .1 .0) (in-range-fits _ (h .1)))
     ∙ is-cir (lent (a .nums) (a .reals) (a .ints) (a .map) (a .pool) (a .spots) (a .cells)) (a .handles .now) (a .places .now) (m .r .given .1)
 
-same-length-3 : tie.Need-same-length-3
-same-length-3 c = search needs
-
-same-length-4 : tie.Need-same-length-4
-same-length-4 c = search needs
-
 returns-2 : tie.Need-returns-2
 returns-2 c =
     let m = c .before .before .before .before .before .before in
     let a = m .before .before .before .args in
     c .before .before .rec .ensures ∙ is-rec (lent (a .nums) (a .reals) (a .ints) (a .map) (a .pool) (a .spots) (a .cells)) (a .handles .now) (a .places .now) (m .r2 .given .1)
-
-same-length-5 : tie.Need-same-length-5
-same-length-5 c = search needs
-
-same-length-6 : tie.Need-same-length-6
-same-length-6 c = search needs
 
 returns-3 : tie.Need-returns-3
 returns-3 c =
@@ -113,19 +86,19 @@ pub search-points-spec : {M : Type 1} → statement M
 search-points-spec =
     tie.close
     (tie.spec
-    enum-known-r
+    (λ c. search needs)
     cir-requires
-    enum-known-r-2
+    (λ c. search needs)
     rec-requires
-    enum-known-r-3
+    (λ c. search needs)
     cel-requires
-    same-length
-    same-length-2
+    (λ c. search needs)
+    (λ c. search needs)
     returns
-    same-length-3
-    same-length-4
+    (λ c. search needs)
+    (λ c. search needs)
     returns-2
-    same-length-5
-    same-length-6
+    (λ c. search needs)
+    (λ c. search needs)
     returns-3
     returns-4)

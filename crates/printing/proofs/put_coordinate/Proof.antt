@@ -17,20 +17,11 @@ use borrow.Author.Needs.{needs}
 use Rattle.printing.proofs.put_coordinate.Statement.{statement}
 use Rattle.printing.proofs.put_coordinate.Tie as tie
 
-sixteenths-requires : tie.Need-sixteenths-requires
-sixteenths-requires c κs = search needs
-
-put-byte-requires : tie.Need-put-byte-requires
-put-byte-requires c κs = search needs
-
 put-count-requires : tie.Need-put-count-requires
 put-count-requires c κs =
     let p = c .before .before .before in
     let s = p .before .before .before .before in
     omega (arith, next-is (s .args .out .now) (s .args .at) (44 ∷ []) (p .put-byte .ensures))
-
-same-length : tie.Need-same-length
-same-length c = search needs
 
 returns : tie.Need-returns
 returns c =
@@ -45,4 +36,4 @@ returns c =
 pub put-coordinate-spec : {M : Type 1} → statement M
 put-coordinate-spec =
     tie.close
-    (tie.spec sixteenths-requires put-byte-requires put-count-requires same-length returns)
+    (tie.spec (λ c κs. search needs) (λ c κs. search needs) put-count-requires (λ c. search needs) returns)

@@ -5,15 +5,6 @@ use borrow.Author.Needs.{needs}
 use Rattle.printing.proofs.put_corner.Statement.{statement}
 use Rattle.printing.proofs.put_corner.Tie as tie
 
-put-coordinate-requires : tie.Need-put-coordinate-requires
-put-coordinate-requires c κs = search needs
-
-put-coordinate-requires-2 : tie.Need-put-coordinate-requires-2
-put-coordinate-requires-2 c κs = search needs
-
-same-length : tie.Need-same-length
-same-length c = search needs
-
 returns : tie.Need-returns
 returns c =
     let p = c .before .before .before .before .before .before in
@@ -21,4 +12,4 @@ returns c =
 
 pub put-corner-spec : {M : Type 1} → statement M
 put-corner-spec =
-    tie.close (tie.spec put-coordinate-requires put-coordinate-requires-2 same-length returns)
+    tie.close (tie.spec (λ c κs. search needs) (λ c κs. search needs) (λ c. search needs) returns)

@@ -6,14 +6,8 @@ use borrow.Author.Needs.{needs}
 use Rattle.printing.proofs.put_first.Statement.{statement}
 use Rattle.printing.proofs.put_first.Tie as tie
 
-put-number-requires : tie.Need-put-number-requires
-put-number-requires c κs = search needs
-
-same-length : tie.Need-same-length
-same-length c = search needs
-
 returns : tie.Need-returns
 returns c = puts-is 10 (c .before .before .put-number .ensures) (number-length (c .before .before .before .before .before .args .n) (omega arith))
 
 pub put-first-spec : {M : Type 1} → statement M
-put-first-spec = tie.close (tie.spec put-number-requires same-length returns)
+put-first-spec = tie.close (tie.spec (λ c κs. search needs) (λ c. search needs) returns)

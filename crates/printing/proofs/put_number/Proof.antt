@@ -8,17 +8,11 @@ use borrow.Author.Needs.{needs}
 use Rattle.printing.proofs.put_number.Statement.{statement}
 use Rattle.printing.proofs.put_number.Tie as tie
 
-put-byte-requires : tie.Need-put-byte-requires
-put-byte-requires c κs = search needs
-
 put-number-requires : tie.Need-put-number-requires
 put-number-requires c κs =
     let p = c .before .before .before in
     let s = p .before .before .before in
     omega (arith, next-is (s .args .out .now) (s .args .at) (44 ∷ []) (p .put-byte .ensures))
-
-same-length : tie.Need-same-length
-same-length c = search needs
 
 returns : tie.Need-returns
 returns c =
@@ -27,4 +21,4 @@ returns c =
     puts-then (puts-is 1 (p .put-byte .ensures) (omega arith)) (omega arith) (puts-is 10 (c .before .before .put-number .ensures) (number-length (s .args .n) (omega arith)))
 
 pub put-number-spec : {M : Type 1} → statement M
-put-number-spec = tie.close (tie.spec put-byte-requires put-number-requires same-length returns)
+put-number-spec = tie.close (tie.spec (λ c κs. search needs) put-number-requires (λ c. search needs) returns)

@@ -5,19 +5,10 @@ use borrow.Author.Needs.{needs}
 use Rattle.printing.proofs.put_one.Statement.{statement}
 use Rattle.printing.proofs.put_one.Tie as tie
 
-put-first-requires : tie.Need-put-first-requires
-put-first-requires c κs = search needs
-
-put-number-requires : tie.Need-put-number-requires
-put-number-requires c κs = search needs
-
-same-length : tie.Need-same-length
-same-length c = search needs
-
 returns : tie.Need-returns
 returns c =
     let p = c .before .before .before .before .before .before in
     puts-then (p .put-first .ensures) (omega arith) (c .before .before .put-number .ensures)
 
 pub put-one-spec : {M : Type 1} → statement M
-put-one-spec = tie.close (tie.spec put-first-requires put-number-requires same-length returns)
+put-one-spec = tie.close (tie.spec (λ c κs. search needs) (λ c κs. search needs) (λ c. search needs) returns)

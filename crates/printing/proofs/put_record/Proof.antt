@@ -7,20 +7,11 @@ use borrow.Author.Needs.{needs}
 use Rattle.printing.proofs.put_record.Statement.{statement}
 use Rattle.printing.proofs.put_record.Tie as tie
 
-put-said-requires : tie.Need-put-said-requires
-put-said-requires c κs = search needs
-
-put-byte-requires : tie.Need-put-byte-requires
-put-byte-requires c κs = search needs
-
 put-byte-requires-2 : tie.Need-put-byte-requires-2
 put-byte-requires-2 c κs =
     let p = c .before .before .before in
     let q = puts-is 1 (p .put-byte .ensures) (omega arith) in
     omega (arith, q .short, (c .before .before .before .before .before .before .before .put-said .ensures) .short)
-
-same-length : tie.Need-same-length
-same-length c = search needs
 
 returns : tie.Need-returns
 unfolding recordText
@@ -32,4 +23,4 @@ returns c =
 pub put-record-spec : {M : Type 1} → statement M
 put-record-spec =
     tie.close
-    (tie.spec put-said-requires put-byte-requires put-byte-requires-2 same-length returns)
+    (tie.spec (λ c κs. search needs) (λ c κs. search needs) put-byte-requires-2 (λ c. search needs) returns)

@@ -7,42 +7,6 @@ use borrow.Author.Needs.{needs}
 use Rattle.printing.proofs.put_said.Statement.{statement}
 use Rattle.printing.proofs.put_said.Tie as tie
 
-enum-known-said : tie.Need-enum-known-said
-enum-known-said c = search needs
-
-put-first-requires : tie.Need-put-first-requires
-put-first-requires c κs = search needs
-
-enum-told : tie.Need-enum-told
-enum-told c = search needs
-
-put-first-requires-2 : tie.Need-put-first-requires-2
-put-first-requires-2 c κs = search needs
-
-enum-known-said-2 : tie.Need-enum-known-said-2
-enum-known-said-2 c = search needs
-
-put-one-requires : tie.Need-put-one-requires
-put-one-requires c κs = search needs
-
-enum-known-said-3 : tie.Need-enum-known-said-3
-enum-known-said-3 c = search needs
-
-put-one-requires-2 : tie.Need-put-one-requires-2
-put-one-requires-2 c κs = search needs
-
-put-number-requires : tie.Need-put-number-requires
-put-number-requires c κs = search needs
-
-enum-known-said-4 : tie.Need-enum-known-said-4
-enum-known-said-4 c = search needs
-
-put-one-requires-3 : tie.Need-put-one-requires-3
-put-one-requires-3 c κs = search needs
-
-wide-requires : tie.Need-wide-requires
-wide-requires c κs = search needs
-
 put-points-requires : tie.Need-put-points-requires
 put-points-requires c κs =
     let m = c .before .before .before .before .before .before .before in
@@ -50,15 +14,6 @@ put-points-requires c κs =
     let t = points-told (length (s .args .handles .now)) (length (s .args .places .now)) (length (s .args .boxes .now)) (m .said4 .given .1) (s .pre .0) in
     let w = c .wide .ensures in
     (omega (arith, w, t .1), omega (arith, w, t .2), omega (arith, w, t .0, c .before .before .before .before .put-one3 .ensures .short))
-
-enum-known-said-5 : tie.Need-enum-known-said-5
-enum-known-said-5 c = search needs
-
-put-one-requires-4 : tie.Need-put-one-requires-4
-put-one-requires-4 c κs = search needs
-
-wide-requires-2 : tie.Need-wide-requires-2
-wide-requires-2 c κs = search needs
 
 put-boxes-requires : tie.Need-put-boxes-requires
 put-boxes-requires c κs =
@@ -68,17 +23,11 @@ put-boxes-requires c κs =
     let w = c .wide2 .ensures in
     (omega (arith, w, t .1), omega (arith, w, t .2), omega (arith, w, t .0, c .before .before .before .before .put-one4 .ensures .short))
 
-same-length : tie.Need-same-length
-same-length c = search needs
-
 returns : tie.Need-returns
 returns c =
     let m = c .before .before .before .before .before in
     let s = m .before .before .before in
     puts-as (c .before .before .put-first .ensures) (refused-text (s .args .handles .now) (s .args .places .now) (s .args .boxes .now) _ (m .said .given .1)) (omega arith)
-
-same-length-2 : tie.Need-same-length-2
-same-length-2 c = search needs
 
 returns-2 : tie.Need-returns-2
 returns-2 c =
@@ -86,17 +35,11 @@ returns-2 c =
     let s = m .before .before .before in
     puts-as (c .before .before .put-first2 .ensures) (done-text (s .args .handles .now) (s .args .places .now) (s .args .boxes .now) (m .enum-told .given .1)) (omega arith)
 
-same-length-3 : tie.Need-same-length-3
-same-length-3 c = search needs
-
 returns-3 : tie.Need-returns-3
 returns-3 c =
     let m = c .before .before .before .before .before in
     let s = m .before .before .before in
     puts-as (c .before .before .put-one .ensures) (one-text (s .args .handles .now) (s .args .places .now) (s .args .boxes .now) _ (m .said2 .given .1)) (omega arith)
-
-same-length-4 : tie.Need-same-length-4
-same-length-4 c = search needs
 
 returns-4 : tie.Need-returns-4
 returns-4 c =
@@ -104,9 +47,6 @@ returns-4 c =
     let s = m .before .before .before in
     let q = puts-then (c .before .before .before .before .before .before .put-one2 .ensures) (omega arith) (c .before .before .put-number .ensures) in
     puts-as q (two-text (s .args .handles .now) (s .args .places .now) (s .args .boxes .now) _ _ (m .said3 .given .1)) (omega arith)
-
-same-length-5 : tie.Need-same-length-5
-same-length-5 c = search needs
 
 returns-5 : tie.Need-returns-5
 returns-5 c =
@@ -116,9 +56,6 @@ returns-5 c =
     let w = c .before .before .before .wide .ensures in
     let q = puts-then (c .before .before .before .before .before .before .before .put-one3 .ensures) (omega arith) (c .before .before .put-points .ensures) in
     puts-as q (points-text (s .args .handles .now) (s .args .places .now) (s .args .boxes .now) _ _ w (m .said4 .given .1)) (omega (arith, w, t .0))
-
-same-length-6 : tie.Need-same-length-6
-same-length-6 c = search needs
 
 returns-6 : tie.Need-returns-6
 returns-6 c =
@@ -133,32 +70,32 @@ pub put-said-spec : {M : Type 1} → statement M
 put-said-spec =
     tie.close
     (tie.spec
-    enum-known-said
-    put-first-requires
-    enum-told
-    put-first-requires-2
-    enum-known-said-2
-    put-one-requires
-    enum-known-said-3
-    put-one-requires-2
-    put-number-requires
-    enum-known-said-4
-    put-one-requires-3
-    wide-requires
+    (λ c. search needs)
+    (λ c κs. search needs)
+    (λ c. search needs)
+    (λ c κs. search needs)
+    (λ c. search needs)
+    (λ c κs. search needs)
+    (λ c. search needs)
+    (λ c κs. search needs)
+    (λ c κs. search needs)
+    (λ c. search needs)
+    (λ c κs. search needs)
+    (λ c κs. search needs)
     put-points-requires
-    enum-known-said-5
-    put-one-requires-4
-    wide-requires-2
+    (λ c. search needs)
+    (λ c κs. search needs)
+    (λ c κs. search needs)
     put-boxes-requires
-    same-length
+    (λ c. search needs)
     returns
-    same-length-2
+    (λ c. search needs)
     returns-2
-    same-length-3
+    (λ c. search needs)
     returns-3
-    same-length-4
+    (λ c. search needs)
     returns-4
-    same-length-5
+    (λ c. search needs)
     returns-5
-    same-length-6
+    (λ c. search needs)
     returns-6)

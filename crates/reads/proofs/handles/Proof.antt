@@ -55,9 +55,6 @@ put-handles-requires c κs =
     let s = c .before .before .before .before .before .before .before in
     (holds-says (lent s) .yes (held (c .before .before .before)) .sized .most, omega (arith, enough (c .before), len-live (lent s)))
 
-same-length : tie.Need-same-length
-same-length c = search needs
-
 returns-3 : tie.Need-returns-3
 unfolding liveHandles
 returns-3 c =
@@ -68,4 +65,4 @@ returns-3 c =
 
 pub handles-spec : {M : Type 1} → statement M
 handles-spec =
-    tie.close (tie.spec (λ c κs. search needs) returns (λ c κs. search needs) returns-2 put-handles-requires same-length returns-3)
+    tie.close (tie.spec (λ c κs. search needs) returns (λ c κs. search needs) returns-2 put-handles-requires (λ c. search needs) returns-3)

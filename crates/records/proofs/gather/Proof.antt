@@ -90,7 +90,7 @@ use Rattle.records.proofs.gather.Code.Mir as mir
 abbrev stayed : Stays (gather.ended .signature .params) (gather.ended .kept)
 stayed = (stay-slice (0 ∷ []) tt (plain (λ _. R)), (stay-none-slice (1 ∷ []) tt (ArrayOf (plain (λ _. u32)) (λ _. tt) 4) yes, (stay-none-slice (2 ∷ []) tt (ArrayOf (plain (λ _. f32)) (λ _. tt) 4) yes, (stay-none-slice (3 ∷ []) tt (ArrayOf (plain (λ _. i32)) (λ _. tt) 4) yes, tt))))
 
-module _ {M : Type 1} (𝓤 : URA M) (H : Heap 𝓤) (A : Atoms 𝓤) (W : Given 𝓤 H A) (mem : Memory → SProp 𝓤) (run : Routine → Fun 𝓤) (κ₀ κ₁ κ₂ κ₃ : Lft) (q₀ q₁ q₂ q₃ : Share) (b₀ o₀ : ℕ) (γ₀ : GName) (y₀ : List (Record)) (room₀ : Room R (length y₀)) (b₁ o₁ : ℕ) (γ₁ : GName) (y₁ : List (List ℕ)) (room₁ : Room N4 (length y₁)) (b₂ o₂ : ℕ) (γ₂ : GName) (y₂ : List (List Float)) (room₂ : Room F4 (length y₂)) (b₃ o₃ : ℕ) (γ₃ : GName) (y₃ : List (List ℤ)) (room₃ : Room Z4 (length y₃))  where
+module _ {M : Type 1} (𝓤 : URA M) (H : Heap 𝓤) (A : Atoms 𝓤) (W : Given 𝓤 H A) (mem : Memory → SProp 𝓤) (run : Routine → Fun 𝓤) (κ₀ κ₁ κ₂ κ₃ : Lft) (q₀ q₁ q₂ q₃ : Share) (b₀ o₀ : ℕ) (γ₀ : GName) (y₀ : List (Record)) (room₀ : Room R (length y₀)) (b₁ o₁ : ℕ) (γ₁ : GName) (y₁ : List (List ℕ)) (room₁ : Room N4 (length y₁)) (b₂ o₂ : ℕ) (γ₂ : GName) (y₂ : List (List Float)) (room₂ : Room F4 (length y₂)) (b₃ o₃ : ℕ) (γ₃ : GName) (y₃ : List (List ℤ)) (room₃ : Room Z4 (length y₃)) where
   abbrev s₀ : Val
   s₀ = sliceVal (b₀, o₀) (length y₀)
 
@@ -115,12 +115,12 @@ module _ {M : Type 1} (𝓤 : URA M) (H : Heap 𝓤) (A : Atoms 𝓤) (W : Given
   abbrev Post : Val → SProp 𝓤
   Post = walkOf 𝓤 H A gather.ended stayed (gather.clauses 𝓤 H A mem run) .post bound
 
-  abbrev left :  List (Item 𝓤)
-  left  = ‵ (MutSlice (named 0) κ₀ R .own (to R b₀ o₀ γ₀ (gathered y₁ y₂ y₃ y₀)) (s₀ ∷ [])) ∷ ‵ (flft κ₀ q₀) ∷ ‵ (ShrSlice (named 1) κ₁ N4 .own (to N4 b₁ o₁ γ₁ (y₁)) (s₁ ∷ [])) ∷ ‵ (flft κ₁ q₁) ∷ ‵ (ShrSlice (named 2) κ₂ F4 .own (to F4 b₂ o₂ γ₂ (y₂)) (s₂ ∷ [])) ∷ ‵ (flft κ₂ q₂) ∷ ‵ (ShrSlice (named 3) κ₃ Z4 .own (to Z4 b₃ o₃ γ₃ (y₃)) (s₃ ∷ [])) ∷ ‵ (flft κ₃ q₃) ∷ []
+  abbrev left : List (Item 𝓤)
+  left = ‵ (MutSlice (named 0) κ₀ R .own (to R b₀ o₀ γ₀ (gathered y₁ y₂ y₃ y₀)) (s₀ ∷ [])) ∷ ‵ (flft κ₀ q₀) ∷ ‵ (ShrSlice (named 1) κ₁ N4 .own (to N4 b₁ o₁ γ₁ (y₁)) (s₁ ∷ [])) ∷ ‵ (flft κ₁ q₁) ∷ ‵ (ShrSlice (named 2) κ₂ F4 .own (to F4 b₂ o₂ γ₂ (y₂)) (s₂ ∷ [])) ∷ ‵ (flft κ₂ q₂) ∷ ‵ (ShrSlice (named 3) κ₃ Z4 .own (to Z4 b₃ o₃ γ₃ (y₃)) (s₃ ∷ [])) ∷ ‵ (flft κ₃ q₃) ∷ []
 
-  exits :   ent 𝓤 (⋆ 𝓤 H A (left )) (Post (vunit))
-  exits   =
-      qed W (left ) ∵ suffices ! _ (ends-at 𝓤 H A gather.ended stayed (gather.clauses 𝓤 H A mem run) W bound (vunit) (tt) ((gathered y₁ y₂ y₃ y₀), (tt, (tt, (tt, tt)))) (gathered-fit y₁ y₂ y₃ y₀, (tt, (tt, (tt, tt))))) $ says ! (refl) $
+  exits : ent 𝓤 (⋆ 𝓤 H A (left)) (Post (vunit))
+  exits =
+      qed W (left) ∵ suffices ! _ (ends-at 𝓤 H A gather.ended stayed (gather.clauses 𝓤 H A mem run) W bound (vunit) (tt) ((gathered y₁ y₂ y₃ y₀), (tt, (tt, (tt, tt)))) (gathered-fit y₁ y₂ y₃ y₀, (tt, (tt, (tt, tt))))) $ says ! (refl) $
       nothing ! $ move ! (8 ∷ 0 ∷ []) $ join ! $ move ! (6 ∷ 0 ∷ []) $ join ! $ move ! (4 ∷ 0 ∷ []) $ join ! $ move ! (2 ∷ 0 ∷ []) $ join ! $ frame ! $ nothing ! $ move ! (4 ∷ 0 ∷ []) $ fjoin ! $ move ! (3 ∷ 0 ∷ []) $ fjoin ! $ move ! (2 ∷ 0 ∷ []) $ fjoin ! $ move ! (1 ∷ 0 ∷ []) $ fjoin ! $ frame ! $ feqI ! (List Val) (vunit ∷ []) (vunit ∷ []) refl $ done !
 
   -- ---- the loop
@@ -162,7 +162,7 @@ module _ {M : Type 1} (𝓤 : URA M) (H : Heap 𝓤) (A : Atoms 𝓤) (W : Given
         assigns ! (agg ! (and-then ! (load ! (from ! (stop !)) (look ! 16 refl)) (and-then ! (load ! (from ! (fld ! refl (stop !))) (look-in ! 34 (sub ! 1 refl (whole !)))) (no-more !)))) (from ! (stop !)) (init ! 14 refl (tt, (tt, (record { fits = room₀ .0 }, tt)))) $
         calls-record-at-lent ! mem run (fmOf 𝓤 H (W .laws) 𝓣) m-record-at-lent (named 0) γ₀ b₀ o₀ (firstGathered y₁ y₂ y₃ y₀ (i .0)) (length y₀) (i .0) (sym (gathered-size y₁ y₂ y₃ y₀ (i .0))) room₀ (fits) (subst (λ (m : ℕ). i .0 < m) (sym (gathered-size y₁ y₂ y₃ y₀ (i .0))) less) (λ i₀ i₁. (and-then ! (load ! (from ! (stop !)) (look ! 14 refl)) (and-then ! (load ! (from ! (stop !)) (look ! 26 refl)) (no-more !)))) (λ gr.
         land ! (from ! (stop !)) (init ! 24 refl (LL.lawful RT.the-type RT′.the-laws 𝓤 H A W .typed (getD (firstGathered y₁ y₂ y₃ y₀ (i .0)) (i .0) noRecord) _ gr .0)) $
-        move ! (2 ∷ 3 ∷ 4 ∷ 5 ∷ 6 ∷ 7 ∷ []) $ calls-row-or ! mem run (fmOf 𝓤 H (W .laws) 𝓣) m-row-or (named 1) γ₁ b₁ o₁ (y₁) (length y₁) (named 2) γ₂ b₂ o₂ (y₂) (length y₂) (named 3) γ₃ b₃ o₃ (y₃) (length y₃) (i .0) ((getD (firstGathered y₁ y₂ y₃ y₀ (i .0)) (i .0) noRecord))   (fits) (gr)  (λ i₀ i₁ i₂ i₃. (and-then ! (load ! (from ! (stop !)) (look ! 30 refl)) (and-then ! (load ! (from ! (stop !)) (look ! 28 refl)) (and-then ! (load ! (from ! (stop !)) (look ! 26 refl)) (and-then ! (load ! (from ! (stop !)) (look ! 24 refl)) (and-then ! (load ! (from ! (stop !)) (look ! 22 refl)) (no-more !))))))) (λ gq.
+        move ! (2 ∷ 3 ∷ 4 ∷ 5 ∷ 6 ∷ 7 ∷ []) $ calls-row-or ! mem run (fmOf 𝓤 H (W .laws) 𝓣) m-row-or (named 1) γ₁ b₁ o₁ (y₁) (length y₁) (named 2) γ₂ b₂ o₂ (y₂) (length y₂) (named 3) γ₃ b₃ o₃ (y₃) (length y₃) (i .0) ((getD (firstGathered y₁ y₂ y₃ y₀ (i .0)) (i .0) noRecord)) (fits) (gr) (λ i₀ i₁ i₂ i₃. (and-then ! (load ! (from ! (stop !)) (look ! 30 refl)) (and-then ! (load ! (from ! (stop !)) (look ! 28 refl)) (and-then ! (load ! (from ! (stop !)) (look ! 26 refl)) (and-then ! (load ! (from ! (stop !)) (look ! 24 refl)) (and-then ! (load ! (from ! (stop !)) (look ! 22 refl)) (no-more !))))))) (λ gq.
         land ! (from ! (stop !)) (init ! 22 refl (LL.lawful RT.the-type RT′.the-laws 𝓤 H A W .typed (rowOr y₁ y₂ y₃ (i .0) (getD (firstGathered y₁ y₂ y₃ y₀ (i .0)) (i .0) noRecord)) _ gq .0)) $
         assigns ! (addr ! (from ! (fld ! refl (hop ! (look-in ! 34 (sub ! 0 refl (whole !))) (stop !))))) (from ! (stop !)) (init ! 10 refl (tt, tt)) $
         assigns ! (agg ! (and-then ! (load ! (from ! (stop !)) (look ! 10 refl)) (and-then ! (load ! (from ! (fld ! refl (stop !))) (look-in ! 34 (sub ! 1 refl (whole !)))) (no-more !)))) (from ! (stop !)) (init ! 8 refl (tt, (tt, (record { fits = room₀ .0 }, tt)))) $
@@ -170,7 +170,6 @@ module _ {M : Type 1} (𝓤 : URA M) (H : Heap 𝓤) (A : Atoms 𝓤) (W : Given
         land ! (from ! (stop !)) (init ! 12 refl (tt, tt)) $
         assigns-last ! (bin ! (load ! (from ! (stop !)) (look ! 26 refl)) (lit ! tt) (record { fits = next-fits })) (from ! (stop !)) (store ! 26 refl (tt, record { fits = next-fits })) $
         forget ! 8 refl $ forget ! 10 refl $ forget ! 12 refl $ forget ! 14 refl $ forget ! 16 refl $ forget ! 18 refl $ forget ! 20 refl $ forget ! 22 refl $ forget ! 24 refl $
-        
         rewrite ! 0 (λ (us : List (Record)). ‵ (MutSlice (named 0) κ₀ R .own (to R b₀ o₀ γ₀ us) (s₀ ∷ []))) next₀ refl $
         again ! Nearer At i next (add-one-dec n (i .0) less))))
       where
@@ -212,14 +211,14 @@ module _ {M : Type 1} (𝓤 : URA M) (H : Heap 𝓤) (A : Atoms 𝓤) (W : Given
         alloc1 ! (λ l₀. alloc1 ! (λ l₁. alloc1 ! (λ l₂. alloc1 ! (λ l₃. alloc1 ! (λ l₄. alloc1 ! (λ l₅. alloc1 ! (λ l₆. alloc1 ! (λ l₇. alloc1 ! (λ l₈. alloc1 ! (λ l₉. alloc1 ! (λ l₁₀. alloc1 ! (λ l₁₁. alloc1 ! (λ l₁₂. alloc1 ! (λ l₁₃. alloc1 ! (λ l₁₄. alloc0 ! $ params1 ! $
         pass1 ! (init ! 26 refl (tt, (tt, (record { fits = room₀ .0 }, tt)))) $ pass1 ! (init ! 24 refl (tt, (tt, (record { fits = room₁ .0 }, tt)))) $ pass1 ! (init ! 22 refl (tt, (tt, (record { fits = room₂ .0 }, tt)))) $ pass1 ! (init ! 20 refl (tt, (tt, (record { fits = room₃ .0 }, tt)))) $ pass0 ! $
         assigns ! (of-opd ! (lit ! tt)) (from ! (stop !)) (init ! 18 refl (tt, record { fits = lit< tt })) $
-        move ! (31 ∷ []) $ fsplit ! $ move ! (1 ∷ []) $ fsplit ! $ move ! (1 ∷ []) $ fsplit ! $ move ! (1 ∷ []) $ fsplit ! $ move ! (35 ∷ []) $ split ! $ move ! (1 ∷ []) $ split ! $ move ! (1 ∷ []) $ split ! $ move ! (1 ∷ []) $ split ! $ keep ! (9 ∷ 4 ∷ 8 ∷ 3 ∷ 7 ∷ 2 ∷ 5 ∷ 0 ∷ 10 ∷ 11 ∷ 12 ∷ 13 ∷ 14 ∷ 15 ∷ 16 ∷ 17 ∷ 18 ∷ 19 ∷ 20 ∷ 21 ∷ 22 ∷ 23 ∷ 24 ∷ 25 ∷ 26 ∷ 27 ∷ 28 ∷ 29 ∷ 30 ∷ 31 ∷ 32 ∷ 33 ∷ 34 ∷ 35 ∷ 36 ∷ 37 ∷ 38 ∷ 39 ∷ []) $ 
+        move ! (31 ∷ []) $ fsplit ! $ move ! (1 ∷ []) $ fsplit ! $ move ! (1 ∷ []) $ fsplit ! $ move ! (1 ∷ []) $ fsplit ! $ move ! (35 ∷ []) $ split ! $ move ! (1 ∷ []) $ split ! $ move ! (1 ∷ []) $ split ! $ move ! (1 ∷ []) $ split ! $ keep ! (9 ∷ 4 ∷ 8 ∷ 3 ∷ 7 ∷ 2 ∷ 5 ∷ 0 ∷ 10 ∷ 11 ∷ 12 ∷ 13 ∷ 14 ∷ 15 ∷ 16 ∷ 17 ∷ 18 ∷ 19 ∷ 20 ∷ 21 ∷ 22 ∷ 23 ∷ 24 ∷ 25 ∷ 26 ∷ 27 ∷ 28 ∷ 29 ∷ 30 ∷ 31 ∷ 32 ∷ 33 ∷ 34 ∷ 35 ∷ 36 ∷ 37 ∷ 38 ∷ 39 ∷ []) $
         rewrite ! 0 (λ (us : List (Record)). ‵ (MutSlice (named 0) κ₀ R .own (to R b₀ o₀ γ₀ us) (s₀ ∷ []))) (sym (gathered-0 y₁ y₂ y₃ y₀)) refl $
         walk-loop 𝓣 m-record-at-lent m-row-or m-put-record l₀ l₁ l₂ l₃ l₄ l₅ l₆ l₇ l₈ l₉ l₁₀ l₁₁ l₁₂ l₁₃ l₁₄)))))))))))))))
 
 module _ {M : Type 1} (𝓤 : URA M) (H : Heap 𝓤) (A : Atoms 𝓤) (W : Given 𝓤 H A) (mem : Memory → SProp 𝓤) (run : Routine → Fun 𝓤) (𝓣 : Tables 𝓤 H) (m-record-at-lent : Triple 𝓤 (𝓣 .C #records·record-at) (RecordAt-lent 𝓤 H A mem run)) (m-row-or : Triple 𝓤 (𝓣 .C #records·row-or) (RowOr 𝓤 H A mem run)) (m-put-record : Triple 𝓤 (𝓣 .C #records·put-record) (PutRecord 𝓤 H A mem run)) where
   gather-walks : Walks 𝓤 H A gather.ended stayed (WpFn 𝓤 H (𝓣 .C) (𝓣 .Λ) code.function) (gather.clauses 𝓤 H A mem run)
   gather-walks = walked 𝓤 H A gather.ended stayed (gather.clauses 𝓤 H A mem run) (WpFn 𝓤 H (𝓣 .C) (𝓣 .Λ) code.function) (λ κs. (slice-vals, (slice-vals, (slice-vals, (slice-vals, tt))))) (λ κs. (mut-slice-tells (named 0) (κs .0) R, (shr-slice-tells (named 1) (κs .1 .0) N4, (shr-slice-tells (named 2) (κs .1 .1 .0) F4, (shr-slice-tells (named 3) (κs .1 .1 .1 .0) Z4, tt)))))
-      (λ κs qs bounds a g are. via 𝓤 _ (fst∗ 𝓤 _ (emp 𝓤)) (walk 𝓤 H A W mem run (κs .0) (κs .1 .0) (κs .1 .1 .0) (κs .1 .1 .1 .0) (qs .0) (qs .1 .0) (qs .1 .1 .0) (qs .1 .1 .1 .0) (a .0 .ptr .0) (a .0 .ptr .1) (a .0 .name) (a .0 .now) (are .0 .0 .1) (a .1 .0 .ptr .0) (a .1 .0 .ptr .1) (a .1 .0 .name) (a .1 .0 .now) (are .1 .0 .0 .1) (a .1 .1 .0 .ptr .0) (a .1 .1 .0 .ptr .1) (a .1 .1 .0 .name) (a .1 .1 .0 .now) (are .1 .1 .0 .0 .1) (a .1 .1 .1 .0 .ptr .0) (a .1 .1 .1 .0 .ptr .1) (a .1 .1 .1 .0 .name) (a .1 .1 .1 .0 .now) (are .1 .1 .1 .0 .0 .1)  𝓣 m-record-at-lent m-row-or m-put-record))
+      (λ κs qs bounds a g are. via 𝓤 _ (fst∗ 𝓤 _ (emp 𝓤)) (walk 𝓤 H A W mem run (κs .0) (κs .1 .0) (κs .1 .1 .0) (κs .1 .1 .1 .0) (qs .0) (qs .1 .0) (qs .1 .1 .0) (qs .1 .1 .1 .0) (a .0 .ptr .0) (a .0 .ptr .1) (a .0 .name) (a .0 .now) (are .0 .0 .1) (a .1 .0 .ptr .0) (a .1 .0 .ptr .1) (a .1 .0 .name) (a .1 .0 .now) (are .1 .0 .0 .1) (a .1 .1 .0 .ptr .0) (a .1 .1 .0 .ptr .1) (a .1 .1 .0 .name) (a .1 .1 .0 .now) (are .1 .1 .0 .0 .1) (a .1 .1 .1 .0 .ptr .0) (a .1 .1 .1 .0 .ptr .1) (a .1 .1 .1 .0 .name) (a .1 .1 .1 .0 .now) (are .1 .1 .1 .0 .0 .1) 𝓣 m-record-at-lent m-row-or m-put-record))
 
   gather-meets : Meets 𝓤 H A gather.signature (WpFn 𝓤 H (𝓣 .C) (𝓣 .Λ) code.function) (gather.spec 𝓤 H A mem run)
   gather-meets = walk-meets 𝓤 H A gather.ended stayed W (goes-slice 𝓤 H A W 4 0 tt (plain (λ _. R)), (goes-none-slice 𝓤 H A W 4 (1 ∷ []) tt (ArrayOf (plain (λ _. u32)) (λ _. tt) 4) yes, (goes-none-slice 𝓤 H A W 4 (2 ∷ []) tt (ArrayOf (plain (λ _. f32)) (λ _. tt) 4) yes, (goes-none-slice 𝓤 H A W 4 (3 ∷ []) tt (ArrayOf (plain (λ _. i32)) (λ _. tt) 4) yes, tt)))) (gather.clauses 𝓤 H A mem run) (WpFn 𝓤 H (𝓣 .C) (𝓣 .Λ) code.function) (WpFn-mono 𝓤 H (W .laws) 𝓣 code.function) gather-walks

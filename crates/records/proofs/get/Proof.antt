@@ -126,12 +126,12 @@ module _ {M : Type 1} (𝓤 : URA M) (H : Heap 𝓤) (A : Atoms 𝓤) (W : Given
   abbrev Post : Val → SProp 𝓤
   Post = walkOf 𝓤 H A get.ended stayed (get.clauses 𝓤 H A mem run) .post bound
 
-  abbrev left :  List (Item 𝓤)
-  left  = ‵ (ShrSlice (named 0) κ₀ R .own (to R b₀ o₀ γ₀ (y₀)) (s₀ ∷ [])) ∷ ‵ (flft κ₀ q₀) ∷ ‵ (MutSlice (named 1) κ₁ N4 .own (to N4 b₁ o₁ γ₁ (laid numsOf y₀ y₁)) (s₁ ∷ [])) ∷ ‵ (flft κ₁ q₁) ∷ ‵ (MutSlice (named 2) κ₂ F4 .own (to F4 b₂ o₂ γ₂ (laid realsOf y₀ y₂)) (s₂ ∷ [])) ∷ ‵ (flft κ₂ q₂) ∷ ‵ (MutSlice (named 3) κ₃ Z4 .own (to Z4 b₃ o₃ γ₃ (laid intsOf y₀ y₃)) (s₃ ∷ [])) ∷ ‵ (flft κ₃ q₃) ∷ ‵ (ShrSlice (named 4) κ₄ u64 .own (to u64 b₄ o₄ γ₄ (y₄)) (s₄ ∷ [])) ∷ ‵ (flft κ₄ q₄) ∷ ‵ (ShrSlice (named 5) κ₅ N2 .own (to N2 b₅ o₅ γ₅ (y₅)) (s₅ ∷ [])) ∷ ‵ (flft κ₅ q₅) ∷ ‵ (ShrSlice (named 6) κ₆ F2 .own (to F2 b₆ o₆ γ₆ (y₆)) (s₆ ∷ [])) ∷ ‵ (flft κ₆ q₆) ∷ ‵ (ShrSlice (named 7) κ₇ N2 .own (to N2 b₇ o₇ γ₇ (y₇)) (s₇ ∷ [])) ∷ ‵ (flft κ₇ q₇) ∷ ‵ (fsep (HR .own v₀ (hvals v₀)) ftrue) ∷ []
+  abbrev left : List (Item 𝓤)
+  left = ‵ (ShrSlice (named 0) κ₀ R .own (to R b₀ o₀ γ₀ (y₀)) (s₀ ∷ [])) ∷ ‵ (flft κ₀ q₀) ∷ ‵ (MutSlice (named 1) κ₁ N4 .own (to N4 b₁ o₁ γ₁ (laid numsOf y₀ y₁)) (s₁ ∷ [])) ∷ ‵ (flft κ₁ q₁) ∷ ‵ (MutSlice (named 2) κ₂ F4 .own (to F4 b₂ o₂ γ₂ (laid realsOf y₀ y₂)) (s₂ ∷ [])) ∷ ‵ (flft κ₂ q₂) ∷ ‵ (MutSlice (named 3) κ₃ Z4 .own (to Z4 b₃ o₃ γ₃ (laid intsOf y₀ y₃)) (s₃ ∷ [])) ∷ ‵ (flft κ₃ q₃) ∷ ‵ (ShrSlice (named 4) κ₄ u64 .own (to u64 b₄ o₄ γ₄ (y₄)) (s₄ ∷ [])) ∷ ‵ (flft κ₄ q₄) ∷ ‵ (ShrSlice (named 5) κ₅ N2 .own (to N2 b₅ o₅ γ₅ (y₅)) (s₅ ∷ [])) ∷ ‵ (flft κ₅ q₅) ∷ ‵ (ShrSlice (named 6) κ₆ F2 .own (to F2 b₆ o₆ γ₆ (y₆)) (s₆ ∷ [])) ∷ ‵ (flft κ₆ q₆) ∷ ‵ (ShrSlice (named 7) κ₇ N2 .own (to N2 b₇ o₇ γ₇ (y₇)) (s₇ ∷ [])) ∷ ‵ (flft κ₇ q₇) ∷ ‵ (fsep (HR .own v₀ (hvals v₀)) ftrue) ∷ []
 
-  exits :  Is GR (getFor (length y₀) (tabled (laid numsOf y₀ y₁) (laid realsOf y₀ y₂) (laid intsOf y₀ y₃) (y₄) (y₅) (y₆) (y₇)) v₀) (Gvals (getFor (length y₀) (tabled (laid numsOf y₀ y₁) (laid realsOf y₀ y₂) (laid intsOf y₀ y₃) (y₄) (y₅) (y₆) (y₇)) v₀)) →  ent 𝓤 (⋆ 𝓤 H A (left )) (Post (Gval (getFor (length y₀) (tabled (laid numsOf y₀ y₁) (laid realsOf y₀ y₂) (laid intsOf y₀ y₃) (y₄) (y₅) (y₆) (y₇)) v₀)))
-  exits  gr =
-      qed W (left ) ∵ suffices ! _ (ends-at 𝓤 H A get.ended stayed (get.clauses 𝓤 H A mem run) W bound (Gval (getFor (length y₀) (tabled (laid numsOf y₀ y₁) (laid realsOf y₀ y₂) (laid intsOf y₀ y₃) (y₄) (y₅) (y₆) (y₇)) v₀)) ((getFor (length y₀) (tabled (laid numsOf y₀ y₁) (laid realsOf y₀ y₂) (laid intsOf y₀ y₃) (y₄) (y₅) (y₆) (y₇)) v₀)) (tt, ((laid numsOf y₀ y₁), ((laid realsOf y₀ y₂), ((laid intsOf y₀ y₃), (tt, (tt, (tt, (tt, (tt, tt))))))))) (tt, (laid-fit numsOf y₀ y₁, (laid-fit realsOf y₀ y₂, (laid-fit intsOf y₀ y₃, (tt, (tt, (tt, (tt, (tt, tt)))))))))) $ says ! (refl) $
+  exits : Is GR (getFor (length y₀) (tabled (laid numsOf y₀ y₁) (laid realsOf y₀ y₂) (laid intsOf y₀ y₃) (y₄) (y₅) (y₆) (y₇)) v₀) (Gvals (getFor (length y₀) (tabled (laid numsOf y₀ y₁) (laid realsOf y₀ y₂) (laid intsOf y₀ y₃) (y₄) (y₅) (y₆) (y₇)) v₀)) → ent 𝓤 (⋆ 𝓤 H A (left)) (Post (Gval (getFor (length y₀) (tabled (laid numsOf y₀ y₁) (laid realsOf y₀ y₂) (laid intsOf y₀ y₃) (y₄) (y₅) (y₆) (y₇)) v₀)))
+  exits gr =
+      qed W (left) ∵ suffices ! _ (ends-at 𝓤 H A get.ended stayed (get.clauses 𝓤 H A mem run) W bound (Gval (getFor (length y₀) (tabled (laid numsOf y₀ y₁) (laid realsOf y₀ y₂) (laid intsOf y₀ y₃) (y₄) (y₅) (y₆) (y₇)) v₀)) ((getFor (length y₀) (tabled (laid numsOf y₀ y₁) (laid realsOf y₀ y₂) (laid intsOf y₀ y₃) (y₄) (y₅) (y₆) (y₇)) v₀)) (tt, ((laid numsOf y₀ y₁), ((laid realsOf y₀ y₂), ((laid intsOf y₀ y₃), (tt, (tt, (tt, (tt, (tt, tt))))))))) (tt, (laid-fit numsOf y₀ y₁, (laid-fit realsOf y₀ y₂, (laid-fit intsOf y₀ y₃, (tt, (tt, (tt, (tt, (tt, tt)))))))))) $ says ! (refl) $
       nothing ! $ move ! (16 ∷ 0 ∷ []) $ join ! $ move ! (14 ∷ 0 ∷ []) $ join ! $ move ! (12 ∷ 0 ∷ []) $ join ! $ move ! (10 ∷ 0 ∷ []) $ join ! $ move ! (8 ∷ 0 ∷ []) $ join ! $ move ! (6 ∷ 0 ∷ []) $ join ! $ move ! (4 ∷ 0 ∷ []) $ join ! $ move ! (2 ∷ 0 ∷ []) $ join ! $ frame ! $ move ! (7 ∷ 8 ∷ []) $ fjoin ! $ move ! (7 ∷ 0 ∷ []) $ fjoin ! $ move ! (6 ∷ 0 ∷ []) $ fjoin ! $ move ! (5 ∷ 0 ∷ []) $ fjoin ! $ move ! (4 ∷ 0 ∷ []) $ fjoin ! $ move ! (3 ∷ 0 ∷ []) $ fjoin ! $ move ! (2 ∷ 0 ∷ []) $ fjoin ! $ move ! (1 ∷ 0 ∷ []) $ fjoin ! $ frame ! $ owned ! GR (Is GR) (LL.makes GT.the-type GT′.the-plain 𝓤 H A) (getFor (length y₀) (tabled (laid numsOf y₀ y₁) (laid realsOf y₀ y₂) (laid intsOf y₀ y₃) (y₄) (y₅) (y₆) (y₇)) v₀) _ gr $ done !
 
   module _ (𝓣 : Tables 𝓤 H) (m-spread-own : Triple 𝓤 (𝓣 .C #records·spread) (Spread-own 𝓤 H A mem run)) (m-get-for : Triple 𝓤 (𝓣 .C #records·get-for) (GetFor 𝓤 H A mem run)) where
@@ -140,14 +140,14 @@ module _ {M : Type 1} (𝓤 : URA M) (H : Heap 𝓤) (A : Atoms 𝓤) (W : Given
         qed W ((‵ (flft κ₀ q₀) ⊛ ‵ (flft κ₁ q₁) ⊛ ‵ (flft κ₂ q₂) ⊛ ‵ (flft κ₃ q₃) ⊛ ‵ (flft κ₄ q₄) ⊛ ‵ (flft κ₅ q₅) ⊛ ‵ (flft κ₆ q₆) ⊛ ‵ (flft κ₇ q₇) ⊛ ‵ ftrue) ∷ ‵ (owns (ShrSlice (named 0) κ₀ R ∷ MutSlice (named 1) κ₁ N4 ∷ MutSlice (named 2) κ₂ F4 ∷ MutSlice (named 3) κ₃ Z4 ∷ ShrSlice (named 4) κ₄ u64 ∷ ShrSlice (named 5) κ₅ N2 ∷ ShrSlice (named 6) κ₆ F2 ∷ ShrSlice (named 7) κ₇ N2 ∷ HR ∷ []) x at) ∷ []) ∵ enter ! (𝓣 .C) (𝓣 .Λ) code.function (s₀ ∷ s₁ ∷ s₂ ∷ s₃ ∷ s₄ ∷ s₅ ∷ s₆ ∷ s₇ ∷ hval v₀ ∷ []) _ $
         alloc1 ! (λ l₀. alloc1 ! (λ l₁. alloc1 ! (λ l₂. alloc1 ! (λ l₃. alloc1 ! (λ l₄. alloc1 ! (λ l₅. alloc1 ! (λ l₆. alloc1 ! (λ l₇. alloc1 ! (λ l₈. alloc1 ! (λ l₉. alloc1 ! (λ l₁₀. alloc1 ! (λ l₁₁. alloc1 ! (λ l₁₂. alloc1 ! (λ l₁₃. alloc1 ! (λ l₁₄. alloc1 ! (λ l₁₅. alloc1 ! (λ l₁₆. alloc1 ! (λ l₁₇. alloc1 ! (λ l₁₈. alloc1 ! (λ l₁₉. alloc1 ! (λ l₂₀. alloc1 ! (λ l₂₁. alloc1 ! (λ l₂₂. alloc1 ! (λ l₂₃. alloc1 ! (λ l₂₄. alloc0 ! $ params1 ! $
         pass1 ! (init ! 46 refl (tt, (tt, (record { fits = room₀ .0 }, tt)))) $ pass1 ! (init ! 44 refl (tt, (tt, (record { fits = room₁ .0 }, tt)))) $ pass1 ! (init ! 42 refl (tt, (tt, (record { fits = room₂ .0 }, tt)))) $ pass1 ! (init ! 40 refl (tt, (tt, (record { fits = room₃ .0 }, tt)))) $ pass1 ! (init ! 38 refl (tt, (tt, (record { fits = room₄ .0 }, tt)))) $ pass1 ! (init ! 36 refl (tt, (tt, (record { fits = room₅ .0 }, tt)))) $ pass1 ! (init ! 34 refl (tt, (tt, (record { fits = room₆ .0 }, tt)))) $ pass1 ! (init ! 32 refl (tt, (tt, (record { fits = room₇ .0 }, tt)))) $ pass1 ! (init ! 30 refl (LL.lawful HT.the-type HT′.the-laws 𝓤 H A W .typed v₀ _ g₀ .0)) $ pass0 ! $
-        move ! (51 ∷ []) $ fsplit ! $ move ! (1 ∷ []) $ fsplit ! $ move ! (1 ∷ []) $ fsplit ! $ move ! (1 ∷ []) $ fsplit ! $ move ! (1 ∷ []) $ fsplit ! $ move ! (1 ∷ []) $ fsplit ! $ move ! (1 ∷ []) $ fsplit ! $ move ! (1 ∷ []) $ fsplit ! $ move ! (59 ∷ []) $ split ! $ move ! (1 ∷ []) $ split ! $ move ! (1 ∷ []) $ split ! $ move ! (1 ∷ []) $ split ! $ move ! (1 ∷ []) $ split ! $ move ! (1 ∷ []) $ split ! $ move ! (1 ∷ []) $ split ! $ move ! (1 ∷ []) $ split ! $ keep ! (17 ∷ 8 ∷ 16 ∷ 7 ∷ 15 ∷ 6 ∷ 14 ∷ 5 ∷ 13 ∷ 4 ∷ 12 ∷ 3 ∷ 11 ∷ 2 ∷ 9 ∷ 0 ∷ 10 ∷ 18 ∷ 19 ∷ 20 ∷ 21 ∷ 22 ∷ 23 ∷ 24 ∷ 25 ∷ 26 ∷ 27 ∷ 28 ∷ 29 ∷ 30 ∷ 31 ∷ 32 ∷ 33 ∷ 34 ∷ 35 ∷ 36 ∷ 37 ∷ 38 ∷ 39 ∷ 40 ∷ 41 ∷ 42 ∷ 43 ∷ 44 ∷ 45 ∷ 46 ∷ 47 ∷ 48 ∷ 49 ∷ 50 ∷ 51 ∷ 52 ∷ 53 ∷ 54 ∷ 55 ∷ 56 ∷ 57 ∷ 58 ∷ 59 ∷ 60 ∷ 61 ∷ 62 ∷ 63 ∷ 64 ∷ 65 ∷ 66 ∷ 67 ∷ []) $ 
+        move ! (51 ∷ []) $ fsplit ! $ move ! (1 ∷ []) $ fsplit ! $ move ! (1 ∷ []) $ fsplit ! $ move ! (1 ∷ []) $ fsplit ! $ move ! (1 ∷ []) $ fsplit ! $ move ! (1 ∷ []) $ fsplit ! $ move ! (1 ∷ []) $ fsplit ! $ move ! (1 ∷ []) $ fsplit ! $ move ! (59 ∷ []) $ split ! $ move ! (1 ∷ []) $ split ! $ move ! (1 ∷ []) $ split ! $ move ! (1 ∷ []) $ split ! $ move ! (1 ∷ []) $ split ! $ move ! (1 ∷ []) $ split ! $ move ! (1 ∷ []) $ split ! $ move ! (1 ∷ []) $ split ! $ keep ! (17 ∷ 8 ∷ 16 ∷ 7 ∷ 15 ∷ 6 ∷ 14 ∷ 5 ∷ 13 ∷ 4 ∷ 12 ∷ 3 ∷ 11 ∷ 2 ∷ 9 ∷ 0 ∷ 10 ∷ 18 ∷ 19 ∷ 20 ∷ 21 ∷ 22 ∷ 23 ∷ 24 ∷ 25 ∷ 26 ∷ 27 ∷ 28 ∷ 29 ∷ 30 ∷ 31 ∷ 32 ∷ 33 ∷ 34 ∷ 35 ∷ 36 ∷ 37 ∷ 38 ∷ 39 ∷ 40 ∷ 41 ∷ 42 ∷ 43 ∷ 44 ∷ 45 ∷ 46 ∷ 47 ∷ 48 ∷ 49 ∷ 50 ∷ 51 ∷ 52 ∷ 53 ∷ 54 ∷ 55 ∷ 56 ∷ 57 ∷ 58 ∷ 59 ∷ 60 ∷ 61 ∷ 62 ∷ 63 ∷ 64 ∷ 65 ∷ 66 ∷ 67 ∷ []) $
         assigns ! (addr ! (from ! (fld ! refl (hop ! (look-in ! 61 (sub ! 0 refl (whole !))) (stop !))))) (from ! (stop !)) (init ! 39 refl (tt, tt)) $
         assigns ! (agg ! (and-then ! (load ! (from ! (stop !)) (look ! 39 refl)) (and-then ! (load ! (from ! (fld ! refl (stop !))) (look-in ! 61 (sub ! 1 refl (whole !)))) (no-more !)))) (from ! (stop !)) (init ! 37 refl (tt, (tt, (record { fits = room₁ .0 }, tt)))) $
         assigns ! (addr ! (from ! (fld ! refl (hop ! (look-in ! 59 (sub ! 0 refl (whole !))) (stop !))))) (from ! (stop !)) (init ! 35 refl (tt, tt)) $
         assigns ! (agg ! (and-then ! (load ! (from ! (stop !)) (look ! 35 refl)) (and-then ! (load ! (from ! (fld ! refl (stop !))) (look-in ! 59 (sub ! 1 refl (whole !)))) (no-more !)))) (from ! (stop !)) (init ! 33 refl (tt, (tt, (record { fits = room₂ .0 }, tt)))) $
         assigns ! (addr ! (from ! (fld ! refl (hop ! (look-in ! 57 (sub ! 0 refl (whole !))) (stop !))))) (from ! (stop !)) (init ! 31 refl (tt, tt)) $
         assigns ! (agg ! (and-then ! (load ! (from ! (stop !)) (look ! 31 refl)) (and-then ! (load ! (from ! (fld ! refl (stop !))) (look-in ! 57 (sub ! 1 refl (whole !)))) (no-more !)))) (from ! (stop !)) (init ! 29 refl (tt, (tt, (record { fits = room₃ .0 }, tt)))) $
-        calls-spread-own ! mem run (fmOf 𝓤 H (W .laws) 𝓣) m-spread-own (named 0) γ₀ b₀ o₀ (y₀) (length y₀) (named 1) γ₁ b₁ o₁ (y₁) (length y₁) (named 2) γ₂ b₂ o₂ (y₂) (length y₂) (named 3) γ₃ b₃ o₃ (y₃) (length y₃)  (refl) (refl) (refl) room₁ room₂ room₃   (λ i₀ i₁ i₂ i₃ i₄. (and-then ! (load ! (from ! (stop !)) (look ! 60 refl)) (and-then ! (load ! (from ! (stop !)) (look ! 34 refl)) (and-then ! (load ! (from ! (stop !)) (look ! 30 refl)) (and-then ! (load ! (from ! (stop !)) (look ! 26 refl)) (no-more !)))))) (
+        calls-spread-own ! mem run (fmOf 𝓤 H (W .laws) 𝓣) m-spread-own (named 0) γ₀ b₀ o₀ (y₀) (length y₀) (named 1) γ₁ b₁ o₁ (y₁) (length y₁) (named 2) γ₂ b₂ o₂ (y₂) (length y₂) (named 3) γ₃ b₃ o₃ (y₃) (length y₃) (refl) (refl) (refl) room₁ room₂ room₃ (λ i₀ i₁ i₂ i₃ i₄. (and-then ! (load ! (from ! (stop !)) (look ! 60 refl)) (and-then ! (load ! (from ! (stop !)) (look ! 34 refl)) (and-then ! (load ! (from ! (stop !)) (look ! 30 refl)) (and-then ! (load ! (from ! (stop !)) (look ! 26 refl)) (no-more !)))))) (
         land ! (from ! (stop !)) (init ! 41 refl (tt, tt)) $
         assigns ! (of-opd ! (load ! (from ! (fld ! refl (stop !))) (look-in ! 63 (sub ! 1 refl (whole !))))) (from ! (stop !)) (init ! 45 refl (tt, record { fits = room₀ .0 })) $
         assigns ! (addr ! (from ! (fld ! refl (hop ! (look-in ! 61 (sub ! 0 refl (whole !))) (stop !))))) (from ! (stop !)) (init ! 27 refl (tt, tt)) $
@@ -156,7 +156,7 @@ module _ {M : Type 1} (𝓤 : URA M) (H : Heap 𝓤) (A : Atoms 𝓤) (W : Given
         assigns ! (agg ! (and-then ! (load ! (from ! (stop !)) (look ! 23 refl)) (and-then ! (load ! (from ! (fld ! refl (stop !))) (look-in ! 59 (sub ! 1 refl (whole !)))) (no-more !)))) (from ! (stop !)) (init ! 21 refl (tt, (tt, (record { fits = room₂ .0 }, tt)))) $
         assigns ! (addr ! (from ! (fld ! refl (hop ! (look-in ! 57 (sub ! 0 refl (whole !))) (stop !))))) (from ! (stop !)) (init ! 19 refl (tt, tt)) $
         assigns ! (agg ! (and-then ! (load ! (from ! (stop !)) (look ! 19 refl)) (and-then ! (load ! (from ! (fld ! refl (stop !))) (look-in ! 57 (sub ! 1 refl (whole !)))) (no-more !)))) (from ! (stop !)) (init ! 17 refl (tt, (tt, (record { fits = room₃ .0 }, tt)))) $
-        move ! (2 ∷ 3 ∷ 4 ∷ 5 ∷ 6 ∷ 7 ∷ 8 ∷ 9 ∷ 10 ∷ 11 ∷ 12 ∷ 13 ∷ 14 ∷ 15 ∷ []) $ calls-get-for ! mem run (fmOf 𝓤 H (W .laws) 𝓣) m-get-for (named 1) γ₁ b₁ o₁ (laid numsOf y₀ y₁) (length y₁) (named 2) γ₂ b₂ o₂ (laid realsOf y₀ y₂) (length y₂) (named 3) γ₃ b₃ o₃ (laid intsOf y₀ y₃) (length y₃) (named 4) γ₄ b₄ o₄ (y₄) (length y₄) (named 5) γ₅ b₅ o₅ (y₅) (length y₅) (named 6) γ₆ b₆ o₆ (y₆) (length y₆) (named 7) γ₇ b₇ o₇ (y₇) (length y₇) (length y₀) (v₀) (sym (laid-fit numsOf y₀ y₁)) (sym (laid-fit realsOf y₀ y₂)) (sym (laid-fit intsOf y₀ y₃)) room₁ room₂ room₃ (room₀ .0) (g₀)  (λ i₀ i₁ i₂ i₃ i₄ i₅ i₆ i₇. (and-then ! (load ! (from ! (stop !)) (look ! 39 refl)) (and-then ! (load ! (from ! (stop !)) (look ! 19 refl)) (and-then ! (load ! (from ! (stop !)) (look ! 15 refl)) (and-then ! (load ! (from ! (stop !)) (look ! 11 refl)) (and-then ! (load ! (from ! (stop !)) (look ! 49 refl)) (and-then ! (load ! (from ! (stop !)) (look ! 47 refl)) (and-then ! (load ! (from ! (stop !)) (look ! 45 refl)) (and-then ! (load ! (from ! (stop !)) (look ! 43 refl)) (and-then ! (load ! (from ! (stop !)) (look ! 41 refl)) (no-more !))))))))))) (λ gr.
+        move ! (2 ∷ 3 ∷ 4 ∷ 5 ∷ 6 ∷ 7 ∷ 8 ∷ 9 ∷ 10 ∷ 11 ∷ 12 ∷ 13 ∷ 14 ∷ 15 ∷ []) $ calls-get-for ! mem run (fmOf 𝓤 H (W .laws) 𝓣) m-get-for (named 1) γ₁ b₁ o₁ (laid numsOf y₀ y₁) (length y₁) (named 2) γ₂ b₂ o₂ (laid realsOf y₀ y₂) (length y₂) (named 3) γ₃ b₃ o₃ (laid intsOf y₀ y₃) (length y₃) (named 4) γ₄ b₄ o₄ (y₄) (length y₄) (named 5) γ₅ b₅ o₅ (y₅) (length y₅) (named 6) γ₆ b₆ o₆ (y₆) (length y₆) (named 7) γ₇ b₇ o₇ (y₇) (length y₇) (length y₀) (v₀) (sym (laid-fit numsOf y₀ y₁)) (sym (laid-fit realsOf y₀ y₂)) (sym (laid-fit intsOf y₀ y₃)) room₁ room₂ room₃ (room₀ .0) (g₀) (λ i₀ i₁ i₂ i₃ i₄ i₅ i₆ i₇. (and-then ! (load ! (from ! (stop !)) (look ! 39 refl)) (and-then ! (load ! (from ! (stop !)) (look ! 19 refl)) (and-then ! (load ! (from ! (stop !)) (look ! 15 refl)) (and-then ! (load ! (from ! (stop !)) (look ! 11 refl)) (and-then ! (load ! (from ! (stop !)) (look ! 49 refl)) (and-then ! (load ! (from ! (stop !)) (look ! 47 refl)) (and-then ! (load ! (from ! (stop !)) (look ! 45 refl)) (and-then ! (load ! (from ! (stop !)) (look ! 43 refl)) (and-then ! (load ! (from ! (stop !)) (look ! 41 refl)) (no-more !))))))))))) (λ gr.
         land ! (from ! (stop !)) (init ! 43 refl (LL.lawful GT.the-type GT′.the-laws 𝓤 H A W .typed (getFor (length y₀) (tabled (laid numsOf y₀ y₁) (laid realsOf y₀ y₂) (laid intsOf y₀ y₃) (y₄) (y₅) (y₆) (y₇)) v₀) _ gr .0)) $
         assigns ! (of-opd ! (load ! (from ! (stop !)) (look ! 43 refl))) (from ! (stop !)) (init ! 65 refl (LL.lawful GT.the-type GT′.the-laws 𝓤 H A W .typed (getFor (length y₀) (tabled (laid numsOf y₀ y₁) (laid realsOf y₀ y₂) (laid intsOf y₀ y₃) (y₄) (y₅) (y₆) (y₇)) v₀) _ gr .0)) $
         returns ! (look ! 65 refl) $

@@ -134,7 +134,7 @@ module _ {M : Type 1} (𝓤 : URA M) (H : Heap 𝓤) (A : Atoms 𝓤) (W : Given
   abbrev left : (r : Inserted) (zs : (Unit {0} × (List (List ℕ) × (List (List Float) × (List (List ℤ) × (List (ℕ) × (List (List ℕ) × (List (List Float) × (List (List ℕ) × (Unit {0} × (Unit {0} × Unit {0}))))))))))) → List (Item 𝓤)
   left r zs = ‵ (MutSlice (named 0) κ₀ R .own (to R b₀ o₀ γ₀ (gathered (zs .1 .0) (zs .1 .1 .0) (zs .1 .1 .1 .0) y₀)) (s₀ ∷ [])) ∷ ‵ (flft κ₀ q₀) ∷ ‵ (MutSlice (named 1) κ₁ N4 .own (to N4 b₁ o₁ γ₁ (zs .1 .0)) (s₁ ∷ [])) ∷ ‵ (flft κ₁ q₁) ∷ ‵ (MutSlice (named 2) κ₂ F4 .own (to F4 b₂ o₂ γ₂ (zs .1 .1 .0)) (s₂ ∷ [])) ∷ ‵ (flft κ₂ q₂) ∷ ‵ (MutSlice (named 3) κ₃ Z4 .own (to Z4 b₃ o₃ γ₃ (zs .1 .1 .1 .0)) (s₃ ∷ [])) ∷ ‵ (flft κ₃ q₃) ∷ ‵ (MutSlice (named 4) κ₄ u64 .own (to u64 b₄ o₄ γ₄ (zs .1 .1 .1 .1 .0)) (s₄ ∷ [])) ∷ ‵ (flft κ₄ q₄) ∷ ‵ (MutSlice (named 5) κ₅ N2 .own (to N2 b₅ o₅ γ₅ (zs .1 .1 .1 .1 .1 .0)) (s₅ ∷ [])) ∷ ‵ (flft κ₅ q₅) ∷ ‵ (MutSlice (named 6) κ₆ F2 .own (to F2 b₆ o₆ γ₆ (zs .1 .1 .1 .1 .1 .1 .0)) (s₆ ∷ [])) ∷ ‵ (flft κ₆ q₆) ∷ ‵ (MutSlice (named 7) κ₇ N2 .own (to N2 b₇ o₇ γ₇ (zs .1 .1 .1 .1 .1 .1 .1 .0)) (s₇ ∷ [])) ∷ ‵ (flft κ₇ q₇) ∷ ‵ (fsep (PR .own v₀ (pvals v₀)) (fsep (u32 .own v₁ (vint w32 v₁ ∷ [])) ftrue)) ∷ []
 
-  exits : (r : Inserted) (zs : (Unit {0} × (List (List ℕ) × (List (List Float) × (List (List ℤ) × (List (ℕ) × (List (List ℕ) × (List (List Float) × (List (List ℕ) × (Unit {0} × (Unit {0} × Unit {0}))))))))))) → length (zs .1 .0) ≡ length (laid numsOf y₀ y₁) → length (zs .1 .1 .0) ≡ length (laid realsOf y₀ y₂) → length (zs .1 .1 .1 .0) ≡ length (laid intsOf y₀ y₃) → length (zs .1 .1 .1 .1 .0) ≡ length (y₄) → length (zs .1 .1 .1 .1 .1 .0) ≡ length (y₅) → length (zs .1 .1 .1 .1 .1 .1 .0) ≡ length (y₆) → length (zs .1 .1 .1 .1 .1 .1 .1 .0) ≡ length (y₇) → (outcome r (tabled (zs .1 .0) (zs .1 .1 .0) (zs .1 .1 .1 .0) (zs .1 .1 .1 .1 .0) (zs .1 .1 .1 .1 .1 .0) (zs .1 .1 .1 .1 .1 .1 .0) (zs .1 .1 .1 .1 .1 .1 .1 .0)) ≡ insertFor (length y₀) (tabled (laid numsOf y₀ y₁) (laid realsOf y₀ y₂) (laid intsOf y₀ y₃) (y₄) (y₅) (y₆) (y₇)) v₀ v₁) → Is IR r (Ivals r) →  ent 𝓤 (⋆ 𝓤 H A (left r zs)) (Post (Ival r))
+  exits : (r : Inserted) (zs : (Unit {0} × (List (List ℕ) × (List (List Float) × (List (List ℤ) × (List (ℕ) × (List (List ℕ) × (List (List Float) × (List (List ℕ) × (Unit {0} × (Unit {0} × Unit {0}))))))))))) → length (zs .1 .0) ≡ length (laid numsOf y₀ y₁) → length (zs .1 .1 .0) ≡ length (laid realsOf y₀ y₂) → length (zs .1 .1 .1 .0) ≡ length (laid intsOf y₀ y₃) → length (zs .1 .1 .1 .1 .0) ≡ length (y₄) → length (zs .1 .1 .1 .1 .1 .0) ≡ length (y₅) → length (zs .1 .1 .1 .1 .1 .1 .0) ≡ length (y₆) → length (zs .1 .1 .1 .1 .1 .1 .1 .0) ≡ length (y₇) → (outcome r (tabled (zs .1 .0) (zs .1 .1 .0) (zs .1 .1 .1 .0) (zs .1 .1 .1 .1 .0) (zs .1 .1 .1 .1 .1 .0) (zs .1 .1 .1 .1 .1 .1 .0) (zs .1 .1 .1 .1 .1 .1 .1 .0)) ≡ insertFor (length y₀) (tabled (laid numsOf y₀ y₁) (laid realsOf y₀ y₂) (laid intsOf y₀ y₃) (y₄) (y₅) (y₆) (y₇)) v₀ v₁) → Is IR r (Ivals r) → ent 𝓤 (⋆ 𝓤 H A (left r zs)) (Post (Ival r))
   exits r zs n₁ n₂ n₃ n₄ n₅ n₆ n₇ eq gr =
       qed W (left r zs) ∵ suffices ! _ (ends-at 𝓤 H A insert.ended stayed (insert.clauses 𝓤 H A mem run) W bound (Ival r) (r) ((gathered (zs .1 .0) (zs .1 .1 .0) (zs .1 .1 .1 .0) y₀), ((zs .1 .0), ((zs .1 .1 .0), ((zs .1 .1 .1 .0), ((zs .1 .1 .1 .1 .0), ((zs .1 .1 .1 .1 .1 .0), ((zs .1 .1 .1 .1 .1 .1 .0), ((zs .1 .1 .1 .1 .1 .1 .1 .0), (tt, (tt, tt)))))))))) (gathered-fit (zs .1 .0) (zs .1 .1 .0) (zs .1 .1 .1 .0) y₀, ((n₁ ∙ laid-fit numsOf y₀ y₁), ((n₂ ∙ laid-fit realsOf y₀ y₂), ((n₃ ∙ laid-fit intsOf y₀ y₃), (n₄, (n₅, (n₆, (n₇, (tt, (tt, tt))))))))))) $ says ! (ap (back y₀) eq) $
       nothing ! $ move ! (16 ∷ 0 ∷ []) $ join ! $ move ! (14 ∷ 0 ∷ []) $ join ! $ move ! (12 ∷ 0 ∷ []) $ join ! $ move ! (10 ∷ 0 ∷ []) $ join ! $ move ! (8 ∷ 0 ∷ []) $ join ! $ move ! (6 ∷ 0 ∷ []) $ join ! $ move ! (4 ∷ 0 ∷ []) $ join ! $ move ! (2 ∷ 0 ∷ []) $ join ! $ frame ! $ move ! (7 ∷ 8 ∷ []) $ fjoin ! $ move ! (7 ∷ 0 ∷ []) $ fjoin ! $ move ! (6 ∷ 0 ∷ []) $ fjoin ! $ move ! (5 ∷ 0 ∷ []) $ fjoin ! $ move ! (4 ∷ 0 ∷ []) $ fjoin ! $ move ! (3 ∷ 0 ∷ []) $ fjoin ! $ move ! (2 ∷ 0 ∷ []) $ fjoin ! $ move ! (1 ∷ 0 ∷ []) $ fjoin ! $ frame ! $ owned ! IR (Is IR) (LL.makes IT.the-type IT′.the-plain 𝓤 H A) r _ gr $ done !
@@ -145,7 +145,7 @@ module _ {M : Type 1} (𝓤 : URA M) (H : Heap 𝓤) (A : Atoms 𝓤) (W : Given
         qed W ((‵ (flft κ₀ q₀) ⊛ ‵ (flft κ₁ q₁) ⊛ ‵ (flft κ₂ q₂) ⊛ ‵ (flft κ₃ q₃) ⊛ ‵ (flft κ₄ q₄) ⊛ ‵ (flft κ₅ q₅) ⊛ ‵ (flft κ₆ q₆) ⊛ ‵ (flft κ₇ q₇) ⊛ ‵ ftrue) ∷ ‵ (owns (MutSlice (named 0) κ₀ R ∷ MutSlice (named 1) κ₁ N4 ∷ MutSlice (named 2) κ₂ F4 ∷ MutSlice (named 3) κ₃ Z4 ∷ MutSlice (named 4) κ₄ u64 ∷ MutSlice (named 5) κ₅ N2 ∷ MutSlice (named 6) κ₆ F2 ∷ MutSlice (named 7) κ₇ N2 ∷ PR ∷ u32 ∷ []) x at) ∷ []) ∵ enter ! (𝓣 .C) (𝓣 .Λ) code.function (s₀ ∷ s₁ ∷ s₂ ∷ s₃ ∷ s₄ ∷ s₅ ∷ s₆ ∷ s₇ ∷ pval v₀ ∷ vint w32 v₁ ∷ []) _ $
         alloc1 ! (λ l₀. alloc1 ! (λ l₁. alloc1 ! (λ l₂. alloc1 ! (λ l₃. alloc1 ! (λ l₄. alloc1 ! (λ l₅. alloc1 ! (λ l₆. alloc1 ! (λ l₇. alloc1 ! (λ l₈. alloc1 ! (λ l₉. alloc1 ! (λ l₁₀. alloc1 ! (λ l₁₁. alloc1 ! (λ l₁₂. alloc1 ! (λ l₁₃. alloc1 ! (λ l₁₄. alloc1 ! (λ l₁₅. alloc1 ! (λ l₁₆. alloc1 ! (λ l₁₇. alloc1 ! (λ l₁₈. alloc1 ! (λ l₁₉. alloc1 ! (λ l₂₀. alloc1 ! (λ l₂₁. alloc1 ! (λ l₂₂. alloc1 ! (λ l₂₃. alloc1 ! (λ l₂₄. alloc1 ! (λ l₂₅. alloc1 ! (λ l₂₆. alloc1 ! (λ l₂₇. alloc1 ! (λ l₂₈. alloc1 ! (λ l₂₉. alloc1 ! (λ l₃₀. alloc1 ! (λ l₃₁. alloc1 ! (λ l₃₂. alloc1 ! (λ l₃₃. alloc1 ! (λ l₃₄. alloc1 ! (λ l₃₅. alloc1 ! (λ l₃₆. alloc1 ! (λ l₃₇. alloc1 ! (λ l₃₈. alloc1 ! (λ l₃₉. alloc1 ! (λ l₄₀. alloc1 ! (λ l₄₁. alloc1 ! (λ l₄₂. alloc1 ! (λ l₄₃. alloc0 ! $ params1 ! $
         pass1 ! (init ! 84 refl (tt, (tt, (record { fits = room₀ .0 }, tt)))) $ pass1 ! (init ! 82 refl (tt, (tt, (record { fits = room₁ .0 }, tt)))) $ pass1 ! (init ! 80 refl (tt, (tt, (record { fits = room₂ .0 }, tt)))) $ pass1 ! (init ! 78 refl (tt, (tt, (record { fits = room₃ .0 }, tt)))) $ pass1 ! (init ! 76 refl (tt, (tt, (record { fits = room₄ .0 }, tt)))) $ pass1 ! (init ! 74 refl (tt, (tt, (record { fits = room₅ .0 }, tt)))) $ pass1 ! (init ! 72 refl (tt, (tt, (record { fits = room₆ .0 }, tt)))) $ pass1 ! (init ! 70 refl (tt, (tt, (record { fits = room₇ .0 }, tt)))) $ pass1 ! (init ! 68 refl (LL.lawful PT.the-type PT′.the-laws 𝓤 H A W .typed v₀ _ g₀ .0)) $ pass1 ! (init ! 66 refl (tt, record { fits = g₁ })) $ pass0 ! $
-        move ! (89 ∷ []) $ fsplit ! $ move ! (1 ∷ []) $ fsplit ! $ move ! (1 ∷ []) $ fsplit ! $ move ! (1 ∷ []) $ fsplit ! $ move ! (1 ∷ []) $ fsplit ! $ move ! (1 ∷ []) $ fsplit ! $ move ! (1 ∷ []) $ fsplit ! $ move ! (1 ∷ []) $ fsplit ! $ move ! (97 ∷ []) $ split ! $ move ! (1 ∷ []) $ split ! $ move ! (1 ∷ []) $ split ! $ move ! (1 ∷ []) $ split ! $ move ! (1 ∷ []) $ split ! $ move ! (1 ∷ []) $ split ! $ move ! (1 ∷ []) $ split ! $ move ! (1 ∷ []) $ split ! $ keep ! (17 ∷ 8 ∷ 16 ∷ 7 ∷ 15 ∷ 6 ∷ 14 ∷ 5 ∷ 13 ∷ 4 ∷ 12 ∷ 3 ∷ 11 ∷ 2 ∷ 9 ∷ 0 ∷ 10 ∷ 18 ∷ 19 ∷ 20 ∷ 21 ∷ 22 ∷ 23 ∷ 24 ∷ 25 ∷ 26 ∷ 27 ∷ 28 ∷ 29 ∷ 30 ∷ 31 ∷ 32 ∷ 33 ∷ 34 ∷ 35 ∷ 36 ∷ 37 ∷ 38 ∷ 39 ∷ 40 ∷ 41 ∷ 42 ∷ 43 ∷ 44 ∷ 45 ∷ 46 ∷ 47 ∷ 48 ∷ 49 ∷ 50 ∷ 51 ∷ 52 ∷ 53 ∷ 54 ∷ 55 ∷ 56 ∷ 57 ∷ 58 ∷ 59 ∷ 60 ∷ 61 ∷ 62 ∷ 63 ∷ 64 ∷ 65 ∷ 66 ∷ 67 ∷ 68 ∷ 69 ∷ 70 ∷ 71 ∷ 72 ∷ 73 ∷ 74 ∷ 75 ∷ 76 ∷ 77 ∷ 78 ∷ 79 ∷ 80 ∷ 81 ∷ 82 ∷ 83 ∷ 84 ∷ 85 ∷ 86 ∷ 87 ∷ 88 ∷ 89 ∷ 90 ∷ 91 ∷ 92 ∷ 93 ∷ 94 ∷ 95 ∷ 96 ∷ 97 ∷ 98 ∷ 99 ∷ 100 ∷ 101 ∷ 102 ∷ 103 ∷ 104 ∷ 105 ∷ []) $ 
+        move ! (89 ∷ []) $ fsplit ! $ move ! (1 ∷ []) $ fsplit ! $ move ! (1 ∷ []) $ fsplit ! $ move ! (1 ∷ []) $ fsplit ! $ move ! (1 ∷ []) $ fsplit ! $ move ! (1 ∷ []) $ fsplit ! $ move ! (1 ∷ []) $ fsplit ! $ move ! (1 ∷ []) $ fsplit ! $ move ! (97 ∷ []) $ split ! $ move ! (1 ∷ []) $ split ! $ move ! (1 ∷ []) $ split ! $ move ! (1 ∷ []) $ split ! $ move ! (1 ∷ []) $ split ! $ move ! (1 ∷ []) $ split ! $ move ! (1 ∷ []) $ split ! $ move ! (1 ∷ []) $ split ! $ keep ! (17 ∷ 8 ∷ 16 ∷ 7 ∷ 15 ∷ 6 ∷ 14 ∷ 5 ∷ 13 ∷ 4 ∷ 12 ∷ 3 ∷ 11 ∷ 2 ∷ 9 ∷ 0 ∷ 10 ∷ 18 ∷ 19 ∷ 20 ∷ 21 ∷ 22 ∷ 23 ∷ 24 ∷ 25 ∷ 26 ∷ 27 ∷ 28 ∷ 29 ∷ 30 ∷ 31 ∷ 32 ∷ 33 ∷ 34 ∷ 35 ∷ 36 ∷ 37 ∷ 38 ∷ 39 ∷ 40 ∷ 41 ∷ 42 ∷ 43 ∷ 44 ∷ 45 ∷ 46 ∷ 47 ∷ 48 ∷ 49 ∷ 50 ∷ 51 ∷ 52 ∷ 53 ∷ 54 ∷ 55 ∷ 56 ∷ 57 ∷ 58 ∷ 59 ∷ 60 ∷ 61 ∷ 62 ∷ 63 ∷ 64 ∷ 65 ∷ 66 ∷ 67 ∷ 68 ∷ 69 ∷ 70 ∷ 71 ∷ 72 ∷ 73 ∷ 74 ∷ 75 ∷ 76 ∷ 77 ∷ 78 ∷ 79 ∷ 80 ∷ 81 ∷ 82 ∷ 83 ∷ 84 ∷ 85 ∷ 86 ∷ 87 ∷ 88 ∷ 89 ∷ 90 ∷ 91 ∷ 92 ∷ 93 ∷ 94 ∷ 95 ∷ 96 ∷ 97 ∷ 98 ∷ 99 ∷ 100 ∷ 101 ∷ 102 ∷ 103 ∷ 104 ∷ 105 ∷ []) $
         assigns ! (addr ! (from ! (fld ! refl (hop ! (look-in ! 101 (sub ! 0 refl (whole !))) (stop !))))) (from ! (stop !)) (init ! 75 refl (tt, tt)) $
         assigns ! (agg ! (and-then ! (load ! (from ! (stop !)) (look ! 75 refl)) (and-then ! (load ! (from ! (fld ! refl (stop !))) (look-in ! 101 (sub ! 1 refl (whole !)))) (no-more !)))) (from ! (stop !)) (init ! 73 refl (tt, (tt, (record { fits = room₀ .0 }, tt)))) $
         assigns ! (addr ! (from ! (fld ! refl (hop ! (look-in ! 99 (sub ! 0 refl (whole !))) (stop !))))) (from ! (stop !)) (init ! 71 refl (tt, tt)) $
@@ -154,7 +154,7 @@ module _ {M : Type 1} (𝓤 : URA M) (H : Heap 𝓤) (A : Atoms 𝓤) (W : Given
         assigns ! (agg ! (and-then ! (load ! (from ! (stop !)) (look ! 67 refl)) (and-then ! (load ! (from ! (fld ! refl (stop !))) (look-in ! 97 (sub ! 1 refl (whole !)))) (no-more !)))) (from ! (stop !)) (init ! 65 refl (tt, (tt, (record { fits = room₂ .0 }, tt)))) $
         assigns ! (addr ! (from ! (fld ! refl (hop ! (look-in ! 95 (sub ! 0 refl (whole !))) (stop !))))) (from ! (stop !)) (init ! 63 refl (tt, tt)) $
         assigns ! (agg ! (and-then ! (load ! (from ! (stop !)) (look ! 63 refl)) (and-then ! (load ! (from ! (fld ! refl (stop !))) (look-in ! 95 (sub ! 1 refl (whole !)))) (no-more !)))) (from ! (stop !)) (init ! 61 refl (tt, (tt, (record { fits = room₃ .0 }, tt)))) $
-        calls-spread ! mem run (fmOf 𝓤 H (W .laws) 𝓣) m-spread (named 0) γ₀ b₀ o₀ (y₀) (length y₀) (named 1) γ₁ b₁ o₁ (y₁) (length y₁) (named 2) γ₂ b₂ o₂ (y₂) (length y₂) (named 3) γ₃ b₃ o₃ (y₃) (length y₃)  (refl) (refl) (refl) (refl) room₀ room₁ room₂ room₃   (λ i₀ i₁ i₂ i₃ i₄. (and-then ! (load ! (from ! (stop !)) (look ! 70 refl)) (and-then ! (load ! (from ! (stop !)) (look ! 66 refl)) (and-then ! (load ! (from ! (stop !)) (look ! 62 refl)) (and-then ! (load ! (from ! (stop !)) (look ! 58 refl)) (no-more !)))))) (
+        calls-spread ! mem run (fmOf 𝓤 H (W .laws) 𝓣) m-spread (named 0) γ₀ b₀ o₀ (y₀) (length y₀) (named 1) γ₁ b₁ o₁ (y₁) (length y₁) (named 2) γ₂ b₂ o₂ (y₂) (length y₂) (named 3) γ₃ b₃ o₃ (y₃) (length y₃) (refl) (refl) (refl) (refl) room₀ room₁ room₂ room₃ (λ i₀ i₁ i₂ i₃ i₄. (and-then ! (load ! (from ! (stop !)) (look ! 70 refl)) (and-then ! (load ! (from ! (stop !)) (look ! 66 refl)) (and-then ! (load ! (from ! (stop !)) (look ! 62 refl)) (and-then ! (load ! (from ! (stop !)) (look ! 58 refl)) (no-more !)))))) (
         land ! (from ! (stop !)) (init ! 77 refl (tt, tt)) $
         assigns ! (of-opd ! (load ! (from ! (fld ! refl (stop !))) (look-in ! 101 (sub ! 1 refl (whole !))))) (from ! (stop !)) (init ! 81 refl (tt, record { fits = room₀ .0 })) $
         assigns ! (addr ! (from ! (fld ! refl (hop ! (look-in ! 99 (sub ! 0 refl (whole !))) (stop !))))) (from ! (stop !)) (init ! 59 refl (tt, tt)) $
@@ -171,7 +171,7 @@ module _ {M : Type 1} (𝓤 : URA M) (H : Heap 𝓤) (A : Atoms 𝓤) (W : Given
         assigns ! (agg ! (and-then ! (load ! (from ! (stop !)) (look ! 39 refl)) (and-then ! (load ! (from ! (fld ! refl (stop !))) (look-in ! 89 (sub ! 1 refl (whole !)))) (no-more !)))) (from ! (stop !)) (init ! 37 refl (tt, (tt, (record { fits = room₆ .0 }, tt)))) $
         assigns ! (addr ! (from ! (fld ! refl (hop ! (look-in ! 87 (sub ! 0 refl (whole !))) (stop !))))) (from ! (stop !)) (init ! 35 refl (tt, tt)) $
         assigns ! (agg ! (and-then ! (load ! (from ! (stop !)) (look ! 35 refl)) (and-then ! (load ! (from ! (fld ! refl (stop !))) (look-in ! 87 (sub ! 1 refl (whole !)))) (no-more !)))) (from ! (stop !)) (init ! 33 refl (tt, (tt, (record { fits = room₇ .0 }, tt)))) $
-        move ! (2 ∷ 3 ∷ 4 ∷ 5 ∷ 6 ∷ 7 ∷ 8 ∷ 9 ∷ 10 ∷ 11 ∷ 12 ∷ 13 ∷ 14 ∷ 15 ∷ []) $ calls-insert-for ! mem run (fmOf 𝓤 H (W .laws) 𝓣) m-insert-for (named 1) γ₁ b₁ o₁ (laid numsOf y₀ y₁) (length y₁) (named 2) γ₂ b₂ o₂ (laid realsOf y₀ y₂) (length y₂) (named 3) γ₃ b₃ o₃ (laid intsOf y₀ y₃) (length y₃) (named 4) γ₄ b₄ o₄ (y₄) (length y₄) (named 5) γ₅ b₅ o₅ (y₅) (length y₅) (named 6) γ₆ b₆ o₆ (y₆) (length y₆) (named 7) γ₇ b₇ o₇ (y₇) (length y₇) (length y₀) (v₀) (v₁) (sym (laid-fit numsOf y₀ y₁)) (sym (laid-fit realsOf y₀ y₂)) (sym (laid-fit intsOf y₀ y₃)) (refl) (refl) (refl) (refl) room₁ room₂ room₃ room₄ room₅ room₆ room₇ (room₀ .0) (g₀) (g₁)  (λ i₀ i₁ i₂ i₃ i₄ i₅ i₆ i₇. (and-then ! (load ! (from ! (stop !)) (look ! 75 refl)) (and-then ! (load ! (from ! (stop !)) (look ! 51 refl)) (and-then ! (load ! (from ! (stop !)) (look ! 47 refl)) (and-then ! (load ! (from ! (stop !)) (look ! 43 refl)) (and-then ! (load ! (from ! (stop !)) (look ! 39 refl)) (and-then ! (load ! (from ! (stop !)) (look ! 35 refl)) (and-then ! (load ! (from ! (stop !)) (look ! 31 refl)) (and-then ! (load ! (from ! (stop !)) (look ! 27 refl)) (and-then ! (load ! (from ! (stop !)) (look ! 79 refl)) (and-then ! (load ! (from ! (stop !)) (look ! 77 refl)) (no-more !)))))))))))) (λ r zs n₁ n₂ n₃ n₄ n₅ n₆ n₇ eq gr.
+        move ! (2 ∷ 3 ∷ 4 ∷ 5 ∷ 6 ∷ 7 ∷ 8 ∷ 9 ∷ 10 ∷ 11 ∷ 12 ∷ 13 ∷ 14 ∷ 15 ∷ []) $ calls-insert-for ! mem run (fmOf 𝓤 H (W .laws) 𝓣) m-insert-for (named 1) γ₁ b₁ o₁ (laid numsOf y₀ y₁) (length y₁) (named 2) γ₂ b₂ o₂ (laid realsOf y₀ y₂) (length y₂) (named 3) γ₃ b₃ o₃ (laid intsOf y₀ y₃) (length y₃) (named 4) γ₄ b₄ o₄ (y₄) (length y₄) (named 5) γ₅ b₅ o₅ (y₅) (length y₅) (named 6) γ₆ b₆ o₆ (y₆) (length y₆) (named 7) γ₇ b₇ o₇ (y₇) (length y₇) (length y₀) (v₀) (v₁) (sym (laid-fit numsOf y₀ y₁)) (sym (laid-fit realsOf y₀ y₂)) (sym (laid-fit intsOf y₀ y₃)) (refl) (refl) (refl) (refl) room₁ room₂ room₃ room₄ room₅ room₆ room₇ (room₀ .0) (g₀) (g₁) (λ i₀ i₁ i₂ i₃ i₄ i₅ i₆ i₇. (and-then ! (load ! (from ! (stop !)) (look ! 75 refl)) (and-then ! (load ! (from ! (stop !)) (look ! 51 refl)) (and-then ! (load ! (from ! (stop !)) (look ! 47 refl)) (and-then ! (load ! (from ! (stop !)) (look ! 43 refl)) (and-then ! (load ! (from ! (stop !)) (look ! 39 refl)) (and-then ! (load ! (from ! (stop !)) (look ! 35 refl)) (and-then ! (load ! (from ! (stop !)) (look ! 31 refl)) (and-then ! (load ! (from ! (stop !)) (look ! 27 refl)) (and-then ! (load ! (from ! (stop !)) (look ! 79 refl)) (and-then ! (load ! (from ! (stop !)) (look ! 77 refl)) (no-more !)))))))))))) (λ r zs n₁ n₂ n₃ n₄ n₅ n₆ n₇ eq gr.
         land ! (from ! (stop !)) (init ! 79 refl (LL.lawful IT.the-type IT′.the-laws 𝓤 H A W .typed r _ gr .0)) $
         assigns ! (addr ! (from ! (fld ! refl (hop ! (look-in ! 101 (sub ! 0 refl (whole !))) (stop !))))) (from ! (stop !)) (init ! 31 refl (tt, tt)) $
         assigns ! (agg ! (and-then ! (load ! (from ! (stop !)) (look ! 31 refl)) (and-then ! (load ! (from ! (fld ! refl (stop !))) (look-in ! 101 (sub ! 1 refl (whole !)))) (no-more !)))) (from ! (stop !)) (init ! 29 refl (tt, (tt, (record { fits = room₀ .0 }, tt)))) $
@@ -181,7 +181,7 @@ module _ {M : Type 1} (𝓤 : URA M) (H : Heap 𝓤) (A : Atoms 𝓤) (W : Given
         assigns ! (agg ! (and-then ! (load ! (from ! (stop !)) (look ! 23 refl)) (and-then ! (load ! (from ! (fld ! refl (stop !))) (look-in ! 97 (sub ! 1 refl (whole !)))) (no-more !)))) (from ! (stop !)) (init ! 21 refl (tt, (tt, (record { fits = room₂ .0 }, tt)))) $
         assigns ! (addr ! (from ! (fld ! refl (hop ! (look-in ! 95 (sub ! 0 refl (whole !))) (stop !))))) (from ! (stop !)) (init ! 19 refl (tt, tt)) $
         assigns ! (agg ! (and-then ! (load ! (from ! (stop !)) (look ! 19 refl)) (and-then ! (load ! (from ! (fld ! refl (stop !))) (look-in ! 95 (sub ! 1 refl (whole !)))) (no-more !)))) (from ! (stop !)) (init ! 17 refl (tt, (tt, (record { fits = room₃ .0 }, tt)))) $
-        move ! (14 ∷ 15 ∷ 0 ∷ 1 ∷ 2 ∷ 3 ∷ 4 ∷ 5 ∷ []) $ calls-gather ! mem run (fmOf 𝓤 H (W .laws) 𝓣) m-gather (named 0) γ₀ b₀ o₀ (y₀) (length y₀) (named 1) γ₁ b₁ o₁ (zs .1 .0) (length y₁) (named 2) γ₂ b₂ o₂ (zs .1 .1 .0) (length y₂) (named 3) γ₃ b₃ o₃ (zs .1 .1 .1 .0) (length y₃)  (refl) (sym (n₁ ∙ laid-fit numsOf y₀ y₁)) (sym (n₂ ∙ laid-fit realsOf y₀ y₂)) (sym (n₃ ∙ laid-fit intsOf y₀ y₃)) room₀ room₁ room₂ room₃   (λ i₀ i₁ i₂ i₃ i₄. (and-then ! (load ! (from ! (stop !)) (look ! 26 refl)) (and-then ! (load ! (from ! (stop !)) (look ! 22 refl)) (and-then ! (load ! (from ! (stop !)) (look ! 18 refl)) (and-then ! (load ! (from ! (stop !)) (look ! 14 refl)) (no-more !)))))) (
+        move ! (14 ∷ 15 ∷ 0 ∷ 1 ∷ 2 ∷ 3 ∷ 4 ∷ 5 ∷ []) $ calls-gather ! mem run (fmOf 𝓤 H (W .laws) 𝓣) m-gather (named 0) γ₀ b₀ o₀ (y₀) (length y₀) (named 1) γ₁ b₁ o₁ (zs .1 .0) (length y₁) (named 2) γ₂ b₂ o₂ (zs .1 .1 .0) (length y₂) (named 3) γ₃ b₃ o₃ (zs .1 .1 .1 .0) (length y₃) (refl) (sym (n₁ ∙ laid-fit numsOf y₀ y₁)) (sym (n₂ ∙ laid-fit realsOf y₀ y₂)) (sym (n₃ ∙ laid-fit intsOf y₀ y₃)) room₀ room₁ room₂ room₃ (λ i₀ i₁ i₂ i₃ i₄. (and-then ! (load ! (from ! (stop !)) (look ! 26 refl)) (and-then ! (load ! (from ! (stop !)) (look ! 22 refl)) (and-then ! (load ! (from ! (stop !)) (look ! 18 refl)) (and-then ! (load ! (from ! (stop !)) (look ! 14 refl)) (no-more !)))))) (
         land ! (from ! (stop !)) (store ! 77 refl (tt, tt)) $
         assigns ! (of-opd ! (load ! (from ! (stop !)) (look ! 79 refl))) (from ! (stop !)) (init ! 103 refl (LL.lawful IT.the-type IT′.the-laws 𝓤 H A W .typed r _ gr .0)) $
         returns ! (look ! 103 refl) $

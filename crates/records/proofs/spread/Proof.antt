@@ -93,7 +93,7 @@ use Rattle.records.proofs.spread.Code.Mir as mir
 abbrev stayed : Stays (spread.ended .signature .params) (spread.ended .kept)
 stayed = (stay-none-slice (0 ∷ []) tt (plain (λ _. R)) yes, (stay-slice (1 ∷ []) tt (ArrayOf (plain (λ _. u32)) (λ _. tt) 4), (stay-slice (2 ∷ []) tt (ArrayOf (plain (λ _. f32)) (λ _. tt) 4), (stay-slice (3 ∷ []) tt (ArrayOf (plain (λ _. i32)) (λ _. tt) 4), tt))))
 
-module _ {M : Type 1} (𝓤 : URA M) (H : Heap 𝓤) (A : Atoms 𝓤) (W : Given 𝓤 H A) (mem : Memory → SProp 𝓤) (run : Routine → Fun 𝓤) (κ₀ κ₁ κ₂ κ₃ : Lft) (q₀ q₁ q₂ q₃ : Share) (b₀ o₀ : ℕ) (γ₀ : GName) (y₀ : List (Record)) (room₀ : Room R (length y₀)) (b₁ o₁ : ℕ) (γ₁ : GName) (y₁ : List (List ℕ)) (room₁ : Room N4 (length y₁)) (b₂ o₂ : ℕ) (γ₂ : GName) (y₂ : List (List Float)) (room₂ : Room F4 (length y₂)) (b₃ o₃ : ℕ) (γ₃ : GName) (y₃ : List (List ℤ)) (room₃ : Room Z4 (length y₃))  where
+module _ {M : Type 1} (𝓤 : URA M) (H : Heap 𝓤) (A : Atoms 𝓤) (W : Given 𝓤 H A) (mem : Memory → SProp 𝓤) (run : Routine → Fun 𝓤) (κ₀ κ₁ κ₂ κ₃ : Lft) (q₀ q₁ q₂ q₃ : Share) (b₀ o₀ : ℕ) (γ₀ : GName) (y₀ : List (Record)) (room₀ : Room R (length y₀)) (b₁ o₁ : ℕ) (γ₁ : GName) (y₁ : List (List ℕ)) (room₁ : Room N4 (length y₁)) (b₂ o₂ : ℕ) (γ₂ : GName) (y₂ : List (List Float)) (room₂ : Room F4 (length y₂)) (b₃ o₃ : ℕ) (γ₃ : GName) (y₃ : List (List ℤ)) (room₃ : Room Z4 (length y₃)) where
   abbrev s₀ : Val
   s₀ = sliceVal (b₀, o₀) (length y₀)
 
@@ -118,12 +118,12 @@ module _ {M : Type 1} (𝓤 : URA M) (H : Heap 𝓤) (A : Atoms 𝓤) (W : Given
   abbrev Post : Val → SProp 𝓤
   Post = walkOf 𝓤 H A spread.ended stayed (spread.clauses 𝓤 H A mem run) .post bound
 
-  abbrev left :  List (Item 𝓤)
-  left  = ‵ (ShrSlice (named 0) κ₀ R .own (to R b₀ o₀ γ₀ (y₀)) (s₀ ∷ [])) ∷ ‵ (flft κ₀ q₀) ∷ ‵ (MutSlice (named 1) κ₁ N4 .own (to N4 b₁ o₁ γ₁ (laid numsOf y₀ y₁)) (s₁ ∷ [])) ∷ ‵ (flft κ₁ q₁) ∷ ‵ (MutSlice (named 2) κ₂ F4 .own (to F4 b₂ o₂ γ₂ (laid realsOf y₀ y₂)) (s₂ ∷ [])) ∷ ‵ (flft κ₂ q₂) ∷ ‵ (MutSlice (named 3) κ₃ Z4 .own (to Z4 b₃ o₃ γ₃ (laid intsOf y₀ y₃)) (s₃ ∷ [])) ∷ ‵ (flft κ₃ q₃) ∷ []
+  abbrev left : List (Item 𝓤)
+  left = ‵ (ShrSlice (named 0) κ₀ R .own (to R b₀ o₀ γ₀ (y₀)) (s₀ ∷ [])) ∷ ‵ (flft κ₀ q₀) ∷ ‵ (MutSlice (named 1) κ₁ N4 .own (to N4 b₁ o₁ γ₁ (laid numsOf y₀ y₁)) (s₁ ∷ [])) ∷ ‵ (flft κ₁ q₁) ∷ ‵ (MutSlice (named 2) κ₂ F4 .own (to F4 b₂ o₂ γ₂ (laid realsOf y₀ y₂)) (s₂ ∷ [])) ∷ ‵ (flft κ₂ q₂) ∷ ‵ (MutSlice (named 3) κ₃ Z4 .own (to Z4 b₃ o₃ γ₃ (laid intsOf y₀ y₃)) (s₃ ∷ [])) ∷ ‵ (flft κ₃ q₃) ∷ []
 
-  exits :   ent 𝓤 (⋆ 𝓤 H A (left )) (Post (vunit))
-  exits   =
-      qed W (left ) ∵ suffices ! _ (ends-at 𝓤 H A spread.ended stayed (spread.clauses 𝓤 H A mem run) W bound (vunit) (tt) (tt, ((laid numsOf y₀ y₁), ((laid realsOf y₀ y₂), ((laid intsOf y₀ y₃), tt)))) (tt, (laid-fit numsOf y₀ y₁, (laid-fit realsOf y₀ y₂, (laid-fit intsOf y₀ y₃, tt))))) $ says ! (refl, refl, refl) $
+  exits : ent 𝓤 (⋆ 𝓤 H A (left)) (Post (vunit))
+  exits =
+      qed W (left) ∵ suffices ! _ (ends-at 𝓤 H A spread.ended stayed (spread.clauses 𝓤 H A mem run) W bound (vunit) (tt) (tt, ((laid numsOf y₀ y₁), ((laid realsOf y₀ y₂), ((laid intsOf y₀ y₃), tt)))) (tt, (laid-fit numsOf y₀ y₁, (laid-fit realsOf y₀ y₂, (laid-fit intsOf y₀ y₃, tt))))) $ says ! (refl, refl, refl) $
       nothing ! $ move ! (8 ∷ 0 ∷ []) $ join ! $ move ! (6 ∷ 0 ∷ []) $ join ! $ move ! (4 ∷ 0 ∷ []) $ join ! $ move ! (2 ∷ 0 ∷ []) $ join ! $ frame ! $ nothing ! $ move ! (4 ∷ 0 ∷ []) $ fjoin ! $ move ! (3 ∷ 0 ∷ []) $ fjoin ! $ move ! (2 ∷ 0 ∷ []) $ fjoin ! $ move ! (1 ∷ 0 ∷ []) $ fjoin ! $ frame ! $ feqI ! (List Val) (vunit ∷ []) (vunit ∷ []) refl $ done !
 
   -- ---- the loop
@@ -161,23 +161,23 @@ module _ {M : Type 1} (𝓤 : URA M) (H : Heap 𝓤) (A : Atoms 𝓤) (W : Given
         assigns ! (of-opd ! (load ! (from ! (fld ! refl (stop !))) (look-in ! 36 (sub ! 1 refl (whole !))))) (from ! (stop !)) (init ! 24 refl (tt, record { fits = room₀ .0 })) $
         assigns ! (bin ! (load ! (from ! (stop !)) (look ! 28 refl)) (load ! (from ! (stop !)) (look ! 24 refl)) tt) (from ! (stop !)) (init ! 22 refl (tt, tt)) $
         rewrite ! 22 (λ (t : Bool). ‵ (fat fullShare tyBool l₈ 0 (vbool t))) e refl $ stays ! (load ! (from ! (stop !)) (look ! 22 refl)) $
-        calls-record-at ! mem run (fmOf 𝓤 H (W .laws) 𝓣) m-record-at (named 0) γ₀ b₀ o₀ (y₀) (length y₀) (i .0)   (fits) less (λ i₀ i₁. (and-then ! (load ! (from ! (stop !)) (look ! 36 refl)) (and-then ! (load ! (from ! (stop !)) (look ! 28 refl)) (no-more !)))) (λ gr.
+        calls-record-at ! mem run (fmOf 𝓤 H (W .laws) 𝓣) m-record-at (named 0) γ₀ b₀ o₀ (y₀) (length y₀) (i .0) (fits) less (λ i₀ i₁. (and-then ! (load ! (from ! (stop !)) (look ! 36 refl)) (and-then ! (load ! (from ! (stop !)) (look ! 28 refl)) (no-more !)))) (λ gr.
         land ! (from ! (stop !)) (init ! 26 refl (LL.lawful RT.the-type RT′.the-laws 𝓤 H A W .typed (getD y₀ (i .0) noRecord) _ gr .0)) $
         assigns ! (addr ! (from ! (fld ! refl (hop ! (look-in ! 34 (sub ! 0 refl (whole !))) (stop !))))) (from ! (stop !)) (init ! 18 refl (tt, tt)) $
         assigns ! (agg ! (and-then ! (load ! (from ! (stop !)) (look ! 18 refl)) (and-then ! (load ! (from ! (fld ! refl (stop !))) (look-in ! 34 (sub ! 1 refl (whole !)))) (no-more !)))) (from ! (stop !)) (init ! 16 refl (tt, (tt, (record { fits = room₁ .0 }, tt)))) $
-        move ! (2 ∷ 3 ∷ []) $ calls-put-nums ! mem run (fmOf 𝓤 H (W .laws) 𝓣) m-put-nums (named 1) γ₁ b₁ o₁ (firstLaid numsOf y₀ y₁ (i .0)) (length y₁) (i .0) ((getD y₀ (i .0) noRecord)) (sym (laid-size numsOf y₀ y₁ (i .0))) room₁ (fits) (gr)  (λ i₀ i₁. (and-then ! (load ! (from ! (stop !)) (look ! 16 refl)) (and-then ! (load ! (from ! (stop !)) (look ! 28 refl)) (and-then ! (load ! (from ! (stop !)) (look ! 26 refl)) (no-more !))))) (
+        move ! (2 ∷ 3 ∷ []) $ calls-put-nums ! mem run (fmOf 𝓤 H (W .laws) 𝓣) m-put-nums (named 1) γ₁ b₁ o₁ (firstLaid numsOf y₀ y₁ (i .0)) (length y₁) (i .0) ((getD y₀ (i .0) noRecord)) (sym (laid-size numsOf y₀ y₁ (i .0))) room₁ (fits) (gr) (λ i₀ i₁. (and-then ! (load ! (from ! (stop !)) (look ! 16 refl)) (and-then ! (load ! (from ! (stop !)) (look ! 28 refl)) (and-then ! (load ! (from ! (stop !)) (look ! 26 refl)) (no-more !))))) (
         land ! (from ! (stop !)) (init ! 20 refl (tt, tt)) $
         assigns ! (addr ! (from ! (fld ! refl (hop ! (look-in ! 32 (sub ! 0 refl (whole !))) (stop !))))) (from ! (stop !)) (init ! 14 refl (tt, tt)) $
         assigns ! (agg ! (and-then ! (load ! (from ! (stop !)) (look ! 14 refl)) (and-then ! (load ! (from ! (fld ! refl (stop !))) (look-in ! 32 (sub ! 1 refl (whole !)))) (no-more !)))) (from ! (stop !)) (init ! 12 refl (tt, (tt, (record { fits = room₂ .0 }, tt)))) $
-        move ! (4 ∷ 5 ∷ []) $ calls-put-reals ! mem run (fmOf 𝓤 H (W .laws) 𝓣) m-put-reals (named 2) γ₂ b₂ o₂ (firstLaid realsOf y₀ y₂ (i .0)) (length y₂) (i .0) ((getD y₀ (i .0) noRecord)) (sym (laid-size realsOf y₀ y₂ (i .0))) room₂ (fits) (gr)  (λ i₀ i₁. (and-then ! (load ! (from ! (stop !)) (look ! 12 refl)) (and-then ! (load ! (from ! (stop !)) (look ! 28 refl)) (and-then ! (load ! (from ! (stop !)) (look ! 26 refl)) (no-more !))))) (
+        move ! (4 ∷ 5 ∷ []) $ calls-put-reals ! mem run (fmOf 𝓤 H (W .laws) 𝓣) m-put-reals (named 2) γ₂ b₂ o₂ (firstLaid realsOf y₀ y₂ (i .0)) (length y₂) (i .0) ((getD y₀ (i .0) noRecord)) (sym (laid-size realsOf y₀ y₂ (i .0))) room₂ (fits) (gr) (λ i₀ i₁. (and-then ! (load ! (from ! (stop !)) (look ! 12 refl)) (and-then ! (load ! (from ! (stop !)) (look ! 28 refl)) (and-then ! (load ! (from ! (stop !)) (look ! 26 refl)) (no-more !))))) (
         land ! (from ! (stop !)) (store ! 20 refl (tt, tt)) $
         assigns ! (addr ! (from ! (fld ! refl (hop ! (look-in ! 30 (sub ! 0 refl (whole !))) (stop !))))) (from ! (stop !)) (init ! 10 refl (tt, tt)) $
         assigns ! (agg ! (and-then ! (load ! (from ! (stop !)) (look ! 10 refl)) (and-then ! (load ! (from ! (fld ! refl (stop !))) (look-in ! 30 (sub ! 1 refl (whole !)))) (no-more !)))) (from ! (stop !)) (init ! 8 refl (tt, (tt, (record { fits = room₃ .0 }, tt)))) $
-        move ! (6 ∷ 7 ∷ []) $ calls-put-ints ! mem run (fmOf 𝓤 H (W .laws) 𝓣) m-put-ints (named 3) γ₃ b₃ o₃ (firstLaid intsOf y₀ y₃ (i .0)) (length y₃) (i .0) ((getD y₀ (i .0) noRecord)) (sym (laid-size intsOf y₀ y₃ (i .0))) room₃ (fits) (gr)  (λ i₀ i₁. (and-then ! (load ! (from ! (stop !)) (look ! 8 refl)) (and-then ! (load ! (from ! (stop !)) (look ! 28 refl)) (and-then ! (load ! (from ! (stop !)) (look ! 26 refl)) (no-more !))))) (
+        move ! (6 ∷ 7 ∷ []) $ calls-put-ints ! mem run (fmOf 𝓤 H (W .laws) 𝓣) m-put-ints (named 3) γ₃ b₃ o₃ (firstLaid intsOf y₀ y₃ (i .0)) (length y₃) (i .0) ((getD y₀ (i .0) noRecord)) (sym (laid-size intsOf y₀ y₃ (i .0))) room₃ (fits) (gr) (λ i₀ i₁. (and-then ! (load ! (from ! (stop !)) (look ! 8 refl)) (and-then ! (load ! (from ! (stop !)) (look ! 28 refl)) (and-then ! (load ! (from ! (stop !)) (look ! 26 refl)) (no-more !))))) (
         land ! (from ! (stop !)) (store ! 20 refl (tt, tt)) $
         assigns-last ! (bin ! (load ! (from ! (stop !)) (look ! 28 refl)) (lit ! tt) (record { fits = next-fits })) (from ! (stop !)) (store ! 28 refl (tt, record { fits = next-fits })) $
         forget ! 8 refl $ forget ! 10 refl $ forget ! 12 refl $ forget ! 14 refl $ forget ! 16 refl $ forget ! 18 refl $ forget ! 20 refl $ forget ! 22 refl $ forget ! 24 refl $ forget ! 26 refl $
-        move ! (6 ∷ 7 ∷ 4 ∷ 5 ∷ 2 ∷ 3 ∷ 0 ∷ 1 ∷ []) $ 
+        move ! (6 ∷ 7 ∷ 4 ∷ 5 ∷ 2 ∷ 3 ∷ 0 ∷ 1 ∷ []) $
         rewrite ! 2 (λ (us : List (List ℕ)). ‵ (MutSlice (named 1) κ₁ N4 .own (to N4 b₁ o₁ γ₁ us) (s₁ ∷ []))) next₁ refl $
         rewrite ! 4 (λ (us : List (List Float)). ‵ (MutSlice (named 2) κ₂ F4 .own (to F4 b₂ o₂ γ₂ us) (s₂ ∷ []))) next₂ refl $
         rewrite ! 6 (λ (us : List (List ℤ)). ‵ (MutSlice (named 3) κ₃ Z4 .own (to Z4 b₃ o₃ γ₃ us) (s₃ ∷ []))) next₃ refl $
@@ -229,7 +229,7 @@ module _ {M : Type 1} (𝓤 : URA M) (H : Heap 𝓤) (A : Atoms 𝓤) (W : Given
         alloc1 ! (λ l₀. alloc1 ! (λ l₁. alloc1 ! (λ l₂. alloc1 ! (λ l₃. alloc1 ! (λ l₄. alloc1 ! (λ l₅. alloc1 ! (λ l₆. alloc1 ! (λ l₇. alloc1 ! (λ l₈. alloc1 ! (λ l₉. alloc1 ! (λ l₁₀. alloc1 ! (λ l₁₁. alloc1 ! (λ l₁₂. alloc1 ! (λ l₁₃. alloc1 ! (λ l₁₄. alloc1 ! (λ l₁₅. alloc0 ! $ params1 ! $
         pass1 ! (init ! 28 refl (tt, (tt, (record { fits = room₀ .0 }, tt)))) $ pass1 ! (init ! 26 refl (tt, (tt, (record { fits = room₁ .0 }, tt)))) $ pass1 ! (init ! 24 refl (tt, (tt, (record { fits = room₂ .0 }, tt)))) $ pass1 ! (init ! 22 refl (tt, (tt, (record { fits = room₃ .0 }, tt)))) $ pass0 ! $
         assigns ! (of-opd ! (lit ! tt)) (from ! (stop !)) (init ! 20 refl (tt, record { fits = lit< tt })) $
-        move ! (33 ∷ []) $ fsplit ! $ move ! (1 ∷ []) $ fsplit ! $ move ! (1 ∷ []) $ fsplit ! $ move ! (1 ∷ []) $ fsplit ! $ move ! (37 ∷ []) $ split ! $ move ! (1 ∷ []) $ split ! $ move ! (1 ∷ []) $ split ! $ move ! (1 ∷ []) $ split ! $ keep ! (9 ∷ 4 ∷ 8 ∷ 3 ∷ 7 ∷ 2 ∷ 5 ∷ 0 ∷ 10 ∷ 11 ∷ 12 ∷ 13 ∷ 14 ∷ 15 ∷ 16 ∷ 17 ∷ 18 ∷ 19 ∷ 20 ∷ 21 ∷ 22 ∷ 23 ∷ 24 ∷ 25 ∷ 26 ∷ 27 ∷ 28 ∷ 29 ∷ 30 ∷ 31 ∷ 32 ∷ 33 ∷ 34 ∷ 35 ∷ 36 ∷ 37 ∷ 38 ∷ 39 ∷ 40 ∷ 41 ∷ []) $ 
+        move ! (33 ∷ []) $ fsplit ! $ move ! (1 ∷ []) $ fsplit ! $ move ! (1 ∷ []) $ fsplit ! $ move ! (1 ∷ []) $ fsplit ! $ move ! (37 ∷ []) $ split ! $ move ! (1 ∷ []) $ split ! $ move ! (1 ∷ []) $ split ! $ move ! (1 ∷ []) $ split ! $ keep ! (9 ∷ 4 ∷ 8 ∷ 3 ∷ 7 ∷ 2 ∷ 5 ∷ 0 ∷ 10 ∷ 11 ∷ 12 ∷ 13 ∷ 14 ∷ 15 ∷ 16 ∷ 17 ∷ 18 ∷ 19 ∷ 20 ∷ 21 ∷ 22 ∷ 23 ∷ 24 ∷ 25 ∷ 26 ∷ 27 ∷ 28 ∷ 29 ∷ 30 ∷ 31 ∷ 32 ∷ 33 ∷ 34 ∷ 35 ∷ 36 ∷ 37 ∷ 38 ∷ 39 ∷ 40 ∷ 41 ∷ []) $
         rewrite ! 2 (λ (us : List (List ℕ)). ‵ (MutSlice (named 1) κ₁ N4 .own (to N4 b₁ o₁ γ₁ us) (s₁ ∷ []))) (sym (laid-0 numsOf y₀ y₁)) refl $
         rewrite ! 4 (λ (us : List (List Float)). ‵ (MutSlice (named 2) κ₂ F4 .own (to F4 b₂ o₂ γ₂ us) (s₂ ∷ []))) (sym (laid-0 realsOf y₀ y₂)) refl $
         rewrite ! 6 (λ (us : List (List ℤ)). ‵ (MutSlice (named 3) κ₃ Z4 .own (to Z4 b₃ o₃ γ₃ us) (s₃ ∷ []))) (sym (laid-0 intsOf y₀ y₃)) refl $
@@ -238,7 +238,7 @@ module _ {M : Type 1} (𝓤 : URA M) (H : Heap 𝓤) (A : Atoms 𝓤) (W : Given
 module _ {M : Type 1} (𝓤 : URA M) (H : Heap 𝓤) (A : Atoms 𝓤) (W : Given 𝓤 H A) (mem : Memory → SProp 𝓤) (run : Routine → Fun 𝓤) (𝓣 : Tables 𝓤 H) (m-record-at : Triple 𝓤 (𝓣 .C #records·record-at) (RecordAt 𝓤 H A mem run)) (m-put-nums : Triple 𝓤 (𝓣 .C #records·put-nums) (PutNums 𝓤 H A mem run)) (m-put-reals : Triple 𝓤 (𝓣 .C #records·put-reals) (PutReals 𝓤 H A mem run)) (m-put-ints : Triple 𝓤 (𝓣 .C #records·put-ints) (PutInts 𝓤 H A mem run)) where
   spread-walks : Walks 𝓤 H A spread.ended stayed (WpFn 𝓤 H (𝓣 .C) (𝓣 .Λ) code.function) (spread.clauses 𝓤 H A mem run)
   spread-walks = walked 𝓤 H A spread.ended stayed (spread.clauses 𝓤 H A mem run) (WpFn 𝓤 H (𝓣 .C) (𝓣 .Λ) code.function) (λ κs. (slice-vals, (slice-vals, (slice-vals, (slice-vals, tt))))) (λ κs. (shr-slice-tells (named 0) (κs .0) R, (mut-slice-tells (named 1) (κs .1 .0) N4, (mut-slice-tells (named 2) (κs .1 .1 .0) F4, (mut-slice-tells (named 3) (κs .1 .1 .1 .0) Z4, tt)))))
-      (λ κs qs bounds a g are. via 𝓤 _ (fst∗ 𝓤 _ (emp 𝓤)) (walk 𝓤 H A W mem run (κs .0) (κs .1 .0) (κs .1 .1 .0) (κs .1 .1 .1 .0) (qs .0) (qs .1 .0) (qs .1 .1 .0) (qs .1 .1 .1 .0) (a .0 .ptr .0) (a .0 .ptr .1) (a .0 .name) (a .0 .now) (are .0 .0 .1) (a .1 .0 .ptr .0) (a .1 .0 .ptr .1) (a .1 .0 .name) (a .1 .0 .now) (are .1 .0 .0 .1) (a .1 .1 .0 .ptr .0) (a .1 .1 .0 .ptr .1) (a .1 .1 .0 .name) (a .1 .1 .0 .now) (are .1 .1 .0 .0 .1) (a .1 .1 .1 .0 .ptr .0) (a .1 .1 .1 .0 .ptr .1) (a .1 .1 .1 .0 .name) (a .1 .1 .1 .0 .now) (are .1 .1 .1 .0 .0 .1)  𝓣 m-record-at m-put-nums m-put-reals m-put-ints))
+      (λ κs qs bounds a g are. via 𝓤 _ (fst∗ 𝓤 _ (emp 𝓤)) (walk 𝓤 H A W mem run (κs .0) (κs .1 .0) (κs .1 .1 .0) (κs .1 .1 .1 .0) (qs .0) (qs .1 .0) (qs .1 .1 .0) (qs .1 .1 .1 .0) (a .0 .ptr .0) (a .0 .ptr .1) (a .0 .name) (a .0 .now) (are .0 .0 .1) (a .1 .0 .ptr .0) (a .1 .0 .ptr .1) (a .1 .0 .name) (a .1 .0 .now) (are .1 .0 .0 .1) (a .1 .1 .0 .ptr .0) (a .1 .1 .0 .ptr .1) (a .1 .1 .0 .name) (a .1 .1 .0 .now) (are .1 .1 .0 .0 .1) (a .1 .1 .1 .0 .ptr .0) (a .1 .1 .1 .0 .ptr .1) (a .1 .1 .1 .0 .name) (a .1 .1 .1 .0 .now) (are .1 .1 .1 .0 .0 .1) 𝓣 m-record-at m-put-nums m-put-reals m-put-ints))
 
   spread-meets : Meets 𝓤 H A spread.signature (WpFn 𝓤 H (𝓣 .C) (𝓣 .Λ) code.function) (spread.spec 𝓤 H A mem run)
   spread-meets = walk-meets 𝓤 H A spread.ended stayed W (goes-none-slice 𝓤 H A W 4 (0 ∷ []) tt (plain (λ _. R)) yes, (goes-slice 𝓤 H A W 4 1 tt (ArrayOf (plain (λ _. u32)) (λ _. tt) 4), (goes-slice 𝓤 H A W 4 2 tt (ArrayOf (plain (λ _. f32)) (λ _. tt) 4), (goes-slice 𝓤 H A W 4 3 tt (ArrayOf (plain (λ _. i32)) (λ _. tt) 4), tt)))) (spread.clauses 𝓤 H A mem run) (WpFn 𝓤 H (𝓣 .C) (𝓣 .Λ) code.function) (WpFn-mono 𝓤 H (W .laws) 𝓣 code.function) spread-walks

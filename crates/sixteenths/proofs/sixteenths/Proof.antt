@@ -11,9 +11,6 @@ use Rattle.sixteenths.specs.Sixteenth.{sixteenthsOf}
 use Rattle.sixteenths.proofs.sixteenths.Statement.{statement}
 use Rattle.sixteenths.proofs.sixteenths.Tie as tie
 
-whole-requires : tie.Need-whole-requires
-whole-requires c κs = search needs
-
 returns : tie.Need-returns
 unfolding sixteenthsOf ofBits
 returns c =
@@ -22,4 +19,4 @@ returns c =
     toZ-ofZ w32 (c .whole .result) f ∙ c .whole .ensures
 
 pub sixteenths-spec : {M : Type 1} → statement M
-sixteenths-spec = tie.close (tie.spec whole-requires returns)
+sixteenths-spec = tie.close (tie.spec (λ c κs. search needs) returns)

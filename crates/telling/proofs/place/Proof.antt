@@ -7,12 +7,6 @@ use Rattle.sixteenths.specs.Sixteenth.{sixteenth}
 use Rattle.telling.proofs.place.Statement.{statement}
 use Rattle.telling.proofs.place.Tie as tie
 
-from-sixteenths-requires : tie.Need-from-sixteenths-requires
-from-sixteenths-requires c κs = search needs
-
-from-sixteenths-requires-2 : tie.Need-from-sixteenths-requires-2
-from-sixteenths-requires-2 c κs = search needs
-
 returns : tie.Need-returns
 returns c =
     let s = c .before .before .before .before .args .s in
@@ -21,4 +15,4 @@ returns c =
     λ z. record { x = x z; y = y z }
 
 pub place-spec : {M : Type 1} → statement M
-place-spec = tie.close (tie.spec from-sixteenths-requires from-sixteenths-requires-2 returns)
+place-spec = tie.close (tie.spec (λ c κs. search needs) (λ c κs. search needs) returns)

@@ -11,11 +11,5 @@ slice-aggregate-next-record c =
     let s = c .before .before .before in
     sym (length-take-le (s .args .p .have) (s .args .block .now) (omega (arith, c .before .before .all .given, s .pre)))
 
-next-record-requires : tie.Need-next-record-requires
-next-record-requires c κs = search needs
-
-returns : tie.Need-returns
-returns c = search needs
-
 pub seek-spec : {M : Type 1} → statement M
-seek-spec = tie.close (tie.spec slice-aggregate-next-record next-record-requires returns)
+seek-spec = tie.close (tie.spec slice-aggregate-next-record (λ c κs. search needs) (λ c. search needs))

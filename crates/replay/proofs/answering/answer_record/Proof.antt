@@ -16,18 +16,6 @@ use Rattle.replay.proofs.answering.answer_record.Tie as tie
 read-requires : tie.Need-read-requires
 read-requires c κs = tt
 
-slice-aggregate-answer : tie.Need-slice-aggregate-answer
-slice-aggregate-answer c = search needs
-
-slice-aggregate-answer-2 : tie.Need-slice-aggregate-answer-2
-slice-aggregate-answer-2 c = search needs
-
-slice-aggregate-answer-3 : tie.Need-slice-aggregate-answer-3
-slice-aggregate-answer-3 c = search needs
-
-slice-aggregate-answer-4 : tie.Need-slice-aggregate-answer-4
-slice-aggregate-answer-4 c = search needs
-
 answer-requires : tie.Need-answer-requires
 answer-requires c κs =
     let r = c .before .before .before .before .before .before .before .before .before .before .before .before .before .before .before in
@@ -104,10 +92,10 @@ answer-record-spec =
     tie.close
     (tie.spec
     read-requires
-    slice-aggregate-answer
-    slice-aggregate-answer-2
-    slice-aggregate-answer-3
-    slice-aggregate-answer-4
+    (λ c. search needs)
+    (λ c. search needs)
+    (λ c. search needs)
+    (λ c. search needs)
     answer-requires
     slice-aggregate-put-record
     slice-aggregate-put-record-2
