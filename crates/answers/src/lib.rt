@@ -79,7 +79,7 @@ pub fn cell(
     bpool: &[[u64; 2]],
     size: u32,
 ) -> Said
-    ensures { λ said. ⌜ built said (Points.lent (nums .exit) (reals .entry) (ints .entry) (map .exit) (pool .entry) (spots .entry) (cells .entry)) (Boxes.lent (bnums .exit) (breals .entry) (bmap .exit) (bpool .entry)) ≡ cellOf (Points.lent (nums .entry) (reals .entry) (ints .entry) (map .entry) (pool .entry) (spots .entry) (cells .entry)) (Boxes.lent (bnums .entry) (breals .entry) (bmap .entry) (bpool .entry)) size ⌝ }
+    ensures { λ said. ⌜ built said (Points.after nums reals ints map pool spots cells) (Boxes.after bnums breals bmap bpool) ≡ cellOf (Points.before nums reals ints map pool spots cells) (Boxes.before bnums breals bmap bpool) size ⌝ }
 {
     let a = points::new(nums, reals, ints, map, pool, spots, cells, size);
     let b = boxes::new(bnums, breals, bmap, bpool, size);
@@ -100,7 +100,7 @@ fn answer_points(
     r: Request,
 ) -> Said
     requires { ⌜ InRange r ⌝ }
-    ensures { λ said. ⌜ onPoints said (Points.lent (nums .exit) (reals .exit) (ints .exit) (map .exit) (pool .exit) (spots .exit) (cells .exit)) (now (handles .exit)) (now (places .exit)) ≡ pointsOf (Points.lent (nums .entry) (reals .entry) (ints .entry) (map .entry) (pool .entry) (spots .entry) (cells .entry)) r (now (handles .entry)) (now (places .entry)) ⌝ }
+    ensures { λ said. ⌜ onPoints said (Points.after nums reals ints map pool spots cells) (now (handles .exit)) (now (places .exit)) ≡ pointsOf (Points.before nums reals ints map pool spots cells) r (now (handles .entry)) (now (places .entry)) ⌝ }
 {
     if searches_points(r) {
         return point_answers::search_points(
@@ -131,7 +131,7 @@ fn answer_boxes(
     r: Request,
 ) -> Said
     requires { ⌜ InRange r ⌝ }
-    ensures { λ said. ⌜ onBoxes said (Boxes.lent (bnums .exit) (breals .exit) (bmap .exit) (bpool .exit)) (now (handles .exit)) (now (corners .exit)) (now (objs .exit)) ≡ boxesOf (Boxes.lent (bnums .entry) (breals .entry) (bmap .entry) (bpool .entry)) r (now (handles .entry)) (now (corners .entry)) (now (objs .entry)) ⌝ }
+    ensures { λ said. ⌜ onBoxes said (Boxes.after bnums breals bmap bpool) (now (handles .exit)) (now (corners .exit)) (now (objs .exit)) ≡ boxesOf (Boxes.before bnums breals bmap bpool) r (now (handles .entry)) (now (corners .entry)) (now (objs .entry)) ⌝ }
 {
     if searches_boxes(r) {
         return box_answers::search_boxes(bnums, breals, bmap, bpool, r, handles, corners, objs);
@@ -159,7 +159,7 @@ pub fn answer(
     r: Request,
 ) -> Said
     requires { ⌜ InRange r ⌝ }
-    ensures { λ said. ⌜ answered said (state (Points.lent (nums .exit) (reals .exit) (ints .exit) (map .exit) (pool .exit) (spots .exit) (cells .exit)) (Boxes.lent (bnums .exit) (breals .exit) (bmap .exit) (bpool .exit)) (now (handles .exit)) (now (places .exit)) (now (corners .exit)) (now (objs .exit))) ≡ answerOf (state (Points.lent (nums .entry) (reals .entry) (ints .entry) (map .entry) (pool .entry) (spots .entry) (cells .entry)) (Boxes.lent (bnums .entry) (breals .entry) (bmap .entry) (bpool .entry)) (now (handles .entry)) (now (places .entry)) (now (corners .entry)) (now (objs .entry))) r ⌝ }
+    ensures { λ said. ⌜ answered said (state (Points.after nums reals ints map pool spots cells) (Boxes.after bnums breals bmap bpool) (now (handles .exit)) (now (places .exit)) (now (corners .exit)) (now (objs .exit))) ≡ answerOf (state (Points.before nums reals ints map pool spots cells) (Boxes.before bnums breals bmap bpool) (now (handles .entry)) (now (places .entry)) (now (corners .entry)) (now (objs .entry))) r ⌝ }
 {
     let part = part_of(r);
     if part == 0 {

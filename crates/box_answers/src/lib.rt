@@ -1,7 +1,7 @@
 // What the box grid of the trace answers to a request: each is one call of the grid.
 ghost use mathlib.Core.Path.{_≡_};
 ghost use Rattle.lines.specs.Texts.{SpotInRange};
-ghost use Rattle.box_tables.specs.Lent.{lent};
+ghost use Rattle.box_tables.specs.Lent.{after, before};
 ghost use Rattle.box_tables.specs.Outcome.{outcome};
 ghost use Rattle.telling.specs.InRange.{InRange};
 ghost use Rattle.box_answers.specs.Changes.{changeOf, insertedOf, placedOf, takenOf};
@@ -21,7 +21,7 @@ fn bin(
     obj: u32,
 ) -> Said
     requires { ⌜ SpotInRange ll × SpotInRange ur ⌝ }
-    ensures { λ r. ⌜ outcome r (lent (nums .exit) (reals .exit) (map .exit) (pool .exit)) ≡ insertedOf (lent (nums .entry) (reals .entry) (map .entry) (pool .entry)) ll ur obj ⌝ }
+    ensures { λ r. ⌜ outcome r (after nums reals map pool) ≡ insertedOf (before nums reals map pool) ll ur obj ⌝ }
 {
     let b = telling::corners(ll, ur);
     let r = boxes::insert(nums, reals, map, pool, b, obj);
@@ -39,7 +39,7 @@ fn bset(
     ur: Spot,
 ) -> Said
     requires { ⌜ SpotInRange ll × SpotInRange ur ⌝ }
-    ensures { λ r. ⌜ outcome r (lent (nums .entry) (reals .exit) (map .exit) (pool .exit)) ≡ placedOf (lent (nums .entry) (reals .entry) (map .entry) (pool .entry)) h ll ur ⌝ }
+    ensures { λ r. ⌜ outcome r (after nums reals map pool) ≡ placedOf (before nums reals map pool) h ll ur ⌝ }
 {
     let b = telling::corners(ll, ur);
     let answer = boxes::set_aabb(nums, reals, map, pool, h, b);
@@ -53,7 +53,7 @@ fn brem(
     pool: &mut [[u64; 2]],
     h: Handle,
 ) -> Said
-    ensures { λ r. ⌜ outcome r (lent (nums .exit) (reals .entry) (map .exit) (pool .exit)) ≡ takenOf (lent (nums .entry) (reals .entry) (map .entry) (pool .entry)) h ⌝ }
+    ensures { λ r. ⌜ outcome r (after nums reals map pool) ≡ takenOf (before nums reals map pool) h ⌝ }
 {
     let r = boxes::remove(nums, reals, map, pool, h);
     telling::one(r.answer, r.obj)
@@ -68,7 +68,7 @@ pub fn change_boxes(
     r: Request,
 ) -> Said
     requires { ⌜ InRange r ⌝ }
-    ensures { λ said. ⌜ outcome said (lent (nums .exit) (reals .exit) (map .exit) (pool .exit)) ≡ changeOf (lent (nums .entry) (reals .entry) (map .entry) (pool .entry)) r ⌝ }
+    ensures { λ said. ⌜ outcome said (after nums reals map pool) ≡ changeOf (before nums reals map pool) r ⌝ }
 {
     match r {
         Request::Bin(ll, ur, obj) => bin(nums, reals, map, pool, ll, ur, obj),
@@ -90,7 +90,7 @@ fn bqry(
     objs: &mut [u32],
 ) -> Said
     requires { ⌜ SpotInRange ll × SpotInRange ur ⌝ }
-    ensures { λ r. ⌜ searched r (now (handles .exit)) (now (corners .exit)) (now (objs .exit)) ≡ meetingIn (lent (nums .entry) (reals .entry) (map .entry) (pool .entry)) ll ur (now (handles .entry)) (now (corners .entry)) (now (objs .entry)) ⌝ }
+    ensures { λ r. ⌜ searched r (now (handles .exit)) (now (corners .exit)) (now (objs .exit)) ≡ meetingIn (before nums reals map pool) ll ur (now (handles .entry)) (now (corners .entry)) (now (objs .entry)) ⌝ }
 {
     let q = telling::corners(ll, ur);
     let r = boxes::query(nums, reals, map, pool, q, handles, corners, objs);
@@ -109,7 +109,7 @@ pub fn search_boxes(
     objs: &mut [u32],
 ) -> Said
     requires { ⌜ InRange r ⌝ }
-    ensures { λ said. ⌜ searched said (now (handles .exit)) (now (corners .exit)) (now (objs .exit)) ≡ searchOf (lent (nums .entry) (reals .entry) (map .entry) (pool .entry)) r (now (handles .entry)) (now (corners .entry)) (now (objs .entry)) ⌝ }
+    ensures { λ said. ⌜ searched said (now (handles .exit)) (now (corners .exit)) (now (objs .exit)) ≡ searchOf (before nums reals map pool) r (now (handles .entry)) (now (corners .entry)) (now (objs .entry)) ⌝ }
 {
     match r {
         Request::Bqry(ll, ur) => bqry(nums, reals, map, pool, ll, ur, handles, corners, objs),

@@ -2,7 +2,7 @@
 ghost use mathlib.Core.Path.{_≡_};
 ghost use lib.ListN.{set};
 ghost use Rattle.box_tables.specs.Decide.{holds};
-ghost use Rattle.box_tables.specs.Lent.{lent};
+ghost use Rattle.box_tables.specs.Lent.{after, before, lent};
 ghost use Rattle.box_tables.specs.Outcome.{outcome};
 ghost use Rattle.box_tables.specs.Tables.{cornersOf};
 ghost use Rattle.box_changes.specs.SetAabb.{setAabbAnswer, setAabbOf};
@@ -22,7 +22,7 @@ fn answer(
     b: Aabb,
 ) -> u32
     requires { ⌜ held ≡ holds (lent nums reals map pool) ⌝ }
-    ensures { λ r. ⌜ r ≡ setAabbAnswer (lent (nums .entry) (reals .entry) (map .entry) (pool .entry)) h b ⌝ }
+    ensures { λ r. ⌜ r ≡ setAabbAnswer (before nums reals map pool) h b ⌝ }
 {
     if !held {
         return 3;
@@ -107,7 +107,7 @@ pub fn set_aabb(
     b: Aabb,
 ) -> u32
     requires { ⌜ held ≡ holds (lent nums reals map pool) ⌝ }
-    ensures { λ r. ⌜ outcome r (lent (nums .entry) (reals .exit) (map .exit) (pool .exit)) ≡ setAabbOf (lent (nums .entry) (reals .entry) (map .entry) (pool .entry)) h b ⌝ }
+    ensures { λ r. ⌜ outcome r (after nums reals map pool) ≡ setAabbOf (before nums reals map pool) h b ⌝ }
 {
     let a = answer(nums, reals, map, pool, held, h, b);
     if a != 0 {

@@ -7,7 +7,7 @@ ghost use Rattle.basics.specs.Refusals.{unless, firstOf};
 ghost use Rattle.slots.specs.Slot.{good, emptiedNums, emptiedMap};
 ghost use Rattle.box_tables.specs.Tables.{counting, objOn};
 ghost use Rattle.box_tables.specs.Decide.{holds};
-ghost use Rattle.box_tables.specs.Lent.{lent};
+ghost use Rattle.box_tables.specs.Lent.{after, before, lent};
 ghost use Rattle.box_tables.specs.Outcome.{outcome};
 ghost use Rattle.box_changes.specs.Remove.{takenOut, removeOf};
 ghost use Rattle.box_changes.specs.Steps.{Object};
@@ -46,7 +46,7 @@ fn take_out(
     s: usize,
 ) -> u32
     requires { ⌜ Object (lent nums reals map pool) s ⌝ }
-    ensures { λ r. ⌜ outcome r (lent (nums .exit) (reals .entry) (map .exit) (pool .exit)) ≡ outcome (objOn (lent (nums .entry) (reals .entry) (map .entry) (pool .entry)) s) (takenOut (lent (nums .entry) (reals .entry) (map .entry) (pool .entry)) s) ⌝ }
+    ensures { λ r. ⌜ outcome r (after nums reals map pool) ≡ outcome (objOn (before nums reals map pool) s) (takenOut (before nums reals map pool) s) ⌝ }
 {
     let row = nums[s];
     let used = basics::index_of(map[1]);
@@ -70,7 +70,7 @@ pub fn remove(
     h: Handle,
 ) -> Reply
     requires { ⌜ held ≡ holds (lent nums reals map pool) ⌝ }
-    ensures { λ r. ⌜ outcome r (lent (nums .exit) (reals .entry) (map .exit) (pool .exit)) ≡ removeOf (lent (nums .entry) (reals .entry) (map .entry) (pool .entry)) h ⌝ }
+    ensures { λ r. ⌜ outcome r (after nums reals map pool) ≡ removeOf (before nums reals map pool) h ⌝ }
 {
     let a = answer(nums, held, h);
     if a != 0 {

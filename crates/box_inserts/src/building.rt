@@ -1,12 +1,12 @@
 // Building: every slot is free at version 1, and no list has an entry.
 ghost use mathlib.Core.Path.{_≡_};
-ghost use Rattle.box_tables.specs.Lent.{lent};
+ghost use Rattle.box_tables.specs.Lent.{after, before};
 ghost use Rattle.box_tables.specs.Outcome.{outcome};
 ghost use Rattle.box_inserts.specs.New.{newAnswer, newOf};
 
 // The answer: the first refusal that applies, or 0.
 fn answer(nums: &[[u32; 4]], reals: &[[f32; 4]], map: &[u64], pool: &[[u64; 2]], size: u32) -> u32
-    ensures { λ r. ⌜ r ≡ newAnswer (lent (nums .entry) (reals .entry) (map .entry) (pool .entry)) size ⌝ }
+    ensures { λ r. ⌜ r ≡ newAnswer (before nums reals map pool) size ⌝ }
 {
     if !box_tables::lengths_ok(nums.len(), reals.len(), map.len(), pool.len()) {
         return 3;
@@ -25,7 +25,7 @@ pub fn new(
     pool: &[[u64; 2]],
     size: u32,
 ) -> u32
-    ensures { λ r. ⌜ outcome r (lent (nums .exit) (reals .entry) (map .exit) (pool .entry)) ≡ newOf (lent (nums .entry) (reals .entry) (map .entry) (pool .entry)) size ⌝ }
+    ensures { λ r. ⌜ outcome r (after nums reals map pool) ≡ newOf (before nums reals map pool) size ⌝ }
 {
     let a = answer(nums, reals, map, pool, size);
     if a != 0 {

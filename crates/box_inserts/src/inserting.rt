@@ -12,7 +12,7 @@ ghost use Rattle.slots.specs.Map.{taken, lowestUsable, isSome};
 ghost use Rattle.slots.specs.Slot.{live, versionAt};
 ghost use Rattle.box_tables.specs.Tables.{counting, covers, cornersOf};
 ghost use Rattle.box_tables.specs.Decide.{holds};
-ghost use Rattle.box_tables.specs.Lent.{lent};
+ghost use Rattle.box_tables.specs.Lent.{after, before, lent};
 ghost use Rattle.box_tables.specs.Outcome.{outcome};
 ghost use Rattle.box_inserts.specs.Insert as Insert;
 ghost use Rattle.box_inserts.specs.Insert.{fewCells, insertOf};
@@ -121,7 +121,7 @@ fn put(
     obj: u32,
 )
     requires { ⌜ Fresh (lent nums reals map pool) s b ⌝ }
-    ensures { λ _. ⌜ lent (nums .exit) (reals .exit) (map .exit) (pool .exit) ≡ Insert.put (lent (nums .entry) (reals .entry) (map .entry) (pool .entry)) s b obj ⌝ }
+    ensures { λ _. ⌜ after nums reals map pool ≡ Insert.put (before nums reals map pool) s b obj ⌝ }
 {
     let used = basics::index_of(map[1]);
     let p = box_tables::span_of(map[0], b);
@@ -146,7 +146,7 @@ pub fn insert(
     obj: u32,
 ) -> Inserted
     requires { ⌜ held ≡ holds (lent nums reals map pool) ⌝ }
-    ensures { λ r. ⌜ outcome r (lent (nums .exit) (reals .exit) (map .exit) (pool .exit)) ≡ insertOf (lent (nums .entry) (reals .entry) (map .entry) (pool .entry)) b obj ⌝ }
+    ensures { λ r. ⌜ outcome r (after nums reals map pool) ≡ insertOf (before nums reals map pool) b obj ⌝ }
 {
     let c = choose(nums, map, pool.len(), held, b);
     let a = c.answer;

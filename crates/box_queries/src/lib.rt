@@ -2,7 +2,7 @@
 ghost use mathlib.Core.Path.{_≡_};
 ghost use Prim.Native.Nat.{min};
 ghost use lib.ListN.{length};
-ghost use Rattle.box_tables.specs.Tables.{tables};
+ghost use Rattle.box_tables.specs.Lent.{before, lent};
 ghost use Rattle.box_tables.specs.Decide.{holds};
 ghost use Rattle.box_queries.specs.Queries.{handlesOf, broadOf, findings, queryOf};
 ghost use Rattle.box_queries.specs.Look.{Looked};
@@ -31,8 +31,8 @@ fn look(
     q: Aabb,
     found: &mut [u32; 256],
 ) -> Count
-    requires { ⌜ (held ≡ holds (tables (now nums) (now reals) (now map) (now pool))) × (length (now found) ≡ 256) ⌝ }
-    ensures { λ r. ⌜ Looked (tables (now (nums .entry)) (now (reals .entry)) (now (map .entry)) (now (pool .entry))) q r (now (found .exit)) ⌝ }
+    requires { ⌜ (held ≡ holds (lent nums reals map pool)) × (length (now found) ≡ 256) ⌝ }
+    ensures { λ r. ⌜ Looked (before nums reals map pool) q r (now (found .exit)) ⌝ }
 {
     if !held {
         return replies::refused(3);
@@ -65,8 +65,8 @@ pub fn query_broad(
     q: Aabb,
     handles: &mut [[u32; 2]],
 ) -> Count
-    requires { ⌜ held ≡ holds (tables (now nums) (now reals) (now map) (now pool)) ⌝ }
-    ensures { λ r. ⌜ handlesOf r (now (handles .exit)) ≡ broadOf (tables (now (nums .entry)) (now (reals .entry)) (now (map .entry)) (now (pool .entry))) q (now (handles .entry)) ⌝ }
+    requires { ⌜ held ≡ holds (lent nums reals map pool) ⌝ }
+    ensures { λ r. ⌜ handlesOf r (now (handles .exit)) ≡ broadOf (before nums reals map pool) q (now (handles .entry)) ⌝ }
 {
     let mut found: [u32; 256] = [0; 256];
     let seen = look(nums, reals, map, pool, held, q, &mut found);
@@ -102,8 +102,8 @@ pub fn query(
     boxes: &mut [[f32; 4]],
     objs: &mut [u32],
 ) -> Count
-    requires { ⌜ held ≡ holds (tables (now nums) (now reals) (now map) (now pool)) ⌝ }
-    ensures { λ r. ⌜ findings r (now (handles .exit)) (now (boxes .exit)) (now (objs .exit)) ≡ queryOf (tables (now (nums .entry)) (now (reals .entry)) (now (map .entry)) (now (pool .entry))) q (now (handles .entry)) (now (boxes .entry)) (now (objs .entry)) ⌝ }
+    requires { ⌜ held ≡ holds (lent nums reals map pool) ⌝ }
+    ensures { λ r. ⌜ findings r (now (handles .exit)) (now (boxes .exit)) (now (objs .exit)) ≡ queryOf (before nums reals map pool) q (now (handles .entry)) (now (boxes .entry)) (now (objs .entry)) ⌝ }
 {
     let mut found: [u32; 256] = [0; 256];
     let seen = look(nums, reals, map, pool, held, q, &mut found);

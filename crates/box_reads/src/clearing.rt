@@ -8,7 +8,7 @@ ghost use Rattle.storage.specs.Keyed.{written};
 ghost use Rattle.slot_walks.specs.Live.{liveFrom, objAt};
 ghost use Rattle.slot_walks.specs.Cleared.{clearedRows, clearedMap};
 ghost use Rattle.box_tables.specs.Tables.{counting};
-ghost use Rattle.box_tables.specs.Lent.{lent};
+ghost use Rattle.box_tables.specs.Lent.{after, before, lent};
 ghost use Rattle.box_tables.specs.Decide.{holds};
 ghost use Rattle.box_tables.specs.Outcome.{outcome};
 ghost use Rattle.box_reads.specs.Clear.{boxAt, wrote, clearOf};
@@ -65,7 +65,7 @@ pub fn clear(
     objs: &mut [u32],
 ) -> Count
     requires { ⌜ held ≡ holds (lent nums reals map pool) ⌝ }
-    ensures { λ r. ⌜ outcome (wrote r (now (boxes .exit)) (now (objs .exit))) (lent (nums .exit) (reals .entry) (map .exit) (pool .entry)) ≡ clearOf (lent (nums .entry) (reals .entry) (map .entry) (pool .entry)) (now (boxes .entry)) (now (objs .entry)) ⌝ }
+    ensures { λ r. ⌜ outcome (wrote r (now (boxes .exit)) (now (objs .exit))) (after nums reals map pool) ≡ clearOf (before nums reals map pool) (now (boxes .entry)) (now (objs .entry)) ⌝ }
 {
     let c = list_answer(nums, held, least(boxes.len(), objs.len()));
     if c.answer != 0 {

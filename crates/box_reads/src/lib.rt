@@ -3,7 +3,7 @@ ghost use mathlib.Core.Path.{_≡_};
 ghost use mathlib.Core.Bool.{true};
 ghost use Prim.Native.Nat.{_≤_};
 ghost use lib.ListN.{length};
-ghost use Rattle.box_tables.specs.Lent.{lent};
+ghost use Rattle.box_tables.specs.Lent.{before, lent};
 ghost use Rattle.box_tables.specs.Decide.{holds};
 ghost use Rattle.slot_walks.specs.Live.{liveFrom};
 ghost use Rattle.box_reads.specs.Live.{countBy};
@@ -45,7 +45,7 @@ pub fn get(
     h: Handle,
 ) -> Got
     requires { ⌜ held ≡ holds (lent nums reals map pool) ⌝ }
-    ensures { λ r. ⌜ r ≡ getOf (lent (nums .entry) (reals .entry) (map .entry) (pool .entry)) h ⌝ }
+    ensures { λ r. ⌜ r ≡ getOf (before nums reals map pool) h ⌝ }
 {
     if !held {
         return no_box(3);
@@ -74,7 +74,7 @@ pub fn len(
     held: bool,
 ) -> Count
     requires { ⌜ held ≡ holds (lent nums reals map pool) ⌝ }
-    ensures { λ r. ⌜ r ≡ lenOf (lent (nums .entry) (reals .entry) (map .entry) (pool .entry)) ⌝ }
+    ensures { λ r. ⌜ r ≡ lenOf (before nums reals map pool) ⌝ }
 {
     if !held {
         return Count {
@@ -123,7 +123,7 @@ pub fn handles(
     out: &mut [[u32; 2]],
 ) -> Count
     requires { ⌜ held ≡ holds (lent nums reals map pool) ⌝ }
-    ensures { λ r. ⌜ listing r (now (out .exit)) ≡ handlesOf (lent (nums .entry) (reals .entry) (map .entry) (pool .entry)) (now (out .entry)) ⌝ }
+    ensures { λ r. ⌜ listing r (now (out .exit)) ≡ handlesOf (before nums reals map pool) (now (out .entry)) ⌝ }
 {
     let c = list_answer(nums, held, out.len());
     if c.answer != 0 {

@@ -8,8 +8,9 @@ ghost use Rattle.basics.specs.Says.{Says};
 ghost use Rattle.geometry.specs.Domain.{aabbInDomain};
 ghost use Rattle.cells.specs.Size.{SizeInDomain};
 ghost use Rattle.slots.specs.Map.{head};
+ghost use Rattle.box_tables.specs.Lent.{before};
 ghost use Rattle.box_tables.specs.Tables as Tables;
-ghost use Rattle.box_tables.specs.Tables.{tables, Lengths, aabbAt, itemOf, itemFor};
+ghost use Rattle.box_tables.specs.Tables.{Lengths, aabbAt, itemOf, itemFor};
 ghost use Rattle.box_tables.specs.Decide.{holds};
 ghost use Rattle.box_tables.specs.Way.{nextIn, lastIn, stepped, Bounded, spanOf, wayOf, wayAt};
 ghost use Rattle.box_tables.specs.Check.{Counts, BoxOk, SlotOk, SlotsOk, Room, Ways, Given, IsNext, Met, Passes, Ready};
@@ -247,7 +248,7 @@ fn pool_ok(pool: &[[u64; 2]], n: usize, used: usize, ways: &mut [[u64; 4]; 256])
 
 // Whether the tables hold a grid.
 pub fn check(nums: &[[u32; 4]], reals: &[[f32; 4]], map: &[u64], pool: &[[u64; 2]]) -> bool
-    ensures { λ b. ⌜ b ≡ holds (tables (now (nums .entry)) (now (reals .entry)) (now (map .entry)) (now (pool .entry))) ⌝ }
+    ensures { λ b. ⌜ b ≡ holds (before nums reals map pool) ⌝ }
 {
     if !lengths_ok(nums.len(), reals.len(), map.len(), pool.len()) {
         return false;

@@ -1,7 +1,7 @@
 // The public calls of the box grid: src/aabbgrid.rs of the Rust. Each checks the tables first and answers by document 01's numbers, listed
 // with each call in their order. No call has a `requires`, and a refused call changes no table and no output.
 ghost use mathlib.Core.Path.{_≡_};
-ghost use Rattle.box_tables.specs.Lent.{lent};
+ghost use Rattle.box_tables.specs.Lent.{after, before};
 ghost use Rattle.box_tables.specs.Outcome.{outcome};
 ghost use Rattle.box_inserts.specs.New.{newOf};
 ghost use Rattle.box_inserts.specs.Insert.{insertOf};
@@ -26,7 +26,7 @@ pub fn new(
     pool: &[[u64; 2]],
     size: u32,
 ) -> u32
-    ensures { λ r. ⌜ outcome r (lent (nums .exit) (reals .entry) (map .exit) (pool .entry)) ≡ newOf (lent (nums .entry) (reals .entry) (map .entry) (pool .entry)) size ⌝ }
+    ensures { λ r. ⌜ outcome r (after nums reals map pool) ≡ newOf (before nums reals map pool) size ⌝ }
 {
     box_inserts::new(nums, reals, map, pool, size)
 }
@@ -40,7 +40,7 @@ pub fn insert(
     b: Aabb,
     obj: u32,
 ) -> Inserted
-    ensures { λ r. ⌜ outcome r (lent (nums .exit) (reals .exit) (map .exit) (pool .exit)) ≡ insertOf (lent (nums .entry) (reals .entry) (map .entry) (pool .entry)) b obj ⌝ }
+    ensures { λ r. ⌜ outcome r (after nums reals map pool) ≡ insertOf (before nums reals map pool) b obj ⌝ }
 {
     let held = box_tables::check(nums, reals, map, pool);
     box_inserts::insert(nums, reals, map, pool, held, b, obj)
@@ -55,7 +55,7 @@ pub fn set_aabb(
     h: Handle,
     b: Aabb,
 ) -> u32
-    ensures { λ r. ⌜ outcome r (lent (nums .entry) (reals .exit) (map .exit) (pool .exit)) ≡ setAabbOf (lent (nums .entry) (reals .entry) (map .entry) (pool .entry)) h b ⌝ }
+    ensures { λ r. ⌜ outcome r (after nums reals map pool) ≡ setAabbOf (before nums reals map pool) h b ⌝ }
 {
     let held = box_tables::check(nums, reals, map, pool);
     box_changes::set_aabb(nums, reals, map, pool, held, h, b)
@@ -69,7 +69,7 @@ pub fn remove(
     pool: &mut [[u64; 2]],
     h: Handle,
 ) -> Reply
-    ensures { λ r. ⌜ outcome r (lent (nums .exit) (reals .entry) (map .exit) (pool .exit)) ≡ removeOf (lent (nums .entry) (reals .entry) (map .entry) (pool .entry)) h ⌝ }
+    ensures { λ r. ⌜ outcome r (after nums reals map pool) ≡ removeOf (before nums reals map pool) h ⌝ }
 {
     let held = box_tables::check(nums, reals, map, pool);
     box_changes::remove(nums, reals, map, pool, held, h)
@@ -84,7 +84,7 @@ pub fn clear(
     boxes: &mut [[f32; 4]],
     objs: &mut [u32],
 ) -> Count
-    ensures { λ r. ⌜ outcome (wrote r (now (boxes .exit)) (now (objs .exit))) (lent (nums .exit) (reals .entry) (map .exit) (pool .entry)) ≡ clearOf (lent (nums .entry) (reals .entry) (map .entry) (pool .entry)) (now (boxes .entry)) (now (objs .entry)) ⌝ }
+    ensures { λ r. ⌜ outcome (wrote r (now (boxes .exit)) (now (objs .exit))) (after nums reals map pool) ≡ clearOf (before nums reals map pool) (now (boxes .entry)) (now (objs .entry)) ⌝ }
 {
     let held = box_tables::check(nums, reals, map, pool);
     box_reads::clear(nums, reals, map, pool, held, boxes, objs)
@@ -92,7 +92,7 @@ pub fn clear(
 
 // The box and the data. 3, 5.
 pub fn get(nums: &[[u32; 4]], reals: &[[f32; 4]], map: &[u64], pool: &[[u64; 2]], h: Handle) -> Got
-    ensures { λ r. ⌜ r ≡ getOf (lent (nums .entry) (reals .entry) (map .entry) (pool .entry)) h ⌝ }
+    ensures { λ r. ⌜ r ≡ getOf (before nums reals map pool) h ⌝ }
 {
     let held = box_tables::check(nums, reals, map, pool);
     box_reads::get(nums, reals, map, pool, held, h)
@@ -100,7 +100,7 @@ pub fn get(nums: &[[u32; 4]], reals: &[[f32; 4]], map: &[u64], pool: &[[u64; 2]]
 
 // The number of objects. 3.
 pub fn len(nums: &[[u32; 4]], reals: &[[f32; 4]], map: &[u64], pool: &[[u64; 2]]) -> Count
-    ensures { λ r. ⌜ r ≡ lenOf (lent (nums .entry) (reals .entry) (map .entry) (pool .entry)) ⌝ }
+    ensures { λ r. ⌜ r ≡ lenOf (before nums reals map pool) ⌝ }
 {
     let held = box_tables::check(nums, reals, map, pool);
     box_reads::len(nums, reals, map, pool, held)
@@ -114,7 +114,7 @@ pub fn handles(
     pool: &[[u64; 2]],
     out: &mut [[u32; 2]],
 ) -> Count
-    ensures { λ r. ⌜ listing r (now (out .exit)) ≡ handlesOf (lent (nums .entry) (reals .entry) (map .entry) (pool .entry)) (now (out .entry)) ⌝ }
+    ensures { λ r. ⌜ listing r (now (out .exit)) ≡ handlesOf (before nums reals map pool) (now (out .entry)) ⌝ }
 {
     let held = box_tables::check(nums, reals, map, pool);
     box_reads::handles(nums, reals, map, pool, held, out)
@@ -129,7 +129,7 @@ pub fn query_broad(
     q: Aabb,
     found: &mut [[u32; 2]],
 ) -> Count
-    ensures { λ r. ⌜ Queries.handlesOf r (now (found .exit)) ≡ broadOf (lent (nums .entry) (reals .entry) (map .entry) (pool .entry)) q (now (found .entry)) ⌝ }
+    ensures { λ r. ⌜ Queries.handlesOf r (now (found .exit)) ≡ broadOf (before nums reals map pool) q (now (found .entry)) ⌝ }
 {
     let held = box_tables::check(nums, reals, map, pool);
     box_queries::query_broad(nums, reals, map, pool, held, q, found)
@@ -146,7 +146,7 @@ pub fn query(
     boxes: &mut [[f32; 4]],
     objs: &mut [u32],
 ) -> Count
-    ensures { λ r. ⌜ findings r (now (found .exit)) (now (boxes .exit)) (now (objs .exit)) ≡ queryOf (lent (nums .entry) (reals .entry) (map .entry) (pool .entry)) q (now (found .entry)) (now (boxes .entry)) (now (objs .entry)) ⌝ }
+    ensures { λ r. ⌜ findings r (now (found .exit)) (now (boxes .exit)) (now (objs .exit)) ≡ queryOf (before nums reals map pool) q (now (found .entry)) (now (boxes .entry)) (now (objs .entry)) ⌝ }
 {
     let held = box_tables::check(nums, reals, map, pool);
     box_queries::query(nums, reals, map, pool, held, q, found, boxes, objs)

@@ -1,6 +1,6 @@
 // Building: every slot is free at version 1, and no list has an entry.
 ghost use mathlib.Core.Path.{_≡_};
-ghost use Rattle.point_tables.specs.Lent.{lent};
+ghost use Rattle.point_tables.specs.Lent.{after, before};
 ghost use Rattle.point_tables.specs.Outcome.{outcome};
 ghost use Rattle.inserts.specs.New.{newAnswer, newOf};
 
@@ -15,7 +15,7 @@ fn answer(
     cells: &[[u64; 2]],
     size: u32,
 ) -> u32
-    ensures { λ r. ⌜ r ≡ newAnswer (lent (nums .entry) (reals .entry) (ints .entry) (map .entry) (pool .entry) (spots .entry) (cells .entry)) size ⌝ }
+    ensures { λ r. ⌜ r ≡ newAnswer (before nums reals ints map pool spots cells) size ⌝ }
 {
     if !point_tables::lengths_ok(
         nums.len(),
@@ -45,7 +45,7 @@ pub fn new(
     cells: &[[u64; 2]],
     size: u32,
 ) -> u32
-    ensures { λ r. ⌜ outcome r (lent (nums .exit) (reals .entry) (ints .entry) (map .exit) (pool .entry) (spots .entry) (cells .entry)) ≡ newOf (lent (nums .entry) (reals .entry) (ints .entry) (map .entry) (pool .entry) (spots .entry) (cells .entry)) size ⌝ }
+    ensures { λ r. ⌜ outcome r (after nums reals ints map pool spots cells) ≡ newOf (before nums reals ints map pool spots cells) size ⌝ }
 {
     let a = answer(nums, reals, ints, map, pool, spots, cells, size);
     if a != 0 {

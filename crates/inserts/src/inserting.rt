@@ -10,7 +10,7 @@ ghost use Rattle.slots.specs.Slot.{versionAt};
 ghost use Rattle.objects.specs.Columns.{numsOf, realsOf, intsOf};
 ghost use Rattle.point_tables.specs.Tables.{counting};
 ghost use Rattle.point_tables.specs.Decide.{holds};
-ghost use Rattle.point_tables.specs.Lent.{lent};
+ghost use Rattle.point_tables.specs.Lent.{after, before, lent};
 ghost use Rattle.point_tables.specs.Outcome.{outcome};
 ghost use Rattle.inserts.specs.Insert as Insert;
 ghost use Rattle.inserts.specs.Insert.{insertOf};
@@ -120,7 +120,7 @@ fn put(
     obj: u32,
 )
     requires { ⌜ Fresh (lent nums reals ints map pool spots cells) s at ⌝ }
-    ensures { λ _. ⌜ lent (nums .exit) (reals .exit) (ints .exit) (map .exit) (pool .exit) (spots .exit) (cells .exit) ≡ Insert.put (lent (nums .entry) (reals .entry) (ints .entry) (map .entry) (pool .entry) (spots .entry) (cells .entry)) s at obj ⌝ }
+    ensures { λ _. ⌜ after nums reals ints map pool spots cells ≡ Insert.put (before nums reals ints map pool spots cells) s at obj ⌝ }
 {
     let used = basics::index_of(map[1]);
     let rows = basics::index_of(map[2]);
@@ -147,7 +147,7 @@ pub fn insert(
     obj: u32,
 ) -> Inserted
     requires { ⌜ held ≡ holds (lent nums reals ints map pool spots cells) ⌝ }
-    ensures { λ r. ⌜ outcome r (lent (nums .exit) (reals .exit) (ints .exit) (map .exit) (pool .exit) (spots .exit) (cells .exit)) ≡ insertOf (lent (nums .entry) (reals .entry) (ints .entry) (map .entry) (pool .entry) (spots .entry) (cells .entry)) at obj ⌝ }
+    ensures { λ r. ⌜ outcome r (after nums reals ints map pool spots cells) ≡ insertOf (before nums reals ints map pool spots cells) at obj ⌝ }
 {
     let c = choose(nums, map, held, at);
     let a = c.answer;

@@ -7,7 +7,7 @@ ghost use lib.Dec.{eqb, leb};
 ghost use lib.ListN.{length};
 ghost use Rattle.basics.specs.Refusals.{unless, firstOf};
 ghost use Rattle.storage.specs.Keyed.{written};
-ghost use Rattle.point_tables.specs.Lent.{lent};
+ghost use Rattle.point_tables.specs.Lent.{after, before, lent};
 ghost use Rattle.point_tables.specs.Decide.{holds};
 ghost use Rattle.point_tables.specs.Holds.{Holds};
 ghost use Rattle.point_tables.specs.Outcome.{outcome};
@@ -138,7 +138,7 @@ pub fn batch(
     out: &mut [[u32; 2]],
 ) -> BatchReply
     requires { ⌜ held ≡ holds (lent nums reals ints map pool spots cells) ⌝ }
-    ensures { λ r. ⌜ outcome (batched (r .answer) (r .count) (now (out .exit))) (lent (nums .exit) (reals .exit) (ints .exit) (map .entry) (pool .entry) (spots .entry) (cells .exit)) ≡ batchOf (lent (nums .entry) (reals .entry) (ints .entry) (map .entry) (pool .entry) (spots .entry) (cells .entry)) (now (kinds .entry)) (now (handles .entry)) (now (positions .entry)) (now (out .entry)) ⌝ }
+    ensures { λ r. ⌜ outcome (batched (r .answer) (r .count) (now (out .exit))) (after nums reals ints map pool spots cells) ≡ batchOf (before nums reals ints map pool spots cells) (now (kinds .entry)) (now (handles .entry)) (now (positions .entry)) (now (out .entry)) ⌝ }
 {
     let n = kinds.len();
     let a = batch_answer(held, n, handles.len(), positions.len(), out.len());

@@ -1,7 +1,7 @@
 // The deferred calls of trackers: `set_position`, `remove`, and a batch of them. Nothing moves before maintain.
 // The caller has checked whether the tables hold a grid, and hands the verdict down as `held`.
 ghost use mathlib.Core.Path.{_≡_};
-ghost use Rattle.point_tables.specs.Lent.{lent};
+ghost use Rattle.point_tables.specs.Lent.{after, before, lent};
 ghost use Rattle.point_tables.specs.Decide.{holds};
 ghost use Rattle.point_tables.specs.Outcome.{outcome};
 ghost use Rattle.moves.specs.Moves.{setPositionOf, removeOf};
@@ -36,7 +36,7 @@ pub fn set_position(
     at: Position,
 ) -> u32
     requires { ⌜ held ≡ holds (lent nums reals ints map pool spots cells) ⌝ }
-    ensures { λ r. ⌜ outcome (reply r 0) (lent (nums .exit) (reals .exit) (ints .exit) (map .entry) (pool .entry) (spots .entry) (cells .exit)) ≡ setPositionOf (lent (nums .entry) (reals .entry) (ints .entry) (map .entry) (pool .entry) (spots .entry) (cells .entry)) h at ⌝ }
+    ensures { λ r. ⌜ outcome (reply r 0) (after nums reals ints map pool spots cells) ≡ setPositionOf (before nums reals ints map pool spots cells) h at ⌝ }
 {
     if !held {
         return 3;
@@ -58,7 +58,7 @@ pub fn remove(
     h: Handle,
 ) -> Reply
     requires { ⌜ held ≡ holds (lent nums reals ints map pool spots cells) ⌝ }
-    ensures { λ r. ⌜ outcome r (lent (nums .exit) (reals .exit) (ints .exit) (map .entry) (pool .entry) (spots .entry) (cells .exit)) ≡ removeOf (lent (nums .entry) (reals .entry) (ints .entry) (map .entry) (pool .entry) (spots .entry) (cells .entry)) h ⌝ }
+    ensures { λ r. ⌜ outcome r (after nums reals ints map pool spots cells) ≡ removeOf (before nums reals ints map pool spots cells) h ⌝ }
 {
     if !held {
         return Reply { answer: 3, obj: 0 };

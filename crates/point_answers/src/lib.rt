@@ -1,7 +1,7 @@
 // What the point grid of the trace answers to a request: each is one call of the grid.
 ghost use mathlib.Core.Path.{_≡_};
 ghost use Rattle.lines.specs.Texts.{SpotInRange, CountInRange};
-ghost use Rattle.point_tables.specs.Lent.{lent};
+ghost use Rattle.point_tables.specs.Lent.{after, before};
 ghost use Rattle.point_tables.specs.Outcome.{outcome};
 ghost use Rattle.telling.specs.InRange.{InRange};
 ghost use Rattle.point_answers.specs.Changes.{changeOf, movedOf, insertedOf, takenOf, markedOf, maintainedOf};
@@ -23,7 +23,7 @@ fn ins(
     obj: u32,
 ) -> Said
     requires { ⌜ SpotInRange at ⌝ }
-    ensures { λ r. ⌜ outcome r (lent (nums .exit) (reals .exit) (ints .exit) (map .exit) (pool .exit) (spots .exit) (cells .exit)) ≡ insertedOf (lent (nums .entry) (reals .entry) (ints .entry) (map .entry) (pool .entry) (spots .entry) (cells .entry)) at obj ⌝ }
+    ensures { λ r. ⌜ outcome r (after nums reals ints map pool spots cells) ≡ insertedOf (before nums reals ints map pool spots cells) at obj ⌝ }
 {
     let p = telling::place(at);
     let r = points::insert(nums, reals, ints, map, pool, spots, cells, p, obj);
@@ -43,7 +43,7 @@ fn pos(
     at: Spot,
 ) -> Said
     requires { ⌜ SpotInRange at ⌝ }
-    ensures { λ r. ⌜ outcome r (lent (nums .exit) (reals .exit) (ints .exit) (map .entry) (pool .entry) (spots .entry) (cells .exit)) ≡ movedOf (lent (nums .entry) (reals .entry) (ints .entry) (map .entry) (pool .entry) (spots .entry) (cells .entry)) h at ⌝ }
+    ensures { λ r. ⌜ outcome r (after nums reals ints map pool spots cells) ≡ movedOf (before nums reals ints map pool spots cells) h at ⌝ }
 {
     let p = telling::place(at);
     let answer = points::set_position(nums, reals, ints, map, pool, spots, cells, h, p);
@@ -60,7 +60,7 @@ fn rem(
     cells: &mut [[u64; 2]],
     h: Handle,
 ) -> Said
-    ensures { λ r. ⌜ outcome r (lent (nums .exit) (reals .exit) (ints .exit) (map .entry) (pool .entry) (spots .entry) (cells .exit)) ≡ markedOf (lent (nums .entry) (reals .entry) (ints .entry) (map .entry) (pool .entry) (spots .entry) (cells .entry)) h ⌝ }
+    ensures { λ r. ⌜ outcome r (after nums reals ints map pool spots cells) ≡ markedOf (before nums reals ints map pool spots cells) h ⌝ }
 {
     let r = points::remove(nums, reals, ints, map, pool, spots, cells, h);
     telling::one(r.answer, r.obj)
@@ -76,7 +76,7 @@ fn now(
     cells: &mut [[u64; 2]],
     h: Handle,
 ) -> Said
-    ensures { λ r. ⌜ outcome r (lent (nums .exit) (reals .entry) (ints .entry) (map .exit) (pool .exit) (spots .exit) (cells .exit)) ≡ takenOf (lent (nums .entry) (reals .entry) (ints .entry) (map .entry) (pool .entry) (spots .entry) (cells .entry)) h ⌝ }
+    ensures { λ r. ⌜ outcome r (after nums reals ints map pool spots cells) ≡ takenOf (before nums reals ints map pool spots cells) h ⌝ }
 {
     let r = points::remove_maintain(nums, reals, ints, map, pool, spots, cells, h);
     telling::one(r.answer, r.obj)
@@ -91,7 +91,7 @@ fn mnt(
     spots: &mut [[f32; 2]],
     cells: &mut [[u64; 2]],
 ) -> Said
-    ensures { λ r. ⌜ outcome r (lent (nums .exit) (reals .exit) (ints .exit) (map .exit) (pool .exit) (spots .exit) (cells .exit)) ≡ maintainedOf (lent (nums .entry) (reals .entry) (ints .entry) (map .entry) (pool .entry) (spots .entry) (cells .entry)) ⌝ }
+    ensures { λ r. ⌜ outcome r (after nums reals ints map pool spots cells) ≡ maintainedOf (before nums reals ints map pool spots cells) ⌝ }
 {
     let r = points::maintain(nums, reals, ints, map, pool, spots, cells);
     telling::two(r.answer, r.moved, r.removed)
@@ -109,7 +109,7 @@ pub fn change_points(
     r: Request,
 ) -> Said
     requires { ⌜ InRange r ⌝ }
-    ensures { λ said. ⌜ outcome said (lent (nums .exit) (reals .exit) (ints .exit) (map .exit) (pool .exit) (spots .exit) (cells .exit)) ≡ changeOf (lent (nums .entry) (reals .entry) (ints .entry) (map .entry) (pool .entry) (spots .entry) (cells .entry)) r ⌝ }
+    ensures { λ said. ⌜ outcome said (after nums reals ints map pool spots cells) ≡ changeOf (before nums reals ints map pool spots cells) r ⌝ }
 {
     match r {
         Request::Ins(at, obj) => ins(nums, reals, ints, map, pool, spots, cells, at, obj),
@@ -135,7 +135,7 @@ fn cir(
     places: &mut [[f32; 2]],
 ) -> Said
     requires { ⌜ SpotInRange centre × CountInRange radius ⌝ }
-    ensures { λ r. ⌜ searched r (now (handles .exit)) (now (places .exit)) ≡ aroundIn (lent (nums .entry) (reals .entry) (ints .entry) (map .entry) (pool .entry) (spots .entry) (cells .entry)) centre radius (now (handles .entry)) (now (places .entry)) ⌝ }
+    ensures { λ r. ⌜ searched r (now (handles .exit)) (now (places .exit)) ≡ aroundIn (before nums reals ints map pool spots cells) centre radius (now (handles .entry)) (now (places .entry)) ⌝ }
 {
     let p = telling::place(centre);
     let far = sixteenths::from_sixteenths(radius);
@@ -169,7 +169,7 @@ fn rec(
     places: &mut [[f32; 2]],
 ) -> Said
     requires { ⌜ SpotInRange a × SpotInRange b ⌝ }
-    ensures { λ r. ⌜ searched r (now (handles .exit)) (now (places .exit)) ≡ rectangleIn (lent (nums .entry) (reals .entry) (ints .entry) (map .entry) (pool .entry) (spots .entry) (cells .entry)) a b (now (handles .entry)) (now (places .entry)) ⌝ }
+    ensures { λ r. ⌜ searched r (now (handles .exit)) (now (places .exit)) ≡ rectangleIn (before nums reals ints map pool spots cells) a b (now (handles .entry)) (now (places .entry)) ⌝ }
 {
     let p = telling::place(a);
     let q = telling::place(b);
@@ -203,7 +203,7 @@ fn cel(
     places: &mut [[f32; 2]],
 ) -> Said
     requires { ⌜ SpotInRange ll × SpotInRange ur ⌝ }
-    ensures { λ r. ⌜ searched r (now (handles .exit)) (now (places .exit)) ≡ cellsIn (lent (nums .entry) (reals .entry) (ints .entry) (map .entry) (pool .entry) (spots .entry) (cells .entry)) ll ur (now (handles .entry)) (now (places .entry)) ⌝ }
+    ensures { λ r. ⌜ searched r (now (handles .exit)) (now (places .exit)) ≡ cellsIn (before nums reals ints map pool spots cells) ll ur (now (handles .entry)) (now (places .entry)) ⌝ }
 {
     let p = telling::place(ll);
     let q = telling::place(ur);
@@ -237,7 +237,7 @@ pub fn search_points(
     places: &mut [[f32; 2]],
 ) -> Said
     requires { ⌜ InRange r ⌝ }
-    ensures { λ said. ⌜ searched said (now (handles .exit)) (now (places .exit)) ≡ searchOf (lent (nums .entry) (reals .entry) (ints .entry) (map .entry) (pool .entry) (spots .entry) (cells .entry)) r (now (handles .entry)) (now (places .entry)) ⌝ }
+    ensures { λ said. ⌜ searched said (now (handles .exit)) (now (places .exit)) ≡ searchOf (before nums reals ints map pool spots cells) r (now (handles .entry)) (now (places .entry)) ⌝ }
 {
     match r {
         Request::Cir(centre, radius) => cir(

@@ -5,7 +5,8 @@ ghost use Prim.Native.Nat.{ℕ, _+_, _/_, _≤_, _<_};
 ghost use lib.ListN.{length, getD};
 ghost use Rattle.basics.specs.Says.{Says};
 ghost use Rattle.slots.specs.Map.{usable};
-ghost use Rattle.point_tables.specs.Tables.{tables, Lengths};
+ghost use Rattle.point_tables.specs.Lent.{before};
+ghost use Rattle.point_tables.specs.Tables.{Lengths};
 ghost use Rattle.point_tables.specs.Decide.{holds};
 ghost use Rattle.point_tables.specs.Check.{Counts, SlotOk, EachOk, SlotsOk, Room, FreeAt, Listed};
 
@@ -156,7 +157,7 @@ pub fn check(
     spots: &[[f32; 2]],
     cells: &[[u64; 2]],
 ) -> bool
-    ensures { λ b. ⌜ b ≡ holds (tables (now (nums .entry)) (now (reals .entry)) (now (ints .entry)) (now (map .entry)) (now (pool .entry)) (now (spots .entry)) (now (cells .entry))) ⌝ }
+    ensures { λ b. ⌜ b ≡ holds (before nums reals ints map pool spots cells) ⌝ }
 {
     if !lengths_ok(
         nums.len(),

@@ -1,7 +1,7 @@
 // The public calls of the point grid: src/grid.rs of the Rust. Each checks the tables first and answers by document 01's numbers, listed
 // with each call in their order. No call has a `requires`, and a refused call changes no table and no output.
 ghost use mathlib.Core.Path.{_≡_};
-ghost use Rattle.point_tables.specs.Lent.{lent};
+ghost use Rattle.point_tables.specs.Lent.{after, before};
 ghost use Rattle.point_tables.specs.Outcome.{outcome};
 ghost use Rattle.inserts.specs.New.{newOf};
 ghost use Rattle.inserts.specs.Insert.{insertOf};
@@ -29,7 +29,7 @@ pub fn new(
     cells: &[[u64; 2]],
     size: u32,
 ) -> u32
-    ensures { λ r. ⌜ outcome r (lent (nums .exit) (reals .entry) (ints .entry) (map .exit) (pool .entry) (spots .entry) (cells .entry)) ≡ newOf (lent (nums .entry) (reals .entry) (ints .entry) (map .entry) (pool .entry) (spots .entry) (cells .entry)) size ⌝ }
+    ensures { λ r. ⌜ outcome r (after nums reals ints map pool spots cells) ≡ newOf (before nums reals ints map pool spots cells) size ⌝ }
 {
     inserts::new(nums, reals, ints, map, pool, spots, cells, size)
 }
@@ -46,7 +46,7 @@ pub fn insert(
     at: Position,
     obj: u32,
 ) -> Inserted
-    ensures { λ r. ⌜ outcome r (lent (nums .exit) (reals .exit) (ints .exit) (map .exit) (pool .exit) (spots .exit) (cells .exit)) ≡ insertOf (lent (nums .entry) (reals .entry) (ints .entry) (map .entry) (pool .entry) (spots .entry) (cells .entry)) at obj ⌝ }
+    ensures { λ r. ⌜ outcome r (after nums reals ints map pool spots cells) ≡ insertOf (before nums reals ints map pool spots cells) at obj ⌝ }
 {
     let held = point_tables::check(nums, reals, ints, map, pool, spots, cells);
     inserts::insert(nums, reals, ints, map, pool, spots, cells, held, at, obj)
@@ -64,7 +64,7 @@ pub fn set_position(
     h: Handle,
     at: Position,
 ) -> u32
-    ensures { λ r. ⌜ outcome (reply r 0) (lent (nums .exit) (reals .exit) (ints .exit) (map .entry) (pool .entry) (spots .entry) (cells .exit)) ≡ setPositionOf (lent (nums .entry) (reals .entry) (ints .entry) (map .entry) (pool .entry) (spots .entry) (cells .entry)) h at ⌝ }
+    ensures { λ r. ⌜ outcome (reply r 0) (after nums reals ints map pool spots cells) ≡ setPositionOf (before nums reals ints map pool spots cells) h at ⌝ }
 {
     let held = point_tables::check(nums, reals, ints, map, pool, spots, cells);
     moves::set_position(nums, reals, ints, map, pool, spots, cells, held, h, at)
@@ -81,7 +81,7 @@ pub fn remove(
     cells: &mut [[u64; 2]],
     h: Handle,
 ) -> Reply
-    ensures { λ r. ⌜ outcome r (lent (nums .exit) (reals .exit) (ints .exit) (map .entry) (pool .entry) (spots .entry) (cells .exit)) ≡ removeOf (lent (nums .entry) (reals .entry) (ints .entry) (map .entry) (pool .entry) (spots .entry) (cells .entry)) h ⌝ }
+    ensures { λ r. ⌜ outcome r (after nums reals ints map pool spots cells) ≡ removeOf (before nums reals ints map pool spots cells) h ⌝ }
 {
     let held = point_tables::check(nums, reals, ints, map, pool, spots, cells);
     moves::remove(nums, reals, ints, map, pool, spots, cells, held, h)
@@ -101,7 +101,7 @@ pub fn batch(
     positions: &[[f32; 2]],
     out: &mut [[u32; 2]],
 ) -> BatchReply
-    ensures { λ r. ⌜ outcome (batched (r .answer) (r .count) (now (out .exit))) (lent (nums .exit) (reals .exit) (ints .exit) (map .entry) (pool .entry) (spots .entry) (cells .exit)) ≡ batchOf (lent (nums .entry) (reals .entry) (ints .entry) (map .entry) (pool .entry) (spots .entry) (cells .entry)) (now (kinds .entry)) (now (handles .entry)) (now (positions .entry)) (now (out .entry)) ⌝ }
+    ensures { λ r. ⌜ outcome (batched (r .answer) (r .count) (now (out .exit))) (after nums reals ints map pool spots cells) ≡ batchOf (before nums reals ints map pool spots cells) (now (kinds .entry)) (now (handles .entry)) (now (positions .entry)) (now (out .entry)) ⌝ }
 {
     let held = point_tables::check(nums, reals, ints, map, pool, spots, cells);
     moves::batch(
@@ -149,7 +149,7 @@ pub fn query(
     found: &mut [[u32; 2]],
     places: &mut [[f32; 2]],
 ) -> Count
-    ensures { λ r. ⌜ findings r (now (found .exit)) (now (places .exit)) ≡ queryOf (lent (nums .entry) (reals .entry) (ints .entry) (map .entry) (pool .entry) (spots .entry) (cells .entry)) ll ur (now (found .entry)) (now (places .entry)) ⌝ }
+    ensures { λ r. ⌜ findings r (now (found .exit)) (now (places .exit)) ≡ queryOf (before nums reals ints map pool spots cells) ll ur (now (found .entry)) (now (places .entry)) ⌝ }
 {
     let held = point_tables::check(nums, reals, ints, map, pool, spots, cells);
     queries::query(
@@ -182,7 +182,7 @@ pub fn query_around(
     found: &mut [[u32; 2]],
     places: &mut [[f32; 2]],
 ) -> Count
-    ensures { λ r. ⌜ findings r (now (found .exit)) (now (places .exit)) ≡ aroundOf (lent (nums .entry) (reals .entry) (ints .entry) (map .entry) (pool .entry) (spots .entry) (cells .entry)) centre radius (now (found .entry)) (now (places .entry)) ⌝ }
+    ensures { λ r. ⌜ findings r (now (found .exit)) (now (places .exit)) ≡ aroundOf (before nums reals ints map pool spots cells) centre radius (now (found .entry)) (now (places .entry)) ⌝ }
 {
     let held = point_tables::check(nums, reals, ints, map, pool, spots, cells);
     queries::query_around(
@@ -215,7 +215,7 @@ pub fn query_aabb(
     found: &mut [[u32; 2]],
     places: &mut [[f32; 2]],
 ) -> Count
-    ensures { λ r. ⌜ findings r (now (found .exit)) (now (places .exit)) ≡ aabbOf (lent (nums .entry) (reals .entry) (ints .entry) (map .entry) (pool .entry) (spots .entry) (cells .entry)) a b (now (found .entry)) (now (places .entry)) ⌝ }
+    ensures { λ r. ⌜ findings r (now (found .exit)) (now (places .exit)) ≡ aabbOf (before nums reals ints map pool spots cells) a b (now (found .entry)) (now (places .entry)) ⌝ }
 {
     let held = point_tables::check(nums, reals, ints, map, pool, spots, cells);
     queries::query_aabb(
@@ -244,7 +244,7 @@ pub fn maintain(
     spots: &mut [[f32; 2]],
     cells: &mut [[u64; 2]],
 ) -> Maintained
-    ensures { λ r. ⌜ outcome r (lent (nums .exit) (reals .exit) (ints .exit) (map .exit) (pool .exit) (spots .exit) (cells .exit)) ≡ maintainOf (lent (nums .entry) (reals .entry) (ints .entry) (map .entry) (pool .entry) (spots .entry) (cells .entry)) ⌝ }
+    ensures { λ r. ⌜ outcome r (after nums reals ints map pool spots cells) ≡ maintainOf (before nums reals ints map pool spots cells) ⌝ }
 {
     let held = point_tables::check(nums, reals, ints, map, pool, spots, cells);
     upkeep::maintain(nums, reals, ints, map, pool, spots, cells, held)

@@ -2,7 +2,7 @@
 ghost use mathlib.Core.Path.{_≡_};
 ghost use mathlib.Core.Bool.{true};
 ghost use Rattle.cells.specs.CellRule.{Reached};
-ghost use Rattle.point_tables.specs.Tables.{tables};
+ghost use Rattle.point_tables.specs.Lent.{before, lent};
 ghost use Rattle.point_tables.specs.Decide.{holds};
 ghost use Rattle.queries.specs.Queries.{findings, searchOf, queryOf, aroundOf, aabbOf};
 
@@ -43,9 +43,9 @@ fn search(
     handles: &mut [[u32; 2]],
     places: &mut [[f32; 2]],
 ) -> Count
-    requires { ⌜ held ≡ holds (tables (now nums) (now reals) (now ints) (now map) (now pool) (now spots) (now cells)) ⌝ }
+    requires { ⌜ held ≡ holds (lent nums reals ints map pool spots cells) ⌝ }
     requires { ⌜ (ok ≡ true → Reached ll × Reached ur) ⌝ }
-    ensures { λ r. ⌜ findings r (now (handles .exit)) (now (places .exit)) ≡ searchOf (tables (now (nums .entry)) (now (reals .entry)) (now (ints .entry)) (now (map .entry)) (now (pool .entry)) (now (spots .entry)) (now (cells .entry))) ok ll ur test (now (handles .entry)) (now (places .entry)) ⌝ }
+    ensures { λ r. ⌜ findings r (now (handles .exit)) (now (places .exit)) ≡ searchOf (before nums reals ints map pool spots cells) ok ll ur test (now (handles .entry)) (now (places .entry)) ⌝ }
 {
     if !held {
         return replies::refused(3);
@@ -78,8 +78,8 @@ pub fn query(
     handles: &mut [[u32; 2]],
     places: &mut [[f32; 2]],
 ) -> Count
-    requires { ⌜ held ≡ holds (tables (now nums) (now reals) (now ints) (now map) (now pool) (now spots) (now cells)) ⌝ }
-    ensures { λ r. ⌜ findings r (now (handles .exit)) (now (places .exit)) ≡ queryOf (tables (now (nums .entry)) (now (reals .entry)) (now (ints .entry)) (now (map .entry)) (now (pool .entry)) (now (spots .entry)) (now (cells .entry))) ll ur (now (handles .entry)) (now (places .entry)) ⌝ }
+    requires { ⌜ held ≡ holds (lent nums reals ints map pool spots cells) ⌝ }
+    ensures { λ r. ⌜ findings r (now (handles .exit)) (now (places .exit)) ≡ queryOf (before nums reals ints map pool spots cells) ll ur (now (handles .entry)) (now (places .entry)) ⌝ }
 {
     let ok = position_in_domain(ll) & position_in_domain(ur);
     search(
@@ -115,8 +115,8 @@ pub fn query_around(
     handles: &mut [[u32; 2]],
     places: &mut [[f32; 2]],
 ) -> Count
-    requires { ⌜ held ≡ holds (tables (now nums) (now reals) (now ints) (now map) (now pool) (now spots) (now cells)) ⌝ }
-    ensures { λ r. ⌜ findings r (now (handles .exit)) (now (places .exit)) ≡ aroundOf (tables (now (nums .entry)) (now (reals .entry)) (now (ints .entry)) (now (map .entry)) (now (pool .entry)) (now (spots .entry)) (now (cells .entry))) centre radius (now (handles .entry)) (now (places .entry)) ⌝ }
+    requires { ⌜ held ≡ holds (lent nums reals ints map pool spots cells) ⌝ }
+    ensures { λ r. ⌜ findings r (now (handles .exit)) (now (places .exit)) ≡ aroundOf (before nums reals ints map pool spots cells) centre radius (now (handles .entry)) (now (places .entry)) ⌝ }
 {
     let ok = position_in_domain(centre) & radius_in_domain(radius);
     let ll = Position {
@@ -160,8 +160,8 @@ pub fn query_aabb(
     handles: &mut [[u32; 2]],
     places: &mut [[f32; 2]],
 ) -> Count
-    requires { ⌜ held ≡ holds (tables (now nums) (now reals) (now ints) (now map) (now pool) (now spots) (now cells)) ⌝ }
-    ensures { λ r. ⌜ findings r (now (handles .exit)) (now (places .exit)) ≡ aabbOf (tables (now (nums .entry)) (now (reals .entry)) (now (ints .entry)) (now (map .entry)) (now (pool .entry)) (now (spots .entry)) (now (cells .entry))) a b (now (handles .entry)) (now (places .entry)) ⌝ }
+    requires { ⌜ held ≡ holds (lent nums reals ints map pool spots cells) ⌝ }
+    ensures { λ r. ⌜ findings r (now (handles .exit)) (now (places .exit)) ≡ aabbOf (before nums reals ints map pool spots cells) a b (now (handles .entry)) (now (places .entry)) ⌝ }
 {
     let ok = position_in_domain(a) & position_in_domain(b);
     let ll = lower_corner(a, b);

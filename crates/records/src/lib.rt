@@ -4,7 +4,7 @@ ghost use mathlib.Core.Path.{_≡_};
 ghost use Prim.Native.Nat.{ℕ, _<_};
 ghost use lib.ListN.{length, getD, set};
 ghost use Rattle.objects.specs.Columns.{tagOf, pendingOf, targetOf, numsOf, realsOf, intsOf};
-ghost use Rattle.point_tables.specs.Lent.{lent};
+ghost use Rattle.point_tables.specs.Lent.{after, before, lent};
 ghost use Rattle.records.specs.Spread.{noRecord, laid, gathered, rowOr, besides};
 ghost use Rattle.records.specs.Calls.{seen, setPositionFor, setPositionOn, removeFor, removeOn, maintainFor, maintainOn, insertFor, insertOn, getFor, getOn};
 ghost use Rattle.replies.specs.Replies.{reply};
@@ -166,7 +166,7 @@ pub fn set_position_for(
     h: Handle,
     at: Position,
 ) -> u32
-    ensures { λ r. ⌜ outcome (reply r 0) (lent (nums .exit) (reals .exit) (ints .exit) (map .entry) (pool .entry) (spots .entry) (cells .exit)) ≡ setPositionFor n (lent (nums .entry) (reals .entry) (ints .entry) (map .entry) (pool .entry) (spots .entry) (cells .entry)) h at ⌝ }
+    ensures { λ r. ⌜ outcome (reply r 0) (after nums reals ints map pool spots cells) ≡ setPositionFor n (before nums reals ints map pool spots cells) h at ⌝ }
 {
     if n != nums.len() {
         return 3;
@@ -186,7 +186,7 @@ pub fn set_position(
     h: Handle,
     at: Position,
 ) -> u32
-    ensures { λ r. ⌜ seen (reply r 0) (now (records .exit)) (lent (nums .exit) (reals .exit) (ints .exit) (map .entry) (pool .entry) (spots .entry) (cells .exit)) ≡ setPositionOn (now (records .entry)) (lent (nums .entry) (reals .entry) (ints .entry) (map .entry) (pool .entry) (spots .entry) (cells .entry)) h at ⌝ }
+    ensures { λ r. ⌜ seen (reply r 0) (now (records .exit)) (after nums reals ints map pool spots cells) ≡ setPositionOn (now (records .entry)) (before nums reals ints map pool spots cells) h at ⌝ }
 {
     spread(records, nums, reals, ints);
     let n = records.len();
@@ -206,7 +206,7 @@ pub fn remove_for(
     cells: &mut [[u64; 2]],
     h: Handle,
 ) -> Reply
-    ensures { λ r. ⌜ outcome r (lent (nums .exit) (reals .exit) (ints .exit) (map .entry) (pool .entry) (spots .entry) (cells .exit)) ≡ removeFor n (lent (nums .entry) (reals .entry) (ints .entry) (map .entry) (pool .entry) (spots .entry) (cells .entry)) h ⌝ }
+    ensures { λ r. ⌜ outcome r (after nums reals ints map pool spots cells) ≡ removeFor n (before nums reals ints map pool spots cells) h ⌝ }
 {
     if n != nums.len() {
         return Reply { answer: 3, obj: 0 };
@@ -226,7 +226,7 @@ pub fn remove(
     cells: &mut [[u64; 2]],
     h: Handle,
 ) -> Reply
-    ensures { λ r. ⌜ seen r (now (records .exit)) (lent (nums .exit) (reals .exit) (ints .exit) (map .entry) (pool .entry) (spots .entry) (cells .exit)) ≡ removeOn (now (records .entry)) (lent (nums .entry) (reals .entry) (ints .entry) (map .entry) (pool .entry) (spots .entry) (cells .entry)) h ⌝ }
+    ensures { λ r. ⌜ seen r (now (records .exit)) (after nums reals ints map pool spots cells) ≡ removeOn (now (records .entry)) (before nums reals ints map pool spots cells) h ⌝ }
 {
     spread(records, nums, reals, ints);
     let n = records.len();
@@ -245,7 +245,7 @@ pub fn maintain_for(
     spots: &mut [[f32; 2]],
     cells: &mut [[u64; 2]],
 ) -> Maintained
-    ensures { λ r. ⌜ outcome r (lent (nums .exit) (reals .exit) (ints .exit) (map .exit) (pool .exit) (spots .exit) (cells .exit)) ≡ maintainFor n (lent (nums .entry) (reals .entry) (ints .entry) (map .entry) (pool .entry) (spots .entry) (cells .entry)) ⌝ }
+    ensures { λ r. ⌜ outcome r (after nums reals ints map pool spots cells) ≡ maintainFor n (before nums reals ints map pool spots cells) ⌝ }
 {
     if n != nums.len() {
         return Maintained {
@@ -268,7 +268,7 @@ pub fn maintain(
     spots: &mut [[f32; 2]],
     cells: &mut [[u64; 2]],
 ) -> Maintained
-    ensures { λ r. ⌜ seen r (now (records .exit)) (lent (nums .exit) (reals .exit) (ints .exit) (map .exit) (pool .exit) (spots .exit) (cells .exit)) ≡ maintainOn (now (records .entry)) (lent (nums .entry) (reals .entry) (ints .entry) (map .entry) (pool .entry) (spots .entry) (cells .entry)) ⌝ }
+    ensures { λ r. ⌜ seen r (now (records .exit)) (after nums reals ints map pool spots cells) ≡ maintainOn (now (records .entry)) (before nums reals ints map pool spots cells) ⌝ }
 {
     spread(records, nums, reals, ints);
     let n = records.len();
@@ -289,7 +289,7 @@ pub fn insert_for(
     at: Position,
     obj: u32,
 ) -> Inserted
-    ensures { λ r. ⌜ outcome r (lent (nums .exit) (reals .exit) (ints .exit) (map .exit) (pool .exit) (spots .exit) (cells .exit)) ≡ insertFor n (lent (nums .entry) (reals .entry) (ints .entry) (map .entry) (pool .entry) (spots .entry) (cells .entry)) at obj ⌝ }
+    ensures { λ r. ⌜ outcome r (after nums reals ints map pool spots cells) ≡ insertFor n (before nums reals ints map pool spots cells) at obj ⌝ }
 {
     if n != nums.len() {
         return Inserted {
@@ -316,7 +316,7 @@ pub fn insert(
     at: Position,
     obj: u32,
 ) -> Inserted
-    ensures { λ r. ⌜ seen r (now (records .exit)) (lent (nums .exit) (reals .exit) (ints .exit) (map .exit) (pool .exit) (spots .exit) (cells .exit)) ≡ insertOn (now (records .entry)) (lent (nums .entry) (reals .entry) (ints .entry) (map .entry) (pool .entry) (spots .entry) (cells .entry)) at obj ⌝ }
+    ensures { λ r. ⌜ seen r (now (records .exit)) (after nums reals ints map pool spots cells) ≡ insertOn (now (records .entry)) (before nums reals ints map pool spots cells) at obj ⌝ }
 {
     spread(records, nums, reals, ints);
     let n = records.len();
@@ -336,7 +336,7 @@ pub fn get_for(
     cells: &[[u64; 2]],
     h: Handle,
 ) -> Got
-    ensures { λ r. ⌜ r ≡ getFor n (lent (nums .entry) (reals .entry) (ints .entry) (map .entry) (pool .entry) (spots .entry) (cells .entry)) h ⌝ }
+    ensures { λ r. ⌜ r ≡ getFor n (before nums reals ints map pool spots cells) h ⌝ }
 {
     if n != nums.len() {
         return Got {
@@ -360,7 +360,7 @@ pub fn get(
     cells: &[[u64; 2]],
     h: Handle,
 ) -> Got
-    ensures { λ r. ⌜ outcome r (lent (nums .exit) (reals .exit) (ints .exit) (map .entry) (pool .entry) (spots .entry) (cells .entry)) ≡ getOn (now (records .entry)) (lent (nums .entry) (reals .entry) (ints .entry) (map .entry) (pool .entry) (spots .entry) (cells .entry)) h ⌝ }
+    ensures { λ r. ⌜ outcome r (after nums reals ints map pool spots cells) ≡ getOn (now (records .entry)) (before nums reals ints map pool spots cells) h ⌝ }
 {
     spread(records, nums, reals, ints);
     let n = records.len();

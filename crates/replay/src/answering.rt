@@ -23,7 +23,7 @@ pub fn start(
     bmap: &mut [u64],
     bpool: &[[u64; 2]],
 ) -> Said
-    ensures { λ said. ⌜ built said (Points.lent (nums .exit) (reals .entry) (ints .entry) (map .exit) (pool .entry) (spots .entry) (cells .entry)) (Boxes.lent (bnums .exit) (breals .entry) (bmap .exit) (bpool .entry)) ≡ cellOf (Points.lent (nums .entry) (reals .entry) (ints .entry) (map .entry) (pool .entry) (spots .entry) (cells .entry)) (Boxes.lent (bnums .entry) (breals .entry) (bmap .entry) (bpool .entry)) 16 ⌝ }
+    ensures { λ said. ⌜ built said (Points.after nums reals ints map pool spots cells) (Boxes.after bnums breals bmap bpool) ≡ cellOf (Points.before nums reals ints map pool spots cells) (Boxes.before bnums breals bmap bpool) 16 ⌝ }
 {
     answers::cell(
         nums,
@@ -60,7 +60,7 @@ pub fn answer_record(
     at: usize,
 ) -> usize
     requires { ⌜ at + 12000 ≤ length (now out) ⌝ }
-    ensures { λ r. ⌜ replayed (grids (Points.lent (nums .exit) (reals .exit) (ints .exit) (map .exit) (pool .exit) (spots .exit) (cells .exit)) (Boxes.lent (bnums .exit) (breals .exit) (bmap .exit) (bpool .exit))) (written (now (out .exit)) r) ≡ replayOf (grids (Points.lent (nums .entry) (reals .entry) (ints .entry) (map .entry) (pool .entry) (spots .entry) (cells .entry)) (Boxes.lent (bnums .entry) (breals .entry) (bmap .entry) (bpool .entry))) (take len (now (line .entry))) (written (now (out .entry)) at) ⌝ }
+    ensures { λ r. ⌜ replayed (grids (Points.after nums reals ints map pool spots cells) (Boxes.after bnums breals bmap bpool)) (written (now (out .exit)) r) ≡ replayOf (grids (Points.before nums reals ints map pool spots cells) (Boxes.before bnums breals bmap bpool)) (take len (now (line .entry))) (written (now (out .entry)) at) ⌝ }
     ensures { λ r. ⌜ r ≤ at + 12000 ⌝ }
 {
     let mut handles = [[0u32; 2]; 256];

@@ -4,7 +4,7 @@ ghost use mathlib.Core.Path.{_≡_};
 ghost use Prim.Native.Nat.{_+_, _-_, _≤_, _<_};
 ghost use lib.ListN.{length};
 ghost use Rattle.storage.specs.Pooled.{Columns};
-ghost use Rattle.point_tables.specs.Lent.{lent};
+ghost use Rattle.point_tables.specs.Lent.{before, lent};
 ghost use Rattle.point_tables.specs.Holds.{Holds};
 ghost use Rattle.maintain.specs.Kept.{kept};
 ghost use Rattle.maintain.specs.Closed.{keptEntries};
@@ -115,7 +115,7 @@ pub fn sweep_lists(
     cells: &[[u64; 2]],
 ) -> usize
     requires { ⌜ Holds (lent nums reals ints map pool spots cells) ⌝ }
-    ensures { λ r. ⌜ (r ≡ length (keptEntries (lent (nums .entry) (reals .entry) (ints .entry) (map .entry) (pool .entry) (spots .entry) (cells .entry)))) × Columns (keptEntries (lent (nums .entry) (reals .entry) (ints .entry) (map .entry) (pool .entry) (spots .entry) (cells .entry))) (now (pool .entry)) (now (spots .entry)) (now (pool .exit)) (now (spots .exit)) ⌝ }
+    ensures { λ r. ⌜ (r ≡ length (keptEntries (before nums reals ints map pool spots cells))) × Columns (keptEntries (before nums reals ints map pool spots cells)) (now (pool .entry)) (now (spots .entry)) (now (pool .exit)) (now (spots .exit)) ⌝ }
 {
     let used = basics::index_of(map[1]);
     let rows = basics::index_of(map[2]);

@@ -1,7 +1,7 @@
 // `maintain` of a point grid: one sweep over the lists, one pass over the slots, one merge, and the cell table anew.
 // The caller has checked whether the tables hold a grid, and hands the verdict down as `held`.
 ghost use mathlib.Core.Path.{_≡_};
-ghost use Rattle.point_tables.specs.Lent.{lent};
+ghost use Rattle.point_tables.specs.Lent.{after, before, lent};
 ghost use Rattle.point_tables.specs.Holds.{Holds};
 ghost use Rattle.point_tables.specs.Decide.{holds};
 ghost use Rattle.point_tables.specs.Outcome.{outcome};
@@ -31,7 +31,7 @@ fn settle_all(
     cells: &mut [[u64; 2]],
 )
     requires { ⌜ Holds (lent nums reals ints map pool spots cells) ⌝ }
-    ensures { λ _. ⌜ lent (nums .exit) (reals .exit) (ints .exit) (map .exit) (pool .exit) (spots .exit) (cells .exit) ≡ settledTables (lent (nums .entry) (reals .entry) (ints .entry) (map .entry) (pool .entry) (spots .entry) (cells .entry)) ⌝ }
+    ensures { λ _. ⌜ after nums reals ints map pool spots cells ≡ settledTables (before nums reals ints map pool spots cells) ⌝ }
 {
     let w = sweep::sweep_lists(nums, reals, ints, map, pool, spots, cells);
     let k = settle::settle_slots(nums, reals, ints, map, pool, w);
@@ -52,7 +52,7 @@ pub fn maintain(
     held: bool,
 ) -> Maintained
     requires { ⌜ held ≡ holds (lent nums reals ints map pool spots cells) ⌝ }
-    ensures { λ r. ⌜ outcome r (lent (nums .exit) (reals .exit) (ints .exit) (map .exit) (pool .exit) (spots .exit) (cells .exit)) ≡ maintainOf (lent (nums .entry) (reals .entry) (ints .entry) (map .entry) (pool .entry) (spots .entry) (cells .entry)) ⌝ }
+    ensures { λ r. ⌜ outcome r (after nums reals ints map pool spots cells) ≡ maintainOf (before nums reals ints map pool spots cells) ⌝ }
 {
     if !held {
         return Maintained {
