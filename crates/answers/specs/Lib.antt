@@ -2,5 +2,3 @@
 pub mod State
 pub mod Cell
 pub mod Answer
-pub mod AnswerLaws
-pub mod ToldLaws

@@ -1,2 +1,3 @@
 -- What the proofs of blank share.
 mod Fill
+pub mod laws

@@ -1,6 +1,3 @@
 -- What the box grid of the trace answers to a request.
 pub mod Changes
-pub mod ChangeLaws
 pub mod Searches
-pub mod SearchLaws
-pub mod ToldLaws

@@ -15,10 +15,10 @@ use Rattle.box_tables.specs.Holds.{Holds}
 use Rattle.box_tables.specs.Decide.{holds, holds-says}
 use Rattle.box_tables.specs.Outcome.{outcome}
 use Rattle.box_inserts.specs.Insert.{fewCells}
-use Rattle.box_inserts.specs.InsertLaws.{few-says}
+use Rattle.box_inserts.proofs.laws.InsertLaws.{few-says}
 use Rattle.box_changes.specs.SetAabb.{placed, hasRoomFor, setAabbAnswer, setAabbOf}
-use Rattle.box_changes.specs.RemoveLaws.{isGood, Names, names}
-use Rattle.box_changes.specs.SetAabbLaws.{answerBy, room-for-says}
+use Rattle.box_changes.proofs.laws.RemoveLaws.{isGood, Names, names}
+use Rattle.box_changes.proofs.laws.SetAabbLaws.{answerBy, room-for-says}
 use Rattle.box_changes.specs.Steps.{Movable}
 
 module _ (t : Tables) (h : Handle) (b : Aabb) (held : Bool) (eh : held ≡ holds t) where

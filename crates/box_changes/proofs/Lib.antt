@@ -2,3 +2,4 @@
 mod Answers
 mod Shifted
 mod Taken
+pub mod laws

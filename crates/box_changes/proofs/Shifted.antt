@@ -15,13 +15,13 @@ use Rattle.cells.specs.Numbers.{Near, cell-ext}
 use Rattle.cells.specs.Range.{cellsIn}
 use Rattle.storage.specs.Keyed.{Sorted, written}
 use Rattle.storage.specs.Entries.{rowKey}
-use Rattle.storage.specs.WrittenLaws.{length-written}
+use Rattle.storage.proofs.laws.WrittenLaws.{length-written}
 use Rattle.coverage.specs.Coverage.{entered, left, Stands}
-use Rattle.coverage.specs.EnterLaws.{entered-length}
-use Rattle.coverage.specs.LeaveLaws.{left-sorted, left-length}
+use Rattle.coverage.proofs.laws.EnterLaws.{entered-length}
+use Rattle.coverage.proofs.laws.LeaveLaws.{left-sorted, left-length}
 use Rattle.box_tables.specs.Tables.{Tables, tables, sizeOf, counting, aabbOn, cornersOf}
-use Rattle.box_tables.specs.BoxLaws as Box
-use Rattle.box_tables.specs.HoldsLaws.{entries-sorted, low-near, high-near}
+use Rattle.box_tables.proofs.laws.BoxLaws as Box
+use Rattle.box_tables.proofs.laws.HoldsLaws.{entries-sorted, low-near, high-near}
 use Rattle.box_tables.specs.declared.Span.{Span}
 use Rattle.box_changes.specs.SetAabb.{Same, d-stay, cellsStay, recorded, moved, placed}
 use Rattle.box_changes.specs.Steps.{Movable, itemIn, leftIn, shiftedRows, shiftedMap, shiftedPool, stayIn, relistedMap, relistedPool, oldSpan, newSpan, Shifting, Placing}

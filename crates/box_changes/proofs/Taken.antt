@@ -16,12 +16,12 @@ use Rattle.storage.specs.Entries.{rowKey}
 use Rattle.coverage.specs.Coverage.{left, Stands}
 use Rattle.box_tables.specs.Tables.{Tables, tables, sizeOf, usedOf, counting, aabbOn, objOn, itemOf}
 use Rattle.box_tables.specs.Decide.{holds, holds-says}
-use Rattle.box_tables.specs.HoldsLaws.{entries-sorted, low-near, high-near}
+use Rattle.box_tables.proofs.laws.HoldsLaws.{entries-sorted, low-near, high-near}
 use Rattle.box_tables.specs.Outcome.{Outcome, outcome}
 use Rattle.box_tables.specs.declared.Span.{Span}
 use Rattle.box_tables.specs.Way.{spanOf}
 use Rattle.box_changes.specs.Remove.{entriesWithout, takenOut, removeAnswer, removeOf}
-use Rattle.box_changes.specs.RemoveLaws.{names}
+use Rattle.box_changes.proofs.laws.RemoveLaws.{names}
 use Rattle.box_changes.specs.Steps.{Object}
 use Rattle.replies.specs.Replies.{reply}
 

@@ -2,8 +2,3 @@
 pub mod Remove
 pub mod SetAabb
 pub mod Steps
-pub mod WithoutLaws
-pub mod RemoveKeeps
-pub mod RemoveLaws
-pub mod SetAabbKeeps
-pub mod SetAabbLaws

@@ -15,20 +15,20 @@ use Rattle.cells.specs.Size.{SizeInDomain}
 use Rattle.slots.specs.Slot.{live, phaseAt}
 use Rattle.slot_walks.specs.Live.{liveAt}
 use Rattle.blank.specs.Blank.{blankNums}
-use Rattle.blank.specs.BlankLaws.{blank-not-live}
+use Rattle.blank.proofs.laws.BlankLaws.{blank-not-live}
 use Rattle.box_tables.specs.Tables.{Tables, slotsOf, Sized}
 use Rattle.box_tables.specs.Holds.{Holds}
 use Rattle.box_tables.specs.Decide.{holds, holds-says}
 use Rattle.box_inserts.specs.New.{built}
-use Rattle.box_inserts.specs.NewLaws.{built-holds}
-use Rattle.box_inserts.specs.InsertLaws.{insert-holds, insert-count}
-use Rattle.box_inserts.specs.LiveLaws.{liveCount}
-use Rattle.box_changes.specs.SetAabbLaws.{set-aabb-holds, set-live}
-use Rattle.box_changes.specs.RemoveLaws.{remove-holds, remove-live}
+use Rattle.box_inserts.proofs.laws.NewLaws.{built-holds}
+use Rattle.box_inserts.proofs.laws.InsertLaws.{insert-holds, insert-count}
+use Rattle.box_inserts.proofs.laws.LiveLaws.{liveCount}
+use Rattle.box_changes.proofs.laws.SetAabbLaws.{set-aabb-holds, set-live}
+use Rattle.box_changes.proofs.laws.RemoveLaws.{remove-holds, remove-live}
 use Rattle.box_reads.specs.Reads.{lenOf}
-use Rattle.box_reads.specs.ReadsLaws.{len-counts}
+use Rattle.box_reads.proofs.laws.ReadsLaws.{len-counts}
 use Rattle.box_reads.specs.Clear.{clearOf}
-use Rattle.box_reads.specs.ClearLaws.{clear-refused, clear-none, clear-holds, clear-counts}
+use Rattle.box_reads.proofs.laws.ClearLaws.{clear-refused, clear-none, clear-holds, clear-counts}
 use Rattle.box_histories.specs.History.{Op, insert, setAabb, remove, clear, after, afterAll, accepted, putIn, takenOut, allIn, allOut}
 
 -- ---- every call keeps the tables holding a grid

@@ -9,7 +9,7 @@ use Rattle.basics.specs.Says.{Says, says-same}
 use Rattle.basics.specs.Refusals.{orElse}
 use Rattle.cells.specs.Size.{SizeInDomain}
 use Rattle.blank.specs.Blank.{blankNums, blankMap}
-use Rattle.blank.specs.BlankLaws.{size-says}
+use Rattle.blank.proofs.laws.BlankLaws.{size-says}
 use Rattle.box_tables.specs.Tables.{Tables, tables, slotsOf, Sized}
 use Rattle.box_tables.specs.Decide.{sized, sized-says}
 use Rattle.box_tables.specs.Outcome.{outcome}

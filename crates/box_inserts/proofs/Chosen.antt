@@ -15,7 +15,7 @@ use Rattle.slots.specs.declared.Usable.{Usable}
 use Rattle.slots.specs.declared.Usable.the-variants.{At, Nothing}
 use Rattle.slots.specs.Map.{lowestUsable, isSome}
 use Rattle.slots.specs.Slot.{versionAt}
-use Rattle.slots.specs.SlotLaws.{lowest-free}
+use Rattle.slots.proofs.laws.SlotLaws.{lowest-free}
 use Rattle.box_tables.specs.Tables.{Tables, sizeOf, slotsOf, covers}
 use Rattle.box_tables.specs.Decide.{holds, holds-says}
 use Rattle.box_tables.specs.Outcome.{outcome}
@@ -23,7 +23,7 @@ use Rattle.replies.specs.declared.Inserted.{Inserted}
 use Rattle.replies.specs.Replies.{inserted}
 use Rattle.box_inserts.specs.Insert.{usableSlot, put, fewCells, hasRoom, insertAnswer, insertOf}
 use Rattle.box_inserts.specs.Fresh.{answerBy, Ready, Fresh}
-use Rattle.box_inserts.specs.InsertLaws.{few-says, room-says, insert-done}
+use Rattle.box_inserts.proofs.laws.InsertLaws.{few-says, room-says, insert-done}
 
 -- ---- the choice, test by test
 module _ (held : Bool) (b : Aabb) (m : List ℕ) (n room : ℕ) where

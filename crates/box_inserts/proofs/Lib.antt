@@ -2,3 +2,4 @@
 mod Built
 mod Placed
 mod Chosen
+pub mod laws

@@ -16,8 +16,8 @@ use Rattle.storage.specs.Entries.{rowKey}
 use Rattle.coverage.specs.Coverage.{entered}
 use Rattle.box_tables.specs.Tables.{Tables, tables, sizeOf, usedOf, counting, covers, itemOf, cornersOf}
 use Rattle.box_tables.specs.Way.{spanOf}
-use Rattle.box_tables.specs.BoxLaws.{low-near, high-near}
-use Rattle.box_tables.specs.HoldsLaws.{entries-sorted}
+use Rattle.box_tables.proofs.laws.BoxLaws.{low-near, high-near}
+use Rattle.box_tables.proofs.laws.HoldsLaws.{entries-sorted}
 use Rattle.box_tables.specs.declared.Span.{Span}
 use Rattle.box_inserts.specs.Insert.{put}
 use Rattle.box_inserts.specs.Fresh.{Fresh}

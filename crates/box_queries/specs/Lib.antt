@@ -1,22 +1,8 @@
 -- What the queries of a box grid find.
 pub mod Firsts
 pub mod Queries
-pub mod Shared
-pub mod Cases
 pub mod Marks
 pub mod Gather
 pub mod Collected
 pub mod Put
 pub mod Look
-pub mod FirstsLaws
-pub mod MarksLaws
-pub mod CollectLaws
-pub mod KeepLaws
-pub mod AnswerLaws
-pub mod StandsLaws
-pub mod WalkLaws
-pub mod LookLaws
-pub mod BroadLaws
-pub mod CallLaws
-pub mod SharedLaws
-pub mod CaseLaws

@@ -15,9 +15,9 @@ use Rattle.box_tables.specs.Decide.{holds, holds-says}
 use Rattle.box_tables.specs.Outcome.{outcome}
 use Rattle.replies.specs.declared.Count.{Count}
 use Rattle.box_reads.specs.Live.{liveSlots, countBy, listAnswer, listCount}
-use Rattle.box_reads.specs.LiveLaws.{list-passed, listed, listed-0, listed-no}
+use Rattle.box_reads.proofs.laws.LiveLaws.{list-passed, listed, listed-0, listed-no}
 use Rattle.box_reads.specs.Clear.{boxAt, cleared, wrote, clearOf}
-use Rattle.box_reads.specs.ClearLaws.{clear-0, clear-no}
+use Rattle.box_reads.proofs.laws.ClearLaws.{clear-0, clear-no}
 
 -- the verdict says that the tables hold a grid
 pub a-grid : (t : Tables) (held : Bool) → held ≡ holds t → held ≡ true → Holds t

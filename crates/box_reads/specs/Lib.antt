@@ -2,7 +2,3 @@
 pub mod Live
 pub mod Reads
 pub mod Clear
-pub mod LiveLaws
-pub mod ReadsLaws
-pub mod ClearKeeps
-pub mod ClearLaws

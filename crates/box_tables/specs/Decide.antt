@@ -9,7 +9,7 @@ use lib.ListN.{length, getD, drop}
 use Rattle.basics.specs.Says.{Says, Decided, said, said-says, d-via, d-and, d-imp, d-none, d-eq, d-le, d-lt, d-all, d-any, d-t}
 use Rattle.geometry.specs.Domain.{aabbInDomain}
 use Rattle.slots.specs.Slot.{live, phaseAt}
-use Rattle.slots.specs.Decide.{d-slots}
+use Rattle.slots.proofs.laws.Decide.{d-slots}
 use Rattle.storage.specs.Packed.{first, second}
 use Rattle.box_tables.specs.Tables.{Tables, sizeOf, usedOf, slotsOf, aabbOn, itemOn, Lengths, Sized}
 use Rattle.box_tables.specs.Holds.{Counted, BoxHolds, EntryHolds, Holds}

@@ -4,12 +4,5 @@ pub mod Holds
 pub mod Decide
 pub mod Outcome
 pub mod Lent
-pub mod BoxLaws
-pub mod HoldsLaws
-pub mod HeadLaws
 pub mod Way
-pub mod WayLaws
 pub mod Check
-pub mod PassLaws
-pub mod CheckLaws
-pub mod ListedLaws

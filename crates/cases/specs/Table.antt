@@ -6,8 +6,8 @@ use mathlib.Core.Bool.{Bool, true, _&&_}
 use mathlib.Core.List.{List, [], _∷_, _++_, map}
 use lib.Ieee.{fits}
 use lib.ListN.{length}
-use Rattle.cells.specs.CellTable as CellTable
-use Rattle.geometry.specs.Cases as Cases
+use Rattle.cells.proofs.laws.CellTable as CellTable
+use Rattle.geometry.proofs.laws.Cases as Cases
 
 pub data Line : Type 0 where
   cell : CellTable.Row → Line

@@ -13,8 +13,8 @@ use mir.Val.{Fits, SFits, toZ, ofZ}
 use mir.ValLaws.{toZ-ofZ}
 use Rattle.basics.specs.Says.{Says}
 use Rattle.geometry.specs.Domain.{inDomain}
-use Rattle.geometry.specs.DomainLaws.{domain-fits, domain-finite}
-use Rattle.geometry.specs.Rounding.{number}
+use Rattle.geometry.proofs.laws.DomainLaws.{domain-fits, domain-finite}
+use Rattle.geometry.proofs.laws.Rounding.{number}
 use Rattle.cells.specs.CellRule.{cellOf}
 use Rattle.cells.specs.Size.{SizeInDomain}
 use Rattle.cells.specs.ReachLaws.{domain-reached}

@@ -4,3 +4,4 @@ pub mod Fields
 pub mod Signs
 pub mod Edges
 pub mod Quotient
+pub mod laws

@@ -12,7 +12,7 @@ use mir.ValLaws.{toZ-pos, toZ-ofZ}
 use borrow.Author.Tests.{le-ltb, ltb-true}
 use borrow.Author.Needs.{sfits-of}
 use Rattle.cells.specs.Key.{upward, downward}
-use Rattle.cells.specs.KeyLaws.{upward-lt, downward-small}
+use Rattle.cells.proofs.laws.KeyLaws.{upward-lt, downward-small}
 
 -- a signed number is read back from its bits
 pub back : {z : ℤ} → mag z < 2 ^ hbits w32 → toZ w32 (ofZ w32 z) ≡ z

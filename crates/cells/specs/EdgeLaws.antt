@@ -17,9 +17,9 @@ use lib.Ieee.Scale.{finite, overflow}
 use Rattle.basics.specs.Says.{Says, says-t, says-via}
 use Rattle.geometry.specs.Domain.{within}
 use Rattle.geometry.specs.Value.{Num, scaled-zero, lt-num, le-num, either}
-use Rattle.geometry.specs.Sums.{neg-num}
-use Rattle.geometry.specs.Back.{num-le, num-lt}
-use Rattle.geometry.specs.WithinLaws.{within-finite, at, bounds}
+use Rattle.geometry.proofs.laws.Sums.{neg-num}
+use Rattle.geometry.proofs.laws.Back.{num-le, num-lt}
+use Rattle.geometry.proofs.laws.WithinLaws.{within-finite, at, bounds}
 use Rattle.cells.specs.CellRule.{cellOf}
 use Rattle.cells.specs.CellRuleLaws.{zero-or}
 use Rattle.cells.specs.CellSignLaws.{cell-pos, cell-neg, cell-zero}

@@ -16,11 +16,11 @@ use lib.Ieee.Back.{round-whole}
 use lib.Ieee.Scale.{overflow}
 use Rattle.basics.specs.Says.{Says, says-via, d-le}
 use Rattle.geometry.specs.Domain.{within, reach, inDomain}
-use Rattle.geometry.specs.DomainLaws.{domain-fits, domain-within, domain-finite}
+use Rattle.geometry.proofs.laws.DomainLaws.{domain-fits, domain-within, domain-finite}
 use Rattle.geometry.specs.Value.{Num, cast, lt-num, le-num, either}
-use Rattle.geometry.specs.Rounding.{from-value, number}
-use Rattle.geometry.specs.Back.{num-le, num-lt}
-use Rattle.geometry.specs.WithinLaws.{at, bounds}
+use Rattle.geometry.proofs.laws.Rounding.{from-value, number}
+use Rattle.geometry.proofs.laws.Back.{num-le, num-lt}
+use Rattle.geometry.proofs.laws.WithinLaws.{at, bounds}
 use Rattle.cells.specs.CellRule.{cellOf}
 use Rattle.cells.specs.ReachLaws.{domain-reached}
 use Rattle.cells.specs.Size.{SizeInDomain, sizeMost}

@@ -17,7 +17,7 @@ use lib.Ieee.Scale.{overflow, finite}
 use borrow.Author.Tests.{leb-false, lt-leb, le-ltb, ne-eqb, eqb-false}
 use Rattle.basics.specs.Says.{d-lt, d-eq}
 use Rattle.geometry.specs.Value.{Num}
-use Rattle.geometry.specs.Rounding.{from-value}
+use Rattle.geometry.proofs.laws.Rounding.{from-value}
 
 -- ---- the number of an exponent's field and digits, and of a pattern
 abbrev pub fieldsOf : ℕ → ℕ → ℕ

@@ -9,9 +9,9 @@ use lib.Ieee.{Float, nan, inf, fin, binary32, up, down, lt, eq, le, fits}
 use lib.Ieee.Fits.{and-i, and-l, and-r}
 use Rattle.geometry.specs.declared.Position.{Position}
 use Rattle.geometry.specs.Domain.{within, inDomain, positionInDomain, radiusInDomain}
-use Rattle.geometry.specs.Back.{le-ff, le-tt, le-tf}
-use Rattle.geometry.specs.DomainLaws.{domain-within, position-parts, radius-in-domain, low-within, high-within}
-use Rattle.geometry.specs.CircleLaws.{HeldPosition}
+use Rattle.geometry.proofs.laws.Back.{le-ff, le-tt, le-tf}
+use Rattle.geometry.proofs.laws.DomainLaws.{domain-within, position-parts, radius-in-domain, low-within, high-within}
+use Rattle.geometry.proofs.laws.CircleLaws.{HeldPosition}
 use Rattle.cells.specs.CellRule.{Reached}
 use Rattle.cells.specs.CellRuleLaws.{le-of-tests}
 use Rattle.cells.specs.CircleRange.{circleLow, circleHigh}

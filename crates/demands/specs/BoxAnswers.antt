@@ -26,10 +26,10 @@ use Rattle.box_changes.specs.SetAabb.{hasRoomFor, setAabbAnswer, setAabbOf}
 use Rattle.box_reads.specs.declared.Got.{Got}
 use Rattle.replies.specs.declared.Count.{Count}
 use Rattle.box_reads.specs.Live.{liveSlots, listAnswer, listCount}
-use Rattle.box_reads.specs.LiveLaws.{answer-of}
+use Rattle.box_reads.proofs.laws.LiveLaws.{answer-of}
 use Rattle.box_reads.specs.Reads.{zero-aabb, got, listing, getAnswer, getOf, lenOf, handlesOf}
 use Rattle.box_reads.specs.Clear.{wrote, clearOf}
-use Rattle.box_reads.specs.ClearLaws.{clear-returned, clear-no}
+use Rattle.box_reads.proofs.laws.ClearLaws.{clear-returned, clear-no}
 use Rattle.box_queries.specs.Queries as Queries
 use Rattle.box_queries.specs.Queries.{Handles, Findings, findings, broad, narrow, roomOf, answerOf, broadOf, queryOf}
 use Rattle.demands.specs.Answers.{firstThat}

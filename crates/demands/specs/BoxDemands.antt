@@ -11,11 +11,11 @@ use Rattle.box_tables.specs.Holds.{Holds}
 use Rattle.box_tables.specs.Decide.{holds, holds-says}
 use Rattle.box_tables.specs.Outcome.{Outcome, outcome}
 use Rattle.box_inserts.specs.New.{built, newOf}
-use Rattle.box_inserts.specs.NewLaws.{built-holds, new-holds, new-refused}
-use Rattle.box_inserts.specs.InsertLaws.{insert-holds}
-use Rattle.box_changes.specs.SetAabbLaws.{set-aabb-holds}
-use Rattle.box_changes.specs.RemoveLaws.{remove-holds}
-use Rattle.box_reads.specs.ClearLaws.{clear-holds}
+use Rattle.box_inserts.proofs.laws.NewLaws.{built-holds, new-holds, new-refused}
+use Rattle.box_inserts.proofs.laws.InsertLaws.{insert-holds}
+use Rattle.box_changes.proofs.laws.SetAabbLaws.{set-aabb-holds}
+use Rattle.box_changes.proofs.laws.RemoveLaws.{remove-holds}
+use Rattle.box_reads.proofs.laws.ClearLaws.{clear-holds}
 use Rattle.box_reads.specs.Reads.{Listing}
 use Rattle.box_reads.specs.Clear.{Written}
 use Rattle.box_queries.specs.Queries.{Handles, Findings}

@@ -16,10 +16,10 @@ use Rattle.point_tables.specs.Holds.{Holds}
 use Rattle.point_tables.specs.Decide.{holds, holds-says}
 use Rattle.point_tables.specs.Outcome.{Outcome, outcome}
 use Rattle.inserts.specs.New.{built, newOf}
-use Rattle.inserts.specs.NewLaws.{built-holds, new-holds, new-refused}
-use Rattle.inserts.specs.InsertLaws.{insert-holds}
-use Rattle.moves.specs.MovesKeeps.{set-position-keeps, remove-keeps}
-use Rattle.moves.specs.BatchAnswerLaws.{batch-keeps}
+use Rattle.inserts.proofs.laws.NewLaws.{built-holds, new-holds, new-refused}
+use Rattle.inserts.proofs.laws.InsertLaws.{insert-holds}
+use Rattle.moves.proofs.laws.MovesKeeps.{set-position-keeps, remove-keeps}
+use Rattle.moves.proofs.laws.BatchAnswerLaws.{batch-keeps}
 use Rattle.removals.proofs.laws.RemoveLaws.{remove-holds}
 use Rattle.removals.proofs.laws.ClearLaws.{clear-holds}
 use Rattle.maintain.specs.MaintainLaws.{maintain-keeps}

@@ -3,17 +3,4 @@ pub mod Domain
 pub mod Circle
 pub mod Rectangle
 pub mod Intersects
-pub mod Cases
 pub mod Value
-pub mod Rounding
-pub mod Sums
-pub mod BitsLaws
-pub mod Back
-pub mod OrderLaws
-pub mod WithinLaws
-pub mod DomainLaws
-pub mod Near
-pub mod Around
-pub mod RoundingLaws
-pub mod RectangleLaws
-pub mod CircleLaws

@@ -17,7 +17,7 @@ use Rattle.cells.specs.Size.{SizeInDomain}
 use Rattle.slots.specs.declared.Handle.{Handle}
 use Rattle.slots.specs.declared.Usable.{Usable}
 use Rattle.slots.specs.declared.Usable.the-variants.{At, Nothing}
-use Rattle.slots.specs.SlotLaws.{lowest-free}
+use Rattle.slots.proofs.laws.SlotLaws.{lowest-free}
 use Rattle.storage.specs.Keyed.{written}
 use Rattle.objects.specs.declared.State.the-variants.{Removed}
 use Rattle.objects.specs.States.{aimed}
@@ -26,14 +26,14 @@ use Rattle.point_tables.specs.Holds.{Holds}
 use Rattle.point_tables.specs.Decide.{holds, holds-says}
 use Rattle.point_tables.specs.Outcome.{Outcome, outcome}
 use Rattle.inserts.specs.New.{built}
-use Rattle.inserts.specs.NewLaws.{built-holds}
+use Rattle.inserts.proofs.laws.NewLaws.{built-holds}
 use Rattle.inserts.specs.Insert.{usableSlot, insertOf}
-use Rattle.inserts.specs.InsertLaws.{insert-done, insert-outside, insert-full, insert-holds}
-use Rattle.inserts.specs.PutLaws.{more, put-used}
+use Rattle.inserts.proofs.laws.InsertLaws.{insert-done, insert-outside, insert-full, insert-holds}
+use Rattle.inserts.proofs.laws.PutLaws.{more, put-used}
 use Rattle.moves.specs.Moves.{pended, setPositionAnswer, setPositionOf, removeAnswer, removeOf}
 use Rattle.moves.specs.Batch.{Call, callOf, callsOf, tablesAfter, replies, replyRows, batched, batchAnswer, batchOf}
-use Rattle.moves.specs.MovesKeeps.{set-position-keeps, remove-keeps}
-use Rattle.moves.specs.BatchAnswerLaws.{batch-keeps}
+use Rattle.moves.proofs.laws.MovesKeeps.{set-position-keeps, remove-keeps}
+use Rattle.moves.proofs.laws.BatchAnswerLaws.{batch-keeps}
 use Rattle.removals.specs.Meaning.RemoveMaintain.{removeMaintainOf}
 use Rattle.removals.proofs.laws.RemoveLaws.{isGood, remove-done, remove-lost, remove-holds, remove-count}
 use Rattle.removals.specs.Meaning.Clear.{clearOf}

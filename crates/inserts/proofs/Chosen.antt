@@ -13,14 +13,14 @@ use Rattle.slots.specs.declared.Usable.{Usable}
 use Rattle.slots.specs.declared.Usable.the-variants.{At, Nothing}
 use Rattle.slots.specs.Map.{wordsFor, lowestUsable, NonePast}
 use Rattle.slots.specs.Slot.{versionAt}
-use Rattle.slots.specs.SlotLaws.{lowest-free}
+use Rattle.slots.proofs.laws.SlotLaws.{lowest-free}
 use Rattle.point_tables.specs.Tables.{Tables, slotsOf}
 use Rattle.point_tables.specs.Decide.{holds, holds-says}
 use Rattle.point_tables.specs.Outcome.{outcome}
 use Rattle.replies.specs.declared.Inserted.{Inserted}
 use Rattle.inserts.specs.Insert.{usableSlot, put, insertAnswer, insertOf}
 use Rattle.inserts.specs.Fresh.{Fresh, answerBy}
-use Rattle.inserts.specs.InsertLaws.{insert-done}
+use Rattle.inserts.proofs.laws.InsertLaws.{insert-done}
 use Rattle.replies.specs.Replies.{inserted}
 
 -- ---- the choice, test by test

@@ -21,10 +21,10 @@ use Rattle.objects.specs.Columns.{numsOf, realsOf, intsOf}
 use Rattle.point_tables.specs.Tables.{Tables, tables, sizeOf, usedOf, rowsOf, counting, slotsOf}
 use Rattle.inserts.specs.Insert.{entriesWith, rowsWith, put}
 use Rattle.inserts.specs.Fresh.{Fresh, freshRecord}
-use Rattle.inserts.specs.EnterLaws.{rows-least}
-use Rattle.point_tables.specs.ListedLaws.{rows-in}
-use Rattle.point_tables.specs.RoomLaws.{room}
-use Rattle.inserts.specs.PutLaws.{more}
+use Rattle.inserts.proofs.laws.EnterLaws.{rows-least}
+use Rattle.point_tables.proofs.laws.ListedLaws.{rows-in}
+use Rattle.point_tables.proofs.laws.RoomLaws.{room}
+use Rattle.inserts.proofs.laws.PutLaws.{more}
 
 module _ (t : Tables) (s : ℕ) (p : Position) (f : Fresh t s p) where
   one-more : usedOf t < slotsOf t

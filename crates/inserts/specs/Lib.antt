@@ -2,8 +2,3 @@
 pub mod New
 pub mod Insert
 pub mod Fresh
-pub mod NewLaws
-pub mod EnterLaws
-pub mod PutLaws
-pub mod InsertKeeps
-pub mod InsertLaws

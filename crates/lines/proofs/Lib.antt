@@ -1,2 +1,3 @@
 -- Laws that several proofs cite.
-pub mod Laws
+pub mod Shared
+pub mod laws

@@ -5,11 +5,3 @@ pub mod Taken
 pub mod Requests
 pub mod Cursor
 pub mod Texts
-pub mod FieldLaws
-pub mod WordLaws
-pub mod CursorLaws
-pub mod TextLaws
-pub mod Exact
-pub mod ReadLaws
-pub mod InputLaws
-pub mod Cases

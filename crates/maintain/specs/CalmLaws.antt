@@ -13,7 +13,7 @@ use Rattle.storage.specs.Keyed.{All, under}
 use Rattle.storage.specs.Entries.{Entry, rowKey, rowItem}
 use Rattle.storage.specs.Store.{Filled}
 use Rattle.storage.specs.FilterLaws.{by-test}
-use Rattle.storage.specs.PackedLaws.{all-first, place-filled}
+use Rattle.storage.proofs.laws.PackedLaws.{all-first, place-filled}
 use Rattle.objects.specs.declared.State.{State}
 use Rattle.objects.specs.declared.State.the-variants.{Unchanged, NewPos, Relocate, Removed}
 use Rattle.objects.specs.Columns.{tagOf}

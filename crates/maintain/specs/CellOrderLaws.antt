@@ -15,7 +15,7 @@ use Rattle.storage.specs.Store.{Filled}
 use Rattle.storage.specs.Tables.{Rising}
 use Rattle.storage.specs.FilterLaws.{by-test, all-map, all-append, all-over, filter-append}
 use Rattle.storage.specs.KeyedLaws.{whole-under, none-under, sorted-flat, sorted-join}
-use Rattle.storage.specs.PackedLaws.{ascending-rising}
+use Rattle.storage.proofs.laws.PackedLaws.{ascending-rising}
 use Rattle.point_tables.specs.Tables.{Tables, rowsOf, entriesIn, cellRows}
 use Rattle.point_tables.specs.Holds.{Holds}
 use Rattle.maintain.specs.Walk.{slotOf}

@@ -10,8 +10,8 @@ use lib.Seq.{length-take-le, getD-take}
 use Rattle.storage.specs.Keyed.{All, Sorted, written}
 use Rattle.storage.specs.Entries.{Entry, entry, rowKey, rowOf, spotOf, entryKey, zipped, entriesOf}
 use Rattle.storage.specs.FilterLaws.{all-at, all-of}
-use Rattle.storage.specs.ColumnLaws.{zipped-rows, zipped-whole}
-use Rattle.storage.specs.KeepsLaws.{map-sorted, written-take}
+use Rattle.storage.proofs.laws.ColumnLaws.{zipped-rows, zipped-whole}
+use Rattle.storage.proofs.laws.KeepsLaws.{map-sorted, written-take}
 
 zipped-length : (rows : List (List ℕ)) (spots : List (List Float)) → length rows ≡ length spots → length (zipped rows spots) ≡ length rows
 zipped-length [] spots e = refl

@@ -18,7 +18,7 @@ use Rattle.storage.specs.Keyed.{All, Sorted}
 use Rattle.storage.specs.Entries.{Entry, entry, entryKey}
 use Rattle.storage.specs.Packed.{second}
 use Rattle.storage.specs.FilterLaws.{all-map}
-use Rattle.storage.specs.PackedLaws.{ordered-sorted}
+use Rattle.storage.proofs.laws.PackedLaws.{ordered-sorted}
 use Rattle.point_tables.specs.Tables.{Tables, usedOf, rowsOf, slotsOf, recordOn, entriesIn}
 use Rattle.point_tables.specs.Holds.{ListsHold, Holds}
 use Rattle.point_tables.specs.CountLaws.{isLive}

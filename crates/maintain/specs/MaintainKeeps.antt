@@ -14,8 +14,8 @@ use Rattle.storage.specs.Keyed.{All}
 use Rattle.storage.specs.Entries.{Entry, rowKey, rowItem, rowOf, spotOf, entriesOf}
 use Rattle.storage.specs.CellTable.{fresh, keysOf}
 use Rattle.storage.specs.Packed.{second, Packed}
-use Rattle.storage.specs.WrittenLaws.{length-written}
-use Rattle.storage.specs.KeepsLaws.{packed-written}
+use Rattle.storage.proofs.laws.WrittenLaws.{length-written}
+use Rattle.storage.proofs.laws.KeepsLaws.{packed-written}
 use Rattle.storage.specs.FilterLaws.{all-map, all-any, all-at, all-over}
 use Rattle.objects.specs.declared.State.the-variants.{Unchanged}
 use Rattle.objects.specs.declared.Record.{Record}

@@ -10,7 +10,7 @@ use borrow.Author.Tests.{eqb-true}
 use Rattle.basics.specs.Refusals.{pick}
 use Rattle.basics.specs.Says.{apart}
 use Rattle.slots.specs.Slot.{live, lastVersion, phaseAt, SlotsHold}
-use Rattle.slots.specs.SlotLaws.{row-holds, emptied-holds}
+use Rattle.slots.proofs.laws.SlotLaws.{row-holds, emptied-holds}
 use Rattle.storage.specs.FilterLaws.{by-test}
 use Rattle.objects.specs.declared.State.{State}
 use Rattle.objects.specs.declared.State.the-variants.{Unchanged, NewPos, Relocate, Removed}

@@ -11,7 +11,7 @@ use lib.ListN.{length, getD, length-set}
 use lib.Seq.{getD-set-same, getD-set-other, set-comm}
 use Rattle.basics.specs.Refusals.{pick}
 use Rattle.slots.specs.Map.{head, wordsFor, usable, givenBack}
-use Rattle.slots.specs.MapLaws.{given-back-length, given-back-head, given-back-other}
+use Rattle.slots.proofs.laws.MapLaws.{given-back-length, given-back-head, given-back-other}
 use Rattle.slots.specs.Slot.{live, lastVersion}
 use Rattle.objects.specs.declared.State.{State}
 use Rattle.objects.specs.declared.State.the-variants.{Unchanged, NewPos, Relocate, Removed}

@@ -11,8 +11,8 @@ use Rattle.storage.specs.Entries.{Entry, rowKey, rowOf, entryKey}
 use Rattle.storage.specs.CellTable.{fresh}
 use Rattle.storage.specs.Tables.{Tabled}
 use Rattle.storage.specs.FilterLaws.{all-at}
-use Rattle.storage.specs.FreshLaws.{fresh-is, fresh-tabled}
-use Rattle.storage.specs.KeepsLaws.{sorted-map, tabled-within}
+use Rattle.storage.proofs.laws.FreshLaws.{fresh-is, fresh-tabled}
+use Rattle.storage.proofs.laws.KeepsLaws.{sorted-map, tabled-within}
 use Rattle.point_tables.specs.Tables.{Tables, slotsOf}
 use Rattle.point_tables.specs.Holds.{Holds}
 use Rattle.point_tables.specs.CountLaws.{isLive}

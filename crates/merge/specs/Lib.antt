@@ -1,9 +1,5 @@
 -- What the merge of a tail of new entries into the sorted pool promises, and its laws; and the sort by digits.
 pub mod Grown
 pub mod SpotLaws
-pub mod GrownLaws
 pub mod Rows
-pub mod Digits
 pub mod Buckets
-pub mod DealLaws
-pub mod RadixLaws

@@ -15,10 +15,10 @@ use Rattle.point_tables.specs.Outcome.{outcome}
 use Rattle.replies.specs.declared.Reply.{Reply}
 use Rattle.moves.specs.Batch.{callsOf, replies, tablesAfter, replyRows, batchAnswer, batched, batchOf}
 use Rattle.moves.specs.Ready.{Ready}
-use Rattle.moves.specs.ReadyLaws.{holds-ready, ready-pool}
+use Rattle.moves.proofs.laws.ReadyLaws.{holds-ready, ready-pool}
 use Rattle.moves.specs.Held.{withPool, heldAfter, heldReplies}
-use Rattle.moves.specs.HeldLaws.{after-worked, replies-worked}
-use Rattle.moves.specs.BatchAnswerLaws.{batch-accepted, batch-short, batch-refused, batch-ran}
+use Rattle.moves.proofs.laws.HeldLaws.{after-worked, replies-worked}
+use Rattle.moves.proofs.laws.BatchAnswerLaws.{batch-accepted, batch-short, batch-refused, batch-ran}
 
 -- t: the tables without the pool, u: those after the calls
 module _ (t u : Tables) (pool : List (List ℕ)) (spots : List (List Float)) (kinds : List ℕ) (handles : List (List ℕ)) (positions : List (List Float)) (out : List (List ℕ)) where

@@ -1,3 +1,4 @@
 -- What the proofs of the deferred calls share.
-pub mod Laws
+pub mod Shared
 pub mod Ends
+pub mod laws

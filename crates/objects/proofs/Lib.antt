@@ -1,2 +1,3 @@
 -- The laws that the proofs of objects share.
-pub mod Laws
+pub mod Shared
+pub mod laws

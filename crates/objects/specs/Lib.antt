@@ -1,7 +1,5 @@
 -- The record of an object, its columns, its states, and when an occupied record holds.
 pub mod Columns
-pub mod ColumnLaws
 pub mod Occupied
-pub mod OccupiedLaws
 pub mod Decide
 pub mod States

@@ -1,6 +1,3 @@
 -- What the point grid of the trace answers to a request.
 pub mod Changes
 pub mod Searches
-pub mod ChangeLaws
-pub mod SearchLaws
-pub mod ToldLaws

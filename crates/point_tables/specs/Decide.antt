@@ -4,12 +4,12 @@ use mathlib.Core.Path.{_≡_}
 use mathlib.Core.Bool.{Bool}
 use lib.ListN.{getD}
 use Rattle.basics.specs.Says.{Says, Decided, said, said-says, d-via, d-and, d-imp, d-none, d-eq, d-le, d-lt, d-all, d-any}
-use Rattle.basics.specs.DecideFloat.{d-float}
+use Rattle.basics.proofs.laws.DecideFloat.{d-float}
 use Rattle.cells.specs.Key.{keyOf}
 use Rattle.slots.specs.Slot.{live, phaseAt}
-use Rattle.slots.specs.Decide.{d-slots}
+use Rattle.slots.proofs.laws.Decide.{d-slots}
 use Rattle.storage.specs.Packed.{first, second}
-use Rattle.storage.specs.PackedDecide.{d-packed}
+use Rattle.storage.proofs.laws.PackedDecide.{d-packed}
 use Rattle.objects.specs.Columns.{tagOf}
 use Rattle.objects.specs.Decide.{d-occupied}
 use Rattle.point_tables.specs.Tables.{Tables, sizeOf, usedOf, rowsOf, slotsOf, recordOn, Lengths, Sized}

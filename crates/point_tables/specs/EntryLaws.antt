@@ -10,7 +10,7 @@ use lib.Seq.{length-take-le, getD-take, take-append-seam}
 use Rattle.storage.specs.Keyed.{All, written}
 use Rattle.storage.specs.Entries.{Entry, entry, rowOf, spotOf, zipped, entriesOf}
 use Rattle.storage.specs.FilterLaws.{all-at, all-of}
-use Rattle.storage.specs.ColumnLaws.{zipped-whole}
+use Rattle.storage.proofs.laws.ColumnLaws.{zipped-whole}
 
 zipped-length : (rows : List (List ℕ)) (spots : List (List Float)) → length rows ≡ length spots → length (zipped rows spots) ≡ length rows
 zipped-length [] spots e = refl

@@ -1,2 +1,3 @@
 -- The laws that the proofs of pool_pass share.
-pub mod Laws
+pub mod Shared
+pub mod laws

@@ -5,7 +5,7 @@ use mathlib.Core.List.{List, [], _++_}
 use native.Mathlib.Omega.{arith}
 use lib.ListN.{length, take, drop, take-append-drop}
 use Rattle.decimals.specs.Written.{Written, written, put}
-use Rattle.decimals.specs.WrittenLaws.{put-put, next-is, length-is}
+use Rattle.decimals.proofs.laws.WrittenLaws.{put-put, next-is, length-is}
 
 -- from place `at` of the bytes a on, up to r, where the bytes are then b
 pub record Puts (a : List ℕ) (at : ℕ) (b : List ℕ) (r : ℕ) (text : List ℕ) (most : ℕ) : Type 0 where

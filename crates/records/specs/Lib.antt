@@ -1,7 +1,3 @@
 -- The table of records and the columns: spread, gathered, the laws between them, and the calls on records.
 pub mod Spread
-pub mod SpreadLaws
 pub mod Calls
-pub mod Alike
-pub mod Again
-pub mod After

@@ -14,18 +14,18 @@ use Rattle.storage.specs.Keyed.{Sorted, under, onList, takeOut, written}
 use Rattle.storage.specs.Entries.{Entry, rowKey, rowOf, spotOf, entryKey, entriesOf, isItem}
 use Rattle.storage.specs.CellTable.{dropped}
 use Rattle.storage.specs.Store.{Filled}
-use Rattle.storage.specs.KeepsLaws.{written-take}
-use Rattle.storage.specs.WrittenLaws.{length-written}
+use Rattle.storage.proofs.laws.KeepsLaws.{written-take}
+use Rattle.storage.proofs.laws.WrittenLaws.{length-written}
 use Rattle.storage.specs.Tables.{Rising}
 use Rattle.storage.specs.Pooled as Pooled
-use Rattle.storage.specs.PackedLaws.{ascending-rising}
+use Rattle.storage.proofs.laws.PackedLaws.{ascending-rising}
 use Rattle.objects.specs.declared.Record.{Record}
 use Rattle.point_tables.specs.Tables.{Tables, tables, counting, usedOf, rowsOf, recordOn, cellRows}
 use Rattle.point_tables.specs.Outcome.{outcome}
 use Rattle.removals.specs.Meaning.RemoveMaintain.{isEmpty, entriesWithout, rowsWithout, takenOut}
 use Rattle.removals.specs.Inner.{rowsBy}
-use Rattle.point_tables.specs.ListedLaws.{rows-in}
-use Rattle.point_tables.specs.HoldsLaws.{used-in-pool, used-in-spots, rows-in-cells}
+use Rattle.point_tables.proofs.laws.ListedLaws.{rows-in}
+use Rattle.point_tables.proofs.laws.HoldsLaws.{used-in-pool, used-in-spots, rows-in-cells}
 use Rattle.removals.proofs.laws.TakenLaws.{one-less, same-empty, new-rows}
 use Rattle.removals.specs.Inner.{Object}
 

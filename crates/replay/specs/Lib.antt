@@ -1,6 +1,3 @@
 -- The records of the input out of its blocks, and what the two grids answer to each.
 pub mod Next
-pub mod NextLaws
 pub mod Replay
-pub mod ReplayLaws
-pub mod TraceLaws

@@ -15,7 +15,7 @@ use Rattle.objects.specs.declared.State.the-variants.{Unchanged, Removed}
 use Rattle.objects.specs.States.{isRemoved}
 use Rattle.maintain.specs.Maintain.{isMoving}
 use Rattle.settle.specs.Counts.{numbered, movedIn, removedIn, stateIn, oneMoved, oneRemoved}
-use Rattle.settle.specs.CountsLaws.{count-most}
+use Rattle.settle.proofs.laws.CountsLaws.{count-most}
 
 none : (b : Bool) → _≡_ {A = ℕ} 0 (pick b 0 0)
 none true = refl

@@ -27,8 +27,8 @@ use Rattle.maintain.specs.SettleLaws.{Shaped}
 use Rattle.maintain.specs.SettleAllLaws.{in-slots, in-shaped}
 use Rattle.maintain.specs.Closed.{relocatedBelow}
 use Rattle.settle.specs.Pass.{recordsIn, Slotted, Ready, targetRows, turned, turnedRows, putAt, Passed}
-use Rattle.settle.specs.PutLaws.{put-none, put-one, put-length, put-more}
-use Rattle.settle.specs.PassLaws.{next-turned, next-rows, next-slotted, below-next, below-count, below-grows}
+use Rattle.settle.proofs.laws.PutLaws.{put-none, put-one, put-length, put-more}
+use Rattle.settle.proofs.laws.PassLaws.{next-turned, next-rows, next-slotted, below-next, below-count, below-grows}
 
 -- ---- a slot is settled: r is its record, and st its state
 module _ (ns : List (List ℕ)) (qs : List (List Float)) (zs : List (List ℤ)) (m : List ℕ) (s : ℕ) (r : Record) (e : r ≡ recordAt ns qs zs s) where

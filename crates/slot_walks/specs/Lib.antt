@@ -1,7 +1,4 @@
 -- The live slots of the numbers of a grid, in ascending order, and the numbers and the map after all of them are emptied: the same for
 -- points and boxes.
 pub mod Live
-pub mod LiveLaws
-pub mod FillLaws
 pub mod Cleared
-pub mod ClearedLaws

@@ -1,2 +1,3 @@
 -- What the proofs of slots share.
-pub mod Laws
+pub mod Shared
+pub mod laws

@@ -26,11 +26,11 @@ use Rattle.point_tables.specs.Outcome.{Outcome}
 use Rattle.replies.specs.declared.Reply.{Reply}
 use Rattle.moves.specs.Moves.{pended, setPositionOf, removeOf}
 use Rattle.moves.specs.Batch.{Call, callOf, tablesAfter, replies}
-use Rattle.moves.specs.ReadyLaws.{holds-ready}
-use Rattle.moves.specs.PendedLaws.{nums-long, record-same, record-other, kept}
-use Rattle.moves.specs.MovesLaws.{Named, set-accepted, remove-accepted, set-done, remove-done}
-use Rattle.moves.specs.AnswerLaws.{set-answer-is, remove-answer-is, call-refused}
-use Rattle.moves.specs.MovesKeeps.{call-keeps}
+use Rattle.moves.proofs.laws.ReadyLaws.{holds-ready}
+use Rattle.moves.proofs.laws.PendedLaws.{nums-long, record-same, record-other, kept}
+use Rattle.moves.proofs.laws.MovesLaws.{Named, set-accepted, remove-accepted, set-done, remove-done}
+use Rattle.moves.proofs.laws.AnswerLaws.{set-answer-is, remove-answer-is, call-refused}
+use Rattle.moves.proofs.laws.MovesKeeps.{call-keeps}
 use Rattle.stands.specs.Whereabouts.{sameHandle, movesIt, removesIt, removedBy, lastAt}
 
 -- ---- the state that `set_position` gives

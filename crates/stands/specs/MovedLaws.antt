@@ -11,12 +11,12 @@ use Rattle.geometry.specs.declared.Position.{Position}
 use Rattle.geometry.specs.Circle.{inCircle}
 use Rattle.slots.specs.declared.Handle.{Handle}
 use Rattle.slots.specs.Slot.{good}
-use Rattle.slots.specs.HandleLaws.{good-says}
+use Rattle.slots.proofs.laws.HandleLaws.{good-says}
 use Rattle.storage.specs.Keyed.{All}
 use Rattle.point_tables.specs.Tables.{Tables, recordOn}
 use Rattle.replies.specs.declared.Reply.{Reply}
 use Rattle.moves.specs.Batch.{Call, callOf, tablesAfter, replies}
-use Rattle.moves.specs.MovesLaws.{named}
+use Rattle.moves.proofs.laws.MovesLaws.{named}
 use Rattle.queries.specs.Queries.{aroundOf}
 use Rattle.stands.specs.Whereabouts.{sameHandle, acceptedFor, movesIt, removesIt, removedBy, lastAt}
 use Rattle.stands.specs.CallLaws.{Given, given, or-assoc, calls-kept, calls-slots}

@@ -15,14 +15,14 @@ use Rattle.basics.specs.Refusals.{orElse}
 use Rattle.basics.specs.Says.{d-eq, d-lt}
 use Rattle.geometry.specs.declared.Position.{Position}
 use Rattle.geometry.specs.Domain.{positionInDomain, radiusInDomain}
-use Rattle.geometry.specs.DomainLaws.{radius-fits}
-use Rattle.geometry.specs.BitsLaws.{same-by-axes}
+use Rattle.geometry.proofs.laws.DomainLaws.{radius-fits}
+use Rattle.geometry.proofs.laws.BitsLaws.{same-by-axes}
 use Rattle.geometry.specs.Circle.{inCircle}
-use Rattle.geometry.specs.CircleLaws.{position-held}
+use Rattle.geometry.proofs.laws.CircleLaws.{position-held}
 use Rattle.cells.specs.CellRule.{cellAt, Reached}
 use Rattle.cells.specs.Range.{inRange, cellsIn}
 use Rattle.cells.specs.ReachLaws.{low-reached, high-reached}
-use Rattle.cells.specs.Cover.{circle-cover}
+use Rattle.cells.proofs.laws.Cover.{circle-cover}
 use Rattle.slots.specs.declared.Handle.{Handle}
 use Rattle.slots.specs.Slot.{versionAt, good}
 use Rattle.storage.specs.Keyed.{All, written}
@@ -32,13 +32,13 @@ use Rattle.point_tables.specs.Tables.{Tables, sizeOf, recordOn, entriesIn}
 use Rattle.point_tables.specs.Holds.{Holds}
 use Rattle.point_tables.specs.Decide.{holds}
 use Rattle.moves.specs.Batch.{Call}
-use Rattle.moves.specs.MovesLaws.{Named, named}
+use Rattle.moves.proofs.laws.MovesLaws.{Named, named}
 use Rattle.queries.specs.declared.Test.{Test}
 use Rattle.queries.specs.declared.Test.the-variants.{Circle}
 use Rattle.queries.specs.Queries.{Findings, findings, mostCells, positionOf, found, handleRow, placeRow, searchAnswer, searchOf, aroundOf, cornerBelow, cornerAbove}
-use Rattle.queries.specs.FoundLaws.{Standing}
-use Rattle.queries.specs.OnceLaws.{slotOf, Once, standing-good, found-once, found-standing, finds}
-use Rattle.queries.specs.ScanLaws.{circle-scan}
+use Rattle.queries.proofs.laws.FoundLaws.{Standing}
+use Rattle.queries.proofs.laws.OnceLaws.{slotOf, Once, standing-good, found-once, found-standing, finds}
+use Rattle.queries.proofs.laws.ScanLaws.{circle-scan}
 use Rattle.stands.specs.StandsLaws.{Settled, nextMaintain, next-holds, stands, stands-at}
 use Rattle.stands.specs.Report.{ReportedAt, Reports, Due}
 use Rattle.replies.specs.Replies.{count}

@@ -9,7 +9,7 @@ use Rattle.basics.specs.Refusals.{pick}
 use Rattle.basics.specs.Says.{Says, apart}
 use Rattle.slots.specs.declared.Handle.{Handle}
 use Rattle.slots.specs.Slot.{live, phaseAt, good}
-use Rattle.slots.specs.HandleLaws.{good-says}
+use Rattle.slots.proofs.laws.HandleLaws.{good-says}
 use Rattle.objects.specs.declared.State.{State}
 use Rattle.objects.specs.declared.State.the-variants.{Unchanged}
 use Rattle.objects.specs.declared.Record.{Record}
@@ -20,8 +20,8 @@ use Rattle.point_tables.specs.Holds.{Holds}
 use Rattle.point_tables.specs.CountLaws.{isLive}
 use Rattle.point_tables.specs.Outcome.{Outcome}
 use Rattle.moves.specs.Batch.{Call, tablesAfter, replies}
-use Rattle.moves.specs.MovesLaws.{Named, named}
-use Rattle.moves.specs.MovesKeeps.{calls-keep}
+use Rattle.moves.proofs.laws.MovesLaws.{Named, named}
+use Rattle.moves.proofs.laws.MovesKeeps.{calls-keep}
 use Rattle.maintain.specs.declared.Maintained.{Maintained}
 use Rattle.maintain.specs.Walk.{placed}
 use Rattle.maintain.specs.Maintain.{maintained, maintainOf}

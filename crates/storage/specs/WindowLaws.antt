@@ -13,10 +13,10 @@ use Rattle.basics.specs.Says.{Says, says-same, apart}
 use Rattle.cells.specs.declared.Cell.{Cell}
 use Rattle.cells.specs.Numbers.{Fits}
 use Rattle.cells.specs.Range.{rangeCells, inRange}
-use Rattle.cells.specs.RangeLaws.{in-cells, cells-in}
+use Rattle.cells.proofs.laws.RangeLaws.{in-cells, cells-in}
 use Rattle.cells.specs.Key.{upward, keyOf, cellOfKey}
-use Rattle.cells.specs.KeyLaws.{key-cell, cell-key-fits}
-use Rattle.cells.specs.RangeKeyLaws.{range-window}
+use Rattle.cells.proofs.laws.KeyLaws.{key-cell, cell-key-fits}
+use Rattle.cells.proofs.laws.RangeKeyLaws.{range-window}
 use Rattle.storage.specs.Window.{inWindow}
 use Rattle.storage.specs.TakeOutLaws.{has}
 use Rattle.storage.specs.FilterLaws.{by-test}

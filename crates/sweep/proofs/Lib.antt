@@ -1,2 +1,3 @@
 -- What the proofs of the code share.
 pub mod Turns
+pub mod laws

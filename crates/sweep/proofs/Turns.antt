@@ -12,11 +12,11 @@ use Rattle.maintain.specs.Walk.{Fate, stays}
 use Rattle.maintain.specs.KeptLaws.{kept-calm}
 use Rattle.sweep.specs.Runs.{entryIn}
 use Rattle.sweep.specs.Tags.{spotBy, fateOfTag, fateIn}
-use Rattle.sweep.specs.TagLaws.{tag-stays, tag-leaves}
-use Rattle.sweep.specs.RunLaws.{run-length, entries-more}
-use Rattle.sweep.specs.LaidLaws.{laid-start}
+use Rattle.sweep.proofs.laws.TagLaws.{tag-stays, tag-leaves}
+use Rattle.sweep.proofs.laws.RunLaws.{run-length, entries-more}
+use Rattle.sweep.proofs.laws.LaidLaws.{laid-start}
 use Rattle.sweep.specs.Laid.{Room, Slotted, Laid, listAt}
-use Rattle.sweep.specs.WalkingLaws.{Walking, walking-rows, walking-spots, walking-entry, walking-stays, walking-leaves, walking-done}
+use Rattle.sweep.proofs.laws.WalkingLaws.{Walking, walking-rows, walking-spots, walking-entry, walking-stays, walking-leaves, walking-done}
 
 -- the places that are read and written are in the columns
 pub record Within (P : List (List ℕ)) (S : List (List Float)) (p w : ℕ) (pool : List (List ℕ)) (spots : List (List Float)) : Type 0 where

@@ -11,7 +11,7 @@ use Rattle.lines.specs.declared.Request.{Request}
 use Rattle.lines.specs.declared.Request.the-variants.{Cell, Ins, Pos, Rem, Now, Mnt, Cir, Rec, Cel, Bin, Bset, Brem, Bqry, Unreadable}
 use Rattle.lines.specs.Texts.{SpotInRange, CountInRange, Proper}
 use Rattle.lines.specs.Requests.{requestOf}
-use Rattle.lines.specs.ReadLaws.{read-text}
+use Rattle.lines.proofs.laws.ReadLaws.{read-text}
 
 abbrev pub InRange : Request → Type 0
 InRange (Cell s) = Unit {0}

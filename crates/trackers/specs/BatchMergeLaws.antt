@@ -16,7 +16,7 @@ use Rattle.point_tables.specs.Tables.{Tables}
 use Rattle.point_tables.specs.Decide.{holds}
 use Rattle.point_tables.specs.Outcome.{outcome}
 use Rattle.moves.specs.Batch.{Call, callOf, callsOf, tablesAfter, replies, replyRows, batchAnswer, batched}
-use Rattle.moves.specs.BatchAnswerLaws.{batch-ran, batch-short, batch-refused}
+use Rattle.moves.proofs.laws.BatchAnswerLaws.{batch-ran, batch-short, batch-refused}
 use Rattle.trackers.specs.Merges.{Turn, calls, those, repliesTo, Merge, NotShared, Alike, kindsOf, handlesOf, positionsOf, batchFor, SameBatch}
 use Rattle.trackers.specs.MergeLaws.{any-merge}
 

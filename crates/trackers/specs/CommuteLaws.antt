@@ -24,13 +24,13 @@ use Rattle.replies.specs.declared.Reply.{Reply}
 use Rattle.moves.specs.Moves.{pended}
 use Rattle.moves.specs.Batch.{Call, callOf}
 use Rattle.moves.specs.Ready.{Ready}
-use Rattle.moves.specs.ReadyLaws.{holds-ready}
-use Rattle.moves.specs.PendedLaws.{map-kept, record-other, kept, nums-long}
-use Rattle.moves.specs.MovesLaws.{named}
-use Rattle.moves.specs.MovesKeeps.{call-keeps}
-use Rattle.moves.specs.AnswerLaws.{call-unheld, call-refused}
+use Rattle.moves.proofs.laws.ReadyLaws.{holds-ready}
+use Rattle.moves.proofs.laws.PendedLaws.{map-kept, record-other, kept, nums-long}
+use Rattle.moves.proofs.laws.MovesLaws.{named}
+use Rattle.moves.proofs.laws.MovesKeeps.{call-keeps}
+use Rattle.moves.proofs.laws.AnswerLaws.{call-unheld, call-refused}
 use Rattle.moves.specs.Held.{setRefusal, removeRefusal, refusalOf, heldAnswer, nextState, returned, worked, heldOf}
-use Rattle.moves.specs.HeldLaws.{call-held, held-accepted, held-refused, held-done}
+use Rattle.moves.proofs.laws.HeldLaws.{call-held, held-accepted, held-refused, held-done}
 use Rattle.trackers.specs.PendedCommuteLaws.{pended-commute}
 use Rattle.replies.specs.Replies.{reply}
 

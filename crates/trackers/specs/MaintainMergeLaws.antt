@@ -7,7 +7,7 @@ use Rattle.point_tables.specs.Tables.{Tables}
 use Rattle.point_tables.specs.Holds.{Holds}
 use Rattle.point_tables.specs.Outcome.{Outcome}
 use Rattle.moves.specs.Batch.{Call, tablesAfter}
-use Rattle.moves.specs.MovesKeeps.{calls-keep}
+use Rattle.moves.proofs.laws.MovesKeeps.{calls-keep}
 use Rattle.maintain.specs.declared.Maintained.{Maintained}
 use Rattle.maintain.specs.Maintain.{maintainedBy, maintained, maintainOf}
 use Rattle.maintain.specs.Closed.{Order}

@@ -18,8 +18,8 @@ use Rattle.point_tables.specs.Tables.{Tables, slotsOf, recordOn}
 use Rattle.point_tables.specs.Outcome.{stored}
 use Rattle.moves.specs.Moves.{pended}
 use Rattle.moves.specs.Ready.{Ready}
-use Rattle.moves.specs.ReadyLaws.{marked-is}
-use Rattle.moves.specs.PendedLaws.{record-other, cells-set, key-kept, pended-ready}
+use Rattle.moves.proofs.laws.ReadyLaws.{marked-is}
+use Rattle.moves.proofs.laws.PendedLaws.{record-other, cells-set, key-kept, pended-ready}
 
 -- ---- two stores, in one place only where they store the same
 sets-commute : {A : Type 0} (l : List A) (i j : ℕ) (a b : A) → (i ≡ j → a ≡ b) → set (set l i a) j b ≡ set (set l j b) i a

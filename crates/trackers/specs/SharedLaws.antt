@@ -11,7 +11,7 @@ use borrow.Author.Tests.{eq-eqb}
 use Rattle.geometry.specs.declared.Position.{Position}
 use Rattle.slots.specs.declared.Handle.{Handle}
 use Rattle.slots.specs.Slot.{good}
-use Rattle.slots.specs.HandleLaws.{good-says}
+use Rattle.slots.proofs.laws.HandleLaws.{good-says}
 use Rattle.storage.specs.FilterLaws.{by-test}
 use Rattle.point_tables.specs.Tables.{Tables}
 use Rattle.point_tables.specs.Decide.{holds-says}
@@ -19,9 +19,9 @@ use Rattle.replies.specs.declared.Reply.{Reply}
 use Rattle.moves.specs.Moves.{setPositionOf, removeOf, setPositionAnswer, removeAnswer}
 use Rattle.moves.specs.Batch.{callOf, replies}
 use Rattle.moves.specs.Held.{call}
-use Rattle.moves.specs.AnswerLaws.{set-answer-is, remove-answers}
-use Rattle.moves.specs.AgainLaws.{removed-stays}
-use Rattle.moves.specs.MovesLaws.{set-accepted}
+use Rattle.moves.proofs.laws.AnswerLaws.{set-answer-is, remove-answers}
+use Rattle.moves.proofs.laws.AgainLaws.{removed-stays}
+use Rattle.moves.proofs.laws.MovesLaws.{set-accepted}
 use Rattle.trackers.specs.Merges.{those, Alike}
 use Rattle.trackers.specs.TurnLaws.{turn}
 

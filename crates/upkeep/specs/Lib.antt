@@ -1,3 +1,1 @@
 -- The passes of maintain, put together.
-pub mod OverLaws
-pub mod Assembled

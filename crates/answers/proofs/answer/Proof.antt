@@ -6,7 +6,7 @@ use Rattle.point_tables.specs.Lent as Points
 use Rattle.box_tables.specs.Lent as Boxes
 use Rattle.answers.specs.State.{state}
 use Rattle.answers.specs.Answer.{partOf}
-use Rattle.answers.specs.AnswerLaws.{some-part, answered-points, answered-boxes, answered-both, answered-nobody}
+use Rattle.answers.proofs.laws.AnswerLaws.{some-part, answered-points, answered-boxes, answered-both, answered-nobody}
 use Rattle.answers.proofs.answer.Statement.{statement}
 use Rattle.answers.proofs.answer.Tie as tie
 

@@ -1,7 +1,7 @@
 -- `answers::answer_boxes` meets its contract. Assumes nothing.
 use mathlib.Core.Path.{sym, _∙_}
 use Rattle.box_tables.specs.Lent as Boxes
-use Rattle.answers.specs.AnswerLaws.{boxes-searched, boxes-changed}
+use Rattle.answers.proofs.laws.AnswerLaws.{boxes-searched, boxes-changed}
 use borrow.Author.Needs.{needs}
 use Rattle.answers.proofs.answer_boxes.Statement.{statement}
 use Rattle.answers.proofs.answer_boxes.Tie as tie

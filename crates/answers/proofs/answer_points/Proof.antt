@@ -1,7 +1,7 @@
 -- `answers::answer_points` meets its contract. Assumes nothing.
 use mathlib.Core.Path.{sym, _∙_}
 use Rattle.point_tables.specs.Lent as Points
-use Rattle.answers.specs.AnswerLaws.{points-searched, points-changed}
+use Rattle.answers.proofs.laws.AnswerLaws.{points-searched, points-changed}
 use borrow.Author.Needs.{needs}
 use Rattle.answers.proofs.answer_points.Statement.{statement}
 use Rattle.answers.proofs.answer_points.Tie as tie

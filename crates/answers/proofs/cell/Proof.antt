@@ -1,7 +1,7 @@
 -- `answers::cell` meets its contract. Assumes nothing.
 use Rattle.point_tables.specs.Lent as Points
 use Rattle.box_tables.specs.Lent as Boxes
-use Rattle.answers.specs.AnswerLaws.{cell-said}
+use Rattle.answers.proofs.laws.AnswerLaws.{cell-said}
 use borrow.Author.Needs.{needs}
 use Rattle.answers.proofs.cell.Statement.{statement}
 use Rattle.answers.proofs.cell.Tie as tie

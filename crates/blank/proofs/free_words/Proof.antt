@@ -6,7 +6,7 @@ use lib.ListN.{length, length-set}
 use lib.Seq.{paste, paste-zero}
 use Rattle.slots.specs.Map.{wordsFor}
 use Rattle.blank.specs.Blank.{freeWords}
-use Rattle.blank.specs.FreeWordLaws.{free-length, free-at}
+use Rattle.blank.proofs.laws.FreeWordLaws.{free-length, free-at}
 use Rattle.blank.proofs.Fill.{fill-step, fill-end}
 use Rattle.blank.proofs.free_words.Statement.{statement}
 use Rattle.blank.proofs.free_words.Tie as tie

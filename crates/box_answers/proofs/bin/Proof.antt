@@ -1,6 +1,6 @@
 -- `box_answers::bin` meets its contract. Assumes nothing.
 use Rattle.box_tables.specs.Lent.{lent}
-use Rattle.box_answers.specs.ChangeLaws.{inserted-said}
+use Rattle.box_answers.proofs.laws.ChangeLaws.{inserted-said}
 use borrow.Author.Needs.{needs}
 use Rattle.box_answers.proofs.bin.Statement.{statement}
 use Rattle.box_answers.proofs.bin.Tie as tie

@@ -1,6 +1,6 @@
 -- `box_answers::bqry` meets its contract. Assumes nothing.
 use Rattle.box_tables.specs.Lent.{lent}
-use Rattle.box_answers.specs.SearchLaws.{meeting-said}
+use Rattle.box_answers.proofs.laws.SearchLaws.{meeting-said}
 use borrow.Author.Needs.{needs}
 use Rattle.box_answers.proofs.bqry.Statement.{statement}
 use Rattle.box_answers.proofs.bqry.Tie as tie

@@ -1,6 +1,6 @@
 -- `box_answers::brem` meets its contract. Assumes nothing.
 use Rattle.telling.specs.Tells.{oneOr}
-use Rattle.box_answers.specs.ChangeLaws.{said-of}
+use Rattle.box_answers.proofs.laws.ChangeLaws.{said-of}
 use borrow.Author.Needs.{needs}
 use Rattle.box_answers.proofs.brem.Statement.{statement}
 use Rattle.box_answers.proofs.brem.Tie as tie

@@ -13,7 +13,7 @@ use Rattle.box_tables.specs.Lent.{lent}
 use Rattle.telling.specs.InRange.{InRange}
 use Rattle.box_tables.specs.Outcome.{outcome}
 use Rattle.box_answers.specs.Changes.{changeOf}
-use Rattle.box_answers.specs.ChangeLaws.{is-bin, is-bset, is-brem}
+use Rattle.box_answers.proofs.laws.ChangeLaws.{is-bin, is-bset, is-brem}
 use borrow.Author.Needs.{needs}
 use Rattle.box_answers.proofs.change_boxes.Statement.{statement}
 use Rattle.box_answers.proofs.change_boxes.Tie as tie

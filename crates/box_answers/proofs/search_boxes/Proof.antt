@@ -13,7 +13,7 @@ use Rattle.box_tables.specs.Tables.{Tables}
 use Rattle.box_tables.specs.Lent.{lent}
 use Rattle.telling.specs.InRange.{InRange}
 use Rattle.box_answers.specs.Searches.{searched, searchOf}
-use Rattle.box_answers.specs.SearchLaws.{is-bqry}
+use Rattle.box_answers.proofs.laws.SearchLaws.{is-bqry}
 use borrow.Author.Needs.{needs}
 use Rattle.box_answers.proofs.search_boxes.Statement.{statement}
 use Rattle.box_answers.proofs.search_boxes.Tie as tie

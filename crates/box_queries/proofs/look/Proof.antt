@@ -15,9 +15,9 @@ use Rattle.box_tables.specs.declared.Span.{Span}
 use Rattle.box_tables.specs.Tables.{Tables, tables, sizeOf, covers}
 use Rattle.box_tables.specs.Holds.{Holds}
 use Rattle.box_tables.specs.Decide.{holds, holds-says}
-use Rattle.box_tables.specs.HoldsLaws.{entries-sorted}
-use Rattle.box_queries.specs.WalkLaws.{slots-few}
-use Rattle.box_queries.specs.LookLaws.{looked-3, looked-6, looked-7, looked-0}
+use Rattle.box_tables.proofs.laws.HoldsLaws.{entries-sorted}
+use Rattle.box_queries.proofs.laws.WalkLaws.{slots-few}
+use Rattle.box_queries.proofs.laws.LookLaws.{looked-3, looked-6, looked-7, looked-0}
 use Rattle.box_queries.proofs.look.Statement.{statement}
 use Rattle.box_queries.proofs.look.Tie as tie
 

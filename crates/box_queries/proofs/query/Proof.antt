@@ -5,7 +5,7 @@ use mathlib.Core.Path.{_≡_, ap, _∙_}
 use borrow.Author.Needs.{needs}
 use Rattle.box_tables.specs.Tables.{Tables, tables}
 use Rattle.box_queries.specs.Queries.{roomOf}
-use Rattle.box_queries.specs.CallLaws.{query-refused, looked-rows, looked-boxes, kept-found, query-short, query-done}
+use Rattle.box_queries.proofs.laws.CallLaws.{query-refused, looked-rows, looked-boxes, kept-found, query-short, query-done}
 use Rattle.box_queries.proofs.query.Statement.{statement}
 use Rattle.box_queries.proofs.query.Tie as tie
 

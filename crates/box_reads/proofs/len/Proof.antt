@@ -6,7 +6,7 @@ use borrow.Author.Tests.{not-true, not-false}
 use Rattle.box_tables.specs.Tables.{Tables, tables}
 use Rattle.box_tables.specs.Decide.{holds, holds-says}
 use Rattle.box_reads.specs.Live.{liveSlots}
-use Rattle.box_reads.specs.ReadsLaws.{len-3, len-0}
+use Rattle.box_reads.proofs.laws.ReadsLaws.{len-3, len-0}
 use Rattle.box_reads.proofs.len.Statement.{statement}
 use Rattle.box_reads.proofs.len.Tie as tie
 use Rattle.replies.specs.Replies.{count}

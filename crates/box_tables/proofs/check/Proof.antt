@@ -10,8 +10,8 @@ use Rattle.basics.specs.Says.{says-no, apart}
 use Rattle.box_tables.specs.Tables.{Tables, tables, sizeOf, usedOf, slotsOf, Sized}
 use Rattle.box_tables.specs.Check.{Counts, Passes, Ready}
 use Rattle.box_tables.specs.Way.{noWay}
-use Rattle.box_tables.specs.CheckLaws.{CountsOf, SlotsOf, WaysOf, slot-room, pool-ready, whole, counts-of, slots-of, passes-of}
-use Rattle.box_tables.proofs.Laws.{said-holds}
+use Rattle.box_tables.proofs.laws.CheckLaws.{CountsOf, SlotsOf, WaysOf, slot-room, pool-ready, whole, counts-of, slots-of, passes-of}
+use Rattle.box_tables.proofs.Shared.{said-holds}
 use Rattle.box_tables.proofs.check.Statement.{statement}
 use Rattle.box_tables.proofs.check.Tie as tie
 

@@ -9,7 +9,7 @@ use Rattle.geometry.specs.declared.Aabb.{Aabb}
 use Rattle.box_tables.specs.declared.Span.{Span}
 use Rattle.box_tables.specs.Tables.{aabbAt}
 use Rattle.box_tables.specs.Way.{spanOf, wayOf}
-use Rattle.box_tables.proofs.Laws.{given-none, given-some, jump-some, in-domain, box-refused}
+use Rattle.box_tables.proofs.Shared.{given-none, given-some, jump-some, in-domain, box-refused}
 use Rattle.box_tables.proofs.live_way.Statement.{statement}
 use Rattle.box_tables.proofs.live_way.Tie as tie
 

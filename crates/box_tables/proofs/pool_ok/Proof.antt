@@ -9,8 +9,8 @@ use borrow.Author.Tests.{not-true, not-false}
 use Rattle.basics.specs.Says.{says-no, apart}
 use Rattle.storage.specs.Packed.{first, second}
 use Rattle.box_tables.specs.Check.{IsNext}
-use Rattle.box_tables.specs.PassLaws.{Going, going-none, going-all, going-met}
-use Rattle.box_tables.proofs.Laws.{turn-more, turn-next}
+use Rattle.box_tables.proofs.laws.PassLaws.{Going, going-none, going-all, going-met}
+use Rattle.box_tables.proofs.Shared.{turn-more, turn-next}
 use Rattle.box_tables.proofs.pool_ok.Statement.{statement}
 use Rattle.box_tables.proofs.pool_ok.Tie as tie
 

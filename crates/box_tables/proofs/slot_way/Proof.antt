@@ -6,10 +6,10 @@ use borrow.Author.Tests.{not-true, not-false}
 use Rattle.basics.specs.Says.{Says, apart}
 use Rattle.slots.specs.Map.{usable}
 use Rattle.slots.specs.Slot.{versionAt, phaseAt, SlotHolds}
-use Rattle.slots.proofs.Laws.{said-slot}
-use Rattle.box_tables.proofs.Laws.{given-none, given-some}
+use Rattle.slots.proofs.Shared.{said-slot}
+use Rattle.box_tables.proofs.Shared.{given-none, given-some}
 use Rattle.box_tables.specs.Way.{jumpIn}
-use Rattle.box_tables.specs.WayLaws.{way-live, way-none}
+use Rattle.box_tables.proofs.laws.WayLaws.{way-live, way-none}
 use Rattle.box_tables.proofs.slot_way.Statement.{statement}
 use Rattle.box_tables.proofs.slot_way.Tie as tie
 

@@ -7,7 +7,7 @@ use borrow.Author.Count.{below-none, below-more}
 use borrow.Author.Needs.{needs}
 use Rattle.basics.specs.Says.{says-no, apart}
 use Rattle.box_tables.specs.Check.{SlotOk, Ways}
-use Rattle.box_tables.proofs.Laws.{ways-more}
+use Rattle.box_tables.proofs.Shared.{ways-more}
 use Rattle.box_tables.proofs.slots_ok.Statement.{statement}
 use Rattle.box_tables.proofs.slots_ok.Tie as tie
 

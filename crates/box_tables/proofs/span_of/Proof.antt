@@ -2,7 +2,7 @@
 use mathlib.Core.Path.{sym, _∙_, subst}
 use Rattle.cells.specs.Numbers.{Near}
 use Rattle.cells.specs.Range.{cellsIn}
-use Rattle.box_tables.specs.BoxLaws.{low-reached, high-reached, low-near, high-near}
+use Rattle.box_tables.proofs.laws.BoxLaws.{low-reached, high-reached, low-near, high-near}
 use Rattle.box_tables.proofs.span_of.Statement.{statement}
 use Rattle.box_tables.proofs.span_of.Tie as tie
 

@@ -1,7 +1,7 @@
 -- `box_tables::step_on` meets its contract. Assumes nothing.
 use mathlib.Core.Path.{sym, _∙_}
 use borrow.Author.Needs.{needs}
-use Rattle.box_tables.proofs.Laws.{step-up, step-right}
+use Rattle.box_tables.proofs.Shared.{step-up, step-right}
 use Rattle.box_tables.proofs.step_on.Statement.{statement}
 use Rattle.box_tables.proofs.step_on.Tie as tie
 

@@ -1,6 +1,6 @@
 -- `box_tables::way_of` meets its contract. Assumes nothing.
 use borrow.Author.Needs.{needs}
-use Rattle.box_tables.proofs.Laws.{way-is}
+use Rattle.box_tables.proofs.Shared.{way-is}
 use Rattle.box_tables.proofs.way_of.Statement.{statement}
 use Rattle.box_tables.proofs.way_of.Tie as tie
 

@@ -9,7 +9,7 @@ use mir.Val.{toZ, ofZ}
 use borrow.Author.Needs.{needs}
 use Rattle.cells.specs.Numbers.{near-fits}
 use Rattle.cells.specs.Range.{countFrom, cellsIn}
-use Rattle.cells.specs.RangeKeyLaws.{near-cells}
+use Rattle.cells.proofs.laws.RangeKeyLaws.{near-cells}
 use Rattle.cells.proofs.Signs.{back}
 use Rattle.cells.proofs.cells_in.Statement.{statement}
 use Rattle.cells.proofs.cells_in.Tie as tie

@@ -4,8 +4,8 @@ use native.Mathlib.Omega.{arith}
 use borrow.Author.Needs.{needs}
 use mir.Facts.{toZ-ofZ}
 use Rattle.cells.specs.Key.{upward}
-use Rattle.cells.specs.KeyLaws.{upward-lt}
-use Rattle.cells.specs.RangeKeyLaws.{count-up, count-none}
+use Rattle.cells.proofs.laws.KeyLaws.{upward-lt}
+use Rattle.cells.proofs.laws.RangeKeyLaws.{count-up, count-none}
 use Rattle.cells.proofs.count_from.Statement.{statement}
 use Rattle.cells.proofs.count_from.Tie as tie
 

@@ -4,7 +4,7 @@ use mathlib.Core.Path.{_≡_, ap, _∙_, sym, subst}
 use native.Mathlib.Omega.{arith}
 use borrow.Author.Needs.{needs}
 use Rattle.cells.specs.Key.{upward, keyOf}
-use Rattle.cells.specs.KeyLaws.{upward-lt}
+use Rattle.cells.proofs.laws.KeyLaws.{upward-lt}
 use Rattle.cells.proofs.Signs.{back}
 use Rattle.cells.proofs.key_of.Statement.{statement}
 use Rattle.cells.proofs.key_of.Tie as tie

@@ -6,9 +6,9 @@ use native.Mathlib.Omega.{arith}
 use lib.ListN.{length}
 use borrow.Author.Needs.{needs}
 use Rattle.decimals.specs.Text.{decimal}
-use Rattle.decimals.specs.TextLaws.{one-digit, last-digit, longer}
+use Rattle.decimals.proofs.laws.TextLaws.{one-digit, last-digit, longer}
 use Rattle.decimals.specs.Written.{written, put}
-use Rattle.decimals.specs.WrittenLaws.{next-is, length-is, put-put}
+use Rattle.decimals.proofs.laws.WrittenLaws.{next-is, length-is, put-put}
 use borrow.Fn.Kinds.{In}
 use borrow.Fn.PlainCycle.{Measures, is, falls, and}
 use Rattle.decimals.proofs.put_digits.Reads as put-digits

@@ -1,6 +1,6 @@
 -- `decimals::put_byte` meets its contract. Assumes nothing.
 use borrow.Author.Needs.{needs}
-use Rattle.decimals.specs.WrittenLaws.{one-byte}
+use Rattle.decimals.proofs.laws.WrittenLaws.{one-byte}
 use Rattle.decimals.proofs.put_byte.Statement.{statement}
 use Rattle.decimals.proofs.put_byte.Tie as tie
 

@@ -14,7 +14,7 @@ use borrow.Author.Tests.{ltb-true}
 use Rattle.basics.specs.Says.{apart}
 use Rattle.decimals.specs.Text.{decimal, signedText}
 use Rattle.decimals.specs.Written.{written, put}
-use Rattle.decimals.specs.WrittenLaws.{next-is, length-is, put-put}
+use Rattle.decimals.proofs.laws.WrittenLaws.{next-is, length-is, put-put}
 use Rattle.decimals.proofs.put_count.Statement.{statement}
 use Rattle.decimals.proofs.put_count.Tie as tie
 

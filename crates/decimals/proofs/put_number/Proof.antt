@@ -1,7 +1,7 @@
 -- `decimals::put_number` meets its contract: the text has at most 10 digits. Assumes nothing.
 use native.Mathlib.Omega.{arith}
 use borrow.Author.Needs.{needs}
-use Rattle.decimals.specs.TextLaws.{number-length}
+use Rattle.decimals.proofs.laws.TextLaws.{number-length}
 use Rattle.decimals.proofs.put_number.Statement.{statement}
 use Rattle.decimals.proofs.put_number.Tie as tie
 

@@ -4,7 +4,7 @@ use mathlib.Core.Path.{_∙_}
 use mathlib.Core.Logic.{⊎-elim}
 use native.Mathlib.Omega.{arith}
 use borrow.Author.Needs.{needs}
-use Rattle.decimals.specs.StepLaws.{no-digit, leading-zero, no-leading-zero, last-byte}
+use Rattle.decimals.proofs.laws.StepLaws.{no-digit, leading-zero, no-leading-zero, last-byte}
 use Rattle.decimals.proofs.read_up_to.Statement.{statement}
 use Rattle.decimals.proofs.read_up_to.Tie as tie
 

@@ -2,7 +2,7 @@
 use mathlib.Core.Path.{ap}
 use borrow.Author.Needs.{needs}
 use Rattle.geometry.specs.declared.Position.{Position}
-use Rattle.geometry.specs.BitsLaws.{same-by-axes}
+use Rattle.geometry.proofs.laws.BitsLaws.{same-by-axes}
 use Rattle.geometry.proofs.Tests.{both, both-true}
 use Rattle.geometry.proofs.same_position.Statement.{statement}
 use Rattle.geometry.proofs.same_position.Tie as tie

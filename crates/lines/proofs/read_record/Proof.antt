@@ -1,7 +1,7 @@
 -- `lines::read_record` meets its contract. Assumes nothing.
 use mathlib.Core.Path.{sym}
 use borrow.Author.Needs.{needs}
-use Rattle.lines.specs.InputLaws.{too-long}
+use Rattle.lines.proofs.laws.InputLaws.{too-long}
 use Rattle.lines.proofs.read_record.Statement.{statement}
 use Rattle.lines.proofs.read_record.Tie as tie
 

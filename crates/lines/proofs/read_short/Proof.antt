@@ -2,8 +2,8 @@
 use mathlib.Core.Path.{sym}
 use native.Mathlib.Omega.{arith}
 use borrow.Author.Needs.{needs}
-use Rattle.lines.specs.CursorLaws.{end-within}
-use Rattle.lines.specs.InputLaws.{read-at}
+use Rattle.lines.proofs.laws.CursorLaws.{end-within}
+use Rattle.lines.proofs.laws.InputLaws.{read-at}
 use Rattle.lines.proofs.read_short.Statement.{statement}
 use Rattle.lines.proofs.read_short.Tie as tie
 

@@ -3,9 +3,9 @@ use mathlib.Core.Path.{sym, _∙_}
 use borrow.Author.Tests.{not-true, not-false}
 use Rattle.point_tables.specs.Tables.{Tables, tables}
 use Rattle.point_tables.specs.Decide.{holds-says}
-use Rattle.moves.specs.ReadyLaws.{holds-ready, ready-pool}
+use Rattle.moves.proofs.laws.ReadyLaws.{holds-ready, ready-pool}
 use Rattle.moves.specs.Held.{poolless}
-use Rattle.moves.proofs.Laws.{remove-no-grid, remove-held}
+use Rattle.moves.proofs.Shared.{remove-no-grid, remove-held}
 use Rattle.moves.proofs.remove.Statement.{statement}
 use Rattle.moves.proofs.remove.Tie as tie
 

@@ -2,7 +2,7 @@
 use mathlib.Core.Path.{sym, _∙_}
 use Rattle.basics.specs.Says.{apart}
 use Rattle.cells.specs.ReachLaws.{position-reached}
-use Rattle.objects.proofs.Laws.{aimed-same, aimed-other}
+use Rattle.objects.proofs.Shared.{aimed-same, aimed-other}
 use borrow.Author.Needs.{needs}
 use Rattle.objects.proofs.aim.Statement.{statement}
 use Rattle.objects.proofs.aim.Tie as tie

@@ -9,7 +9,7 @@ use borrow.Author.Needs.{needs}
 use Rattle.basics.specs.Says.{says-no, says-via, apart}
 use Rattle.cells.specs.declared.Cell.{Cell}
 use Rattle.cells.specs.Numbers.{cell-ext}
-use Rattle.objects.proofs.Laws.{back}
+use Rattle.objects.proofs.Shared.{back}
 use Rattle.objects.proofs.in_cell.Statement.{statement}
 use Rattle.objects.proofs.in_cell.Tie as tie
 

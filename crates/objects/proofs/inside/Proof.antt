@@ -1,6 +1,6 @@
 -- `objects::inside` meets its contract. Assumes nothing.
 use borrow.Author.Needs.{needs}
-use Rattle.objects.proofs.Laws.{inside-says}
+use Rattle.objects.proofs.Shared.{inside-says}
 use Rattle.objects.proofs.inside.Statement.{statement}
 use Rattle.objects.proofs.inside.Tie as tie
 

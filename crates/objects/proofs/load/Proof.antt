@@ -9,7 +9,7 @@ use Rattle.objects.specs.declared.Record.{Record}
 use Rattle.objects.specs.Columns.{recordOf, stateOf}
 use mathlib.Core.Path.{_≡_}
 use lib.IntN.{ℤ}
-use Rattle.objects.proofs.Laws.{back}
+use Rattle.objects.proofs.Shared.{back}
 use borrow.Author.Needs.{needs}
 use Rattle.objects.proofs.load.Statement.{statement}
 use Rattle.objects.proofs.load.Tie as tie

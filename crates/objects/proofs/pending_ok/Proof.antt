@@ -9,7 +9,7 @@ use Rattle.cells.specs.declared.Cell.{Cell}
 use Rattle.cells.specs.Numbers.{cell-ext}
 use Rattle.objects.specs.Columns.{stateOf}
 use Rattle.objects.specs.Occupied.{Agrees}
-use Rattle.objects.proofs.Laws.{back}
+use Rattle.objects.proofs.Shared.{back}
 use Rattle.objects.proofs.pending_ok.Statement.{statement}
 use Rattle.objects.proofs.pending_ok.Tie as tie
 

@@ -3,11 +3,11 @@ use mathlib.Core.Path.{sym, ap, _∙_, subst}
 use lib.Dec.{T}
 use borrow.Author.Tests.{not-true, not-false}
 use Rattle.basics.specs.Says.{says-no, apart}
-use Rattle.geometry.specs.DomainLaws.{position-parts}
+use Rattle.geometry.proofs.laws.DomainLaws.{position-parts}
 use Rattle.cells.specs.declared.Cell.{Cell}
 use Rattle.cells.specs.Numbers.{cell-ext}
 use Rattle.objects.specs.Occupied.{InDomain}
-use Rattle.objects.proofs.Laws.{back}
+use Rattle.objects.proofs.Shared.{back}
 use borrow.Author.Needs.{needs}
 use Rattle.objects.proofs.placed.Statement.{statement}
 use Rattle.objects.proofs.placed.Tie as tie

@@ -1,5 +1,5 @@
 -- `point_answers::cel` meets its contract. Assumes nothing.
-use Rattle.point_answers.specs.SearchLaws.{cells-said}
+use Rattle.point_answers.proofs.laws.SearchLaws.{cells-said}
 use Rattle.point_tables.specs.Lent.{lent}
 use borrow.Author.Needs.{needs}
 use Rattle.point_answers.proofs.cel.Statement.{statement}

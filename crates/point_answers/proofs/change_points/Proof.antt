@@ -13,7 +13,7 @@ use Rattle.point_tables.specs.Lent.{lent}
 use Rattle.point_tables.specs.Outcome.{outcome}
 use Rattle.telling.specs.InRange.{InRange}
 use Rattle.point_answers.specs.Changes.{changeOf}
-use Rattle.point_answers.specs.ChangeLaws.{is-ins, is-pos, is-rem, is-now, is-mnt}
+use Rattle.point_answers.proofs.laws.ChangeLaws.{is-ins, is-pos, is-rem, is-now, is-mnt}
 use borrow.Author.Needs.{needs}
 use Rattle.point_answers.proofs.change_points.Statement.{statement}
 use Rattle.point_answers.proofs.change_points.Tie as tie

@@ -3,7 +3,7 @@ use mathlib.Core.Path.{ap, _∙_}
 use mir.Syntax.{w32}
 use mir.ValLaws.{toZ-ofZ}
 use Rattle.sixteenths.specs.Sixteenth.{sixteenth}
-use Rattle.point_answers.specs.SearchLaws.{around-said}
+use Rattle.point_answers.proofs.laws.SearchLaws.{around-said}
 use Rattle.point_tables.specs.Lent.{lent}
 use borrow.Author.Needs.{needs}
 use Rattle.point_answers.proofs.cir.Statement.{statement}

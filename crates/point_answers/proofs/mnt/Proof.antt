@@ -1,6 +1,6 @@
 -- `point_answers::mnt` meets its contract. Assumes nothing.
 use Rattle.telling.specs.Tells.{twoOr}
-use Rattle.point_answers.specs.ChangeLaws.{said-of}
+use Rattle.point_answers.proofs.laws.ChangeLaws.{said-of}
 use borrow.Author.Needs.{needs}
 use Rattle.point_answers.proofs.mnt.Statement.{statement}
 use Rattle.point_answers.proofs.mnt.Tie as tie

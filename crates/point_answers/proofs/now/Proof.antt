@@ -1,6 +1,6 @@
 -- `point_answers::now` meets its contract. Assumes nothing.
 use Rattle.telling.specs.Tells.{oneOr}
-use Rattle.point_answers.specs.ChangeLaws.{said-of}
+use Rattle.point_answers.proofs.laws.ChangeLaws.{said-of}
 use borrow.Author.Needs.{needs}
 use Rattle.point_answers.proofs.now.Statement.{statement}
 use Rattle.point_answers.proofs.now.Tie as tie

@@ -1,5 +1,5 @@
 -- `point_answers::pos` meets its contract. Assumes nothing.
-use Rattle.point_answers.specs.ChangeLaws.{moved-said}
+use Rattle.point_answers.proofs.laws.ChangeLaws.{moved-said}
 use Rattle.point_tables.specs.Lent.{lent}
 use borrow.Author.Needs.{needs}
 use Rattle.point_answers.proofs.pos.Statement.{statement}

@@ -1,5 +1,5 @@
 -- `point_answers::rec` meets its contract. Assumes nothing.
-use Rattle.point_answers.specs.SearchLaws.{rectangle-said}
+use Rattle.point_answers.proofs.laws.SearchLaws.{rectangle-said}
 use Rattle.point_tables.specs.Lent.{lent}
 use borrow.Author.Needs.{needs}
 use Rattle.point_answers.proofs.rec.Statement.{statement}

@@ -17,7 +17,7 @@ use Rattle.point_tables.specs.Lent.{lent}
 use Rattle.lines.specs.Texts.{CountInRange}
 use Rattle.telling.specs.InRange.{InRange, in-range-fits}
 use Rattle.point_answers.specs.Searches.{searched, aroundIn, searchOf}
-use Rattle.point_answers.specs.SearchLaws.{is-cir, is-rec, is-cel}
+use Rattle.point_answers.proofs.laws.SearchLaws.{is-cir, is-rec, is-cel}
 use borrow.Author.Needs.{needs}
 use Rattle.point_answers.proofs.search_points.Statement.{statement}
 use Rattle.point_answers.proofs.search_points.Tie as tie

@@ -9,8 +9,8 @@ use Rattle.pool_pass.specs.Pass as Pass
 use Rattle.pool_pass.specs.Pass.{Passes}
 use Rattle.point_tables.specs.Tables.{Tables, tables, sizeOf, usedOf, rowsOf, slotsOf, Sized}
 use Rattle.point_tables.specs.Check.{Counts, Listed}
-use Rattle.point_tables.specs.CheckLaws.{CountsOf, PassesOf, pool-room, slot-room, listed, whole, counts-of, passes-of, slots-of}
-use Rattle.point_tables.proofs.Laws.{moved, named-all, said-holds}
+use Rattle.point_tables.proofs.laws.CheckLaws.{CountsOf, PassesOf, pool-room, slot-room, listed, whole, counts-of, passes-of, slots-of}
+use Rattle.point_tables.proofs.Shared.{moved, named-all, said-holds}
 use borrow.Author.Needs.{needs}
 use Rattle.point_tables.proofs.check.Statement.{statement}
 use Rattle.point_tables.proofs.check.Tie as tie

@@ -6,7 +6,7 @@ use borrow.Author.Tests.{not-true, not-false}
 use Rattle.basics.specs.Says.{Says, says-yes, says-no, apart}
 use Rattle.slots.specs.Map.{usable}
 use Rattle.slots.specs.Slot.{versionAt, phaseAt, SlotHolds}
-use Rattle.point_tables.proofs.Laws.{said-slot}
+use Rattle.point_tables.proofs.Shared.{said-slot}
 use borrow.Author.Needs.{needs}
 use Rattle.point_tables.proofs.slot_ok.Statement.{statement}
 use Rattle.point_tables.proofs.slot_ok.Tie as tie

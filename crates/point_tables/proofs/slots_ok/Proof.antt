@@ -7,8 +7,8 @@ use borrow.Author.Tests.{not-true, not-false}
 use borrow.Author.Needs.{needs}
 use Rattle.basics.specs.Says.{says-no, apart}
 use Rattle.slots.specs.Map.{wordsFor, NonePast}
-use Rattle.slots.specs.CountLaws.{usable-most, usable-of-n}
-use Rattle.point_tables.specs.CoverLaws.{each-of, each-free}
+use Rattle.slots.proofs.laws.CountLaws.{usable-most, usable-of-n}
+use Rattle.point_tables.proofs.laws.CoverLaws.{each-of, each-free}
 use Rattle.point_tables.proofs.slots_ok.Statement.{statement}
 use Rattle.point_tables.proofs.slots_ok.Tie as tie
 

@@ -9,7 +9,7 @@ use borrow.Author.Needs.{needs}
 use Rattle.basics.specs.Says.{says-yes, says-no, apart}
 use Rattle.objects.specs.Columns.{pendingIn}
 use Rattle.objects.specs.Occupied.{Agrees, InCell}
-use Rattle.objects.specs.OccupiedLaws.{to-occupied, of-occupied}
+use Rattle.objects.proofs.laws.OccupiedLaws.{to-occupied, of-occupied}
 use Rattle.pool_pass.specs.Pass.{tagAt, Right}
 use Rattle.pool_pass.proofs.entry_ok.Statement.{statement}
 use Rattle.pool_pass.proofs.entry_ok.Tie as tie

@@ -15,11 +15,11 @@ use borrow.Author.Needs.{needs}
 use Rattle.basics.specs.Says.{says-no, apart}
 use Rattle.cells.specs.Span.{Spans}
 use Rattle.storage.specs.Packed.{first, second}
-use Rattle.pool_pass.proofs.Laws.{back}
+use Rattle.pool_pass.proofs.Shared.{back}
 use Rattle.pool_pass.specs.Pass.{Here, Passes, Named}
-use Rattle.pool_pass.specs.MarkLaws.{named-none}
-use Rattle.pool_pass.specs.PassLaws.{below-or, Passed, passed-none, passed-all}
-use Rattle.pool_pass.specs.RunLaws.{passed-run, next-row, next-entry}
+use Rattle.pool_pass.proofs.laws.MarkLaws.{named-none}
+use Rattle.pool_pass.proofs.laws.PassLaws.{below-or, Passed, passed-none, passed-all}
+use Rattle.pool_pass.proofs.laws.RunLaws.{passed-run, next-row, next-entry}
 use Rattle.pool_pass.proofs.pool_ok.Statement.{statement}
 use Rattle.pool_pass.proofs.pool_ok.Tie as tie
 

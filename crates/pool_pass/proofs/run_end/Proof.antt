@@ -15,9 +15,9 @@ use Rattle.cells.specs.Key.{cellOfKey}
 use Rattle.cells.specs.Span.{Spans}
 use Rattle.storage.specs.Packed.{second}
 use Rattle.pool_pass.specs.Pass.{spotAt, Right, Here, Run, Named}
-use Rattle.pool_pass.specs.MarkLaws.{named-more, named-new}
-use Rattle.pool_pass.specs.PassLaws.{below-or}
-use Rattle.pool_pass.proofs.Laws.{back}
+use Rattle.pool_pass.proofs.laws.MarkLaws.{named-more, named-new}
+use Rattle.pool_pass.proofs.laws.PassLaws.{below-or}
+use Rattle.pool_pass.proofs.Shared.{back}
 use Rattle.pool_pass.proofs.run_end.Statement.{statement}
 use Rattle.pool_pass.proofs.run_end.Tie as tie
 

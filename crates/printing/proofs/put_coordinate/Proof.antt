@@ -8,10 +8,10 @@ use lib.ListN.{length}
 use mir.Syntax.{w32}
 use mir.Val.{SFits, toZ, ofZ}
 use mir.ValLaws.{toZ-ofZ}
-use Rattle.decimals.specs.WrittenLaws.{next-is}
+use Rattle.decimals.proofs.laws.WrittenLaws.{next-is}
 use Rattle.decimals.specs.Text.{signedText}
 use Rattle.sixteenths.specs.Sixteenth.{sixteenthsOf}
-use Rattle.printing.specs.Lengths.{count-fits, coordinate-length}
+use Rattle.printing.proofs.laws.Lengths.{count-fits, coordinate-length}
 use Rattle.printing.specs.Puts.{puts-is, puts-then, puts-as}
 use borrow.Author.Needs.{needs}
 use Rattle.printing.proofs.put_coordinate.Statement.{statement}

@@ -1,6 +1,6 @@
 -- `printing::put_first` meets its contract: the text has at most 10 digits. Assumes nothing.
 use native.Mathlib.Omega.{arith}
-use Rattle.decimals.specs.TextLaws.{number-length}
+use Rattle.decimals.proofs.laws.TextLaws.{number-length}
 use Rattle.printing.specs.Puts.{puts-is}
 use borrow.Author.Needs.{needs}
 use Rattle.printing.proofs.put_first.Statement.{statement}

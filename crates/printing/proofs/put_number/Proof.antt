@@ -1,8 +1,8 @@
 -- `printing::put_number` meets its contract. Assumes nothing.
 use mathlib.Core.List.{[], _∷_}
 use native.Mathlib.Omega.{arith}
-use Rattle.decimals.specs.TextLaws.{number-length}
-use Rattle.decimals.specs.WrittenLaws.{next-is}
+use Rattle.decimals.proofs.laws.TextLaws.{number-length}
+use Rattle.decimals.proofs.laws.WrittenLaws.{next-is}
 use Rattle.printing.specs.Puts.{puts-is, puts-then}
 use borrow.Author.Needs.{needs}
 use Rattle.printing.proofs.put_number.Statement.{statement}

@@ -1,7 +1,7 @@
 -- `printing::put_said` meets its contract. Assumes nothing.
 use native.Mathlib.Omega.{arith}
 use lib.ListN.{length}
-use Rattle.printing.specs.SaidLaws.{refused-text, done-text, one-text, two-text, points-text, boxes-text, points-told, boxes-told}
+use Rattle.printing.proofs.laws.SaidLaws.{refused-text, done-text, one-text, two-text, points-text, boxes-text, points-told, boxes-told}
 use Rattle.printing.specs.Puts.{puts-then, puts-as}
 use borrow.Author.Needs.{needs}
 use Rattle.printing.proofs.put_said.Statement.{statement}

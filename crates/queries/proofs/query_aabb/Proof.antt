@@ -2,7 +2,7 @@
 use borrow.Author.Needs.{needs}
 use Rattle.point_tables.specs.Tables.{Tables, tables}
 use Rattle.queries.specs.Queries.{findings}
-use Rattle.queries.specs.CornerLaws.{aabb-reached, aabb-is}
+use Rattle.queries.proofs.laws.CornerLaws.{aabb-reached, aabb-is}
 use Rattle.queries.proofs.query_aabb.Statement.{statement}
 use Rattle.queries.proofs.query_aabb.Tie as tie
 

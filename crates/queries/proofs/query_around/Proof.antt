@@ -3,10 +3,10 @@ use mathlib.Core.Path.{sym, subst}
 use lib.Dec.{T}
 use lib.Ieee.{binary32, fits}
 use borrow.Author.Needs.{needs}
-use Rattle.geometry.specs.CircleLaws.{HeldPosition}
+use Rattle.geometry.proofs.laws.CircleLaws.{HeldPosition}
 use Rattle.point_tables.specs.Tables.{Tables, tables}
 use Rattle.queries.specs.Queries.{findings}
-use Rattle.queries.specs.CornerLaws.{around-reached, around-is}
+use Rattle.queries.proofs.laws.CornerLaws.{around-reached, around-is}
 use Rattle.queries.proofs.query_around.Statement.{statement}
 use Rattle.queries.proofs.query_around.Tie as tie
 

@@ -15,8 +15,8 @@ use Rattle.point_tables.specs.Decide.{holds, holds-says}
 use Rattle.replies.specs.declared.Count.{Count}
 use Rattle.queries.specs.Queries.{findings}
 use Rattle.queries.specs.Fill.{Stocked}
-use Rattle.queries.specs.FindLaws.{search-3, search-6, search-7}
-use Rattle.queries.specs.FillLaws.{stocked, findable, search-done}
+use Rattle.queries.proofs.laws.FindLaws.{search-3, search-6, search-7}
+use Rattle.queries.proofs.laws.FillLaws.{stocked, findable, search-done}
 use Rattle.queries.proofs.search.Statement.{statement}
 use Rattle.queries.proofs.search.Tie as tie
 

@@ -7,7 +7,7 @@ use lib.ListN.{length}
 use borrow.Author.Needs.{needs}
 use Rattle.point_tables.specs.Tables.{Tables, tables, slotsOf}
 use Rattle.point_tables.specs.Decide.{holds, holds-says}
-use Rattle.storage.specs.WrittenLaws.{length-written}
+use Rattle.storage.proofs.laws.WrittenLaws.{length-written}
 use Rattle.replies.specs.declared.Count.{Count}
 use Rattle.reads.specs.Meaning.{listing, liveHandles, lenOf}
 use Rattle.reads.proofs.laws.ReadsLaws.{len-0, len-3, len-done, len-refused, handles-3, handles-9, handles-0}

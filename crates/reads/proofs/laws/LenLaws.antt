@@ -5,7 +5,7 @@ use Rattle.point_tables.specs.Tables.{Tables, usedOf}
 use Rattle.point_tables.specs.Holds.{Holds}
 use Rattle.point_tables.specs.CountLaws.{live-count}
 use Rattle.slot_walks.specs.Live.{liveFrom, handleAt}
-use Rattle.slot_walks.specs.LiveLaws as Live
+use Rattle.slot_walks.proofs.laws.LiveLaws as Live
 use Rattle.reads.specs.Meaning.{liveHandles}
 
 pub len-live : (t : Tables) → length (liveHandles t) ≡ length (liveFrom 0 (t .nums))

@@ -3,12 +3,12 @@ use lib.IntN.{ℤ}
 use Rattle.cells.specs.declared.Cell.{Cell}
 use Rattle.objects.specs.declared.Record.{Record}
 use Rattle.objects.specs.Columns.{targetOf, intsOf}
-use Rattle.objects.proofs.Laws.{back}
+use Rattle.objects.proofs.Shared.{back}
 use mathlib.Core.Path.{_≡_, sym, ap, _∙_}
 use mathlib.Core.List.{List, [], _∷_}
 use Prim.Native.Nat.{ℕ}
 use lib.ListN.{set}
-use Rattle.records.proofs.Laws.{set-past}
+use Rattle.records.proofs.LoopLaws.{set-past}
 use borrow.Author.Needs.{needs}
 use Rattle.records.proofs.put_ints.Statement.{statement}
 use Rattle.records.proofs.put_ints.Tie as tie

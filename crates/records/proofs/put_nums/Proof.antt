@@ -3,7 +3,7 @@ use mathlib.Core.Path.{_≡_, sym, ap, _∙_}
 use mathlib.Core.List.{List, [], _∷_}
 use Prim.Native.Nat.{ℕ}
 use lib.ListN.{set}
-use Rattle.records.proofs.Laws.{set-past}
+use Rattle.records.proofs.LoopLaws.{set-past}
 use borrow.Author.Needs.{needs}
 use Rattle.records.proofs.put_nums.Statement.{statement}
 use Rattle.records.proofs.put_nums.Tie as tie

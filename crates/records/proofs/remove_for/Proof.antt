@@ -2,7 +2,7 @@
 use mathlib.Core.Path.{_≡_, sym, _∙_}
 use lib.ListN.{length}
 use borrow.Author.Tests.{eq-eqb, ne-eqb}
-use Rattle.records.proofs.Laws.{pick-true, pick-false}
+use Rattle.records.proofs.LoopLaws.{pick-true, pick-false}
 use borrow.Author.Needs.{needs}
 use Rattle.records.proofs.remove_for.Statement.{statement}
 use Rattle.records.proofs.remove_for.Tie as tie

@@ -70,7 +70,7 @@ use Rattle.reads.proofs.Got as GT
 use Rattle.reads.proofs.Got.Laws as GT′
 use Rattle.records.proofs.Rows.{R, val, vals, HR, hval, hvals, PR, pval, pvals, N4, F4, Z4, N2, F2, YR, Yval, Yvals, IR, Ival, Ivals, MR, Mval, Mvals, GR, Gval, Gvals}
 use Rattle.records.proofs.Lends.{to}
-use Rattle.records.proofs.Laws.{firstLaid, laid-0, laid-all, laid-size, laid-next, firstGathered, gathered-0, gathered-all, gathered-size, gathered-next, laid-fit, gathered-fit}
+use Rattle.records.proofs.LoopLaws.{firstLaid, laid-0, laid-all, laid-size, laid-next, firstGathered, gathered-0, gathered-all, gathered-size, gathered-next, laid-fit, gathered-fit}
 use Rattle.records.specs.Calls.{back}
 use Rattle.point_tables.specs.Tables.{tables as tabled}
 use Rattle.point_tables.specs.Outcome.{outcome}

@@ -14,10 +14,10 @@ use Rattle.storage.specs.Packed.{Packed}
 use Rattle.point_tables.specs.Tables.{Tables, sizeOf, usedOf, rowsOf, slotsOf, Sized}
 use Rattle.point_tables.specs.Holds.{Counted, ListsHold, Holds}
 use Rattle.slot_walks.specs.Cleared.{clearedRow, clearedRows, clearedMap}
-use Rattle.slot_walks.specs.ClearedLaws as Slots
-use Rattle.slot_walks.specs.ClearedLaws.{cleared-map-length, cleared-map-head, cleared-slots}
+use Rattle.slot_walks.proofs.laws.ClearedLaws as Slots
+use Rattle.slot_walks.proofs.laws.ClearedLaws.{cleared-map-length, cleared-map-head, cleared-slots}
 use Rattle.removals.specs.Meaning.Clear.{cleared}
-use Rattle.point_tables.specs.HeadLaws.{counted-used, counted-rows, counted-size, counted-length, counted-slots}
+use Rattle.point_tables.proofs.laws.HeadLaws.{counted-used, counted-rows, counted-size, counted-length, counted-slots}
 
 pub cleared-none : (t : Tables) (s : ℕ) → phaseAt (cleared t .nums) s ≡ live → ⊥
 unfolding cleared

@@ -20,7 +20,7 @@ use Rattle.storage.specs.TakeOutLaws.{all-takeOut, sorted-takeOut, under-takeOu
 use Rattle.removals.specs.Meaning.RemoveMaintain.{isEmpty}
 use Rattle.removals.specs.Inner.{rowsBy}
 use Rattle.removals.proofs.laws.GoneLaws.{all-onList, all-apart, pairs-onList}
-use Rattle.point_tables.specs.RowLaws.{Single, PackedRows}
+use Rattle.point_tables.proofs.laws.RowLaws.{Single, PackedRows}
 
 -- ---- a cell without its row
 module _ (k : ℕ) (c : List (List ℕ)) where

@@ -10,7 +10,7 @@ use Rattle.storage.specs.Keyed.{All, filter, Sorted, under, below, above, onLis
 use Rattle.storage.specs.FilterLaws.{by-test, all-map, all-both, all-append, all-front, all-back, filter-all}
 use Rattle.storage.specs.KeyedLaws.{all-below, all-above, sorted-parts}
 use Rattle.storage.specs.TakeOutLaws.{has, all-close, all-takeOut}
-use Rattle.point_tables.specs.Members.{Some, Pairs, pairs-filter}
+use Rattle.point_tables.proofs.laws.Members.{Some, Pairs, pairs-filter}
 
 module _ {A : Type 0} where
   -- ---- some element, of two lists and of a part of one

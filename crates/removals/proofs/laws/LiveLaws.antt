@@ -4,7 +4,7 @@ use lib.ListN.{length}
 use Rattle.point_tables.specs.Tables.{Tables, usedOf}
 use Rattle.point_tables.specs.Holds.{Holds}
 use Rattle.point_tables.specs.CountLaws.{live-count}
-use Rattle.slot_walks.specs.LiveLaws as Live
+use Rattle.slot_walks.proofs.laws.LiveLaws as Live
 use Rattle.removals.specs.Meaning.Clear.{liveSlots}
 
 pub live-used : (t : Tables) → Holds t → length (liveSlots t) ≡ usedOf t

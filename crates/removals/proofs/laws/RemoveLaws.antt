@@ -10,8 +10,8 @@ use lib.ListN.{getD}
 use Rattle.basics.specs.Refusals.{pick, orElse}
 use Rattle.slots.specs.declared.Handle.{Handle}
 use Rattle.slots.specs.Slot.{live, phaseAt, versionAt, nextVersion, nextPhase, good}
-use Rattle.slots.specs.EmptyLaws.{emptied-same}
-use Rattle.slots.specs.HandleLaws.{good-says, emptied-not-good, emptied-good-other}
+use Rattle.slots.proofs.laws.EmptyLaws.{emptied-same}
+use Rattle.slots.proofs.laws.HandleLaws.{good-says, emptied-not-good, emptied-good-other}
 use Rattle.point_tables.specs.Tables.{Tables, usedOf, slotsOf, recordOn}
 use Rattle.point_tables.specs.Holds.{Holds}
 use Rattle.point_tables.specs.Decide.{holds, holds-says}

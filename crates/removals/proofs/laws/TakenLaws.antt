@@ -11,25 +11,25 @@ use borrow.Author.Tests.{eq-eqb}
 use Rattle.cells.specs.Key.{keyOf}
 use Rattle.slots.specs.Map.{head}
 use Rattle.slots.specs.Slot.{live, phaseAt, versionAt, emptiedNums, emptiedMap, SlotsHold}
-use Rattle.slots.specs.SlotLaws.{emptied-holds}
-use Rattle.slots.specs.EmptyLaws.{emptied-length, emptied-same, emptied-other, emptied-map-length, emptied-map-head}
+use Rattle.slots.proofs.laws.SlotLaws.{emptied-holds}
+use Rattle.slots.proofs.laws.EmptyLaws.{emptied-length, emptied-same, emptied-other, emptied-map-length, emptied-map-head}
 use Rattle.storage.specs.Keyed.{under}
 use Rattle.storage.specs.Entries.{Entry, rowKey, rowOf, spotOf, entryKey, entriesOf, isItem}
 use Rattle.storage.specs.Packed.{Packed}
-use Rattle.storage.specs.WrittenLaws.{length-written}
-use Rattle.storage.specs.ColumnLaws.{map-under, rows-takeOut}
-use Rattle.storage.specs.PoolLaws.{rows-column}
+use Rattle.storage.proofs.laws.WrittenLaws.{length-written}
+use Rattle.storage.proofs.laws.ColumnLaws.{map-under, rows-takeOut}
+use Rattle.storage.proofs.laws.PoolLaws.{rows-column}
 use Rattle.storage.specs.TakeOutLaws.{has, length-onList-takeOut}
-use Rattle.slot_walks.specs.ClearedLaws.{next-not-live}
+use Rattle.slot_walks.proofs.laws.ClearedLaws.{next-not-live}
 use Rattle.objects.specs.Columns.{recordOf}
 use Rattle.point_tables.specs.Tables.{Tables, sizeOf, usedOf, rowsOf, slotsOf, recordOn, entriesIn, cellRows, Sized}
 use Rattle.point_tables.specs.Holds.{Counted, Holds}
 use Rattle.removals.specs.Meaning.RemoveMaintain.{isEmpty, entriesWithout, rowsWithout, takenOut}
 use Rattle.point_tables.specs.EntryLaws.{written-entries}
-use Rattle.point_tables.specs.RowLaws.{PackedRows, from-rows}
-use Rattle.point_tables.specs.ListedLaws.{slotOf, Named, listing, rows-in}
-use Rattle.point_tables.specs.HoldsLaws.{used-in-pool, used-in-spots, rows-in-cells, entries-length}
-use Rattle.point_tables.specs.HeadLaws.{counted-used, counted-rows, counted-size, counted-length, counted-slots}
+use Rattle.point_tables.proofs.laws.RowLaws.{PackedRows, from-rows}
+use Rattle.point_tables.proofs.laws.ListedLaws.{slotOf, Named, listing, rows-in}
+use Rattle.point_tables.proofs.laws.HoldsLaws.{used-in-pool, used-in-spots, rows-in-cells, entries-length}
+use Rattle.point_tables.proofs.laws.HeadLaws.{counted-used, counted-rows, counted-size, counted-length, counted-slots}
 use Rattle.removals.proofs.laws.GoneLaws.{some-both, some-filter, some-has}
 use Rattle.removals.proofs.laws.DropLaws.{rowsBy-length, packed-remove}
 use Rattle.removals.specs.Inner.{rowsBy}

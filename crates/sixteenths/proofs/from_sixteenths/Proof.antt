@@ -5,7 +5,7 @@ use lib.IntN.{ℤ}
 use lib.Ieee.{binary32, inFloat, ofInt, ofBits, div}
 use mir.Syntax.{w32}
 use mir.ValLaws.{toZ-ofZ}
-use Rattle.sixteenths.specs.SixteenthLaws.{in-float, from-whole}
+use Rattle.sixteenths.proofs.laws.SixteenthLaws.{in-float, from-whole}
 use Rattle.sixteenths.proofs.from_sixteenths.Statement.{statement}
 use Rattle.sixteenths.proofs.from_sixteenths.Tie as tie
 

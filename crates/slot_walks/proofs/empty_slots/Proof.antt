@@ -5,7 +5,7 @@ use mathlib.Core.Logic.{⊎-elim}
 use native.Mathlib.Omega.{arith}
 use lib.ListN.{length, take}
 use borrow.Author.Needs.{needs}
-use Rattle.slot_walks.specs.ClearedLaws.{numsTo, mapTo, nums-length, nums-whole, map-whole, cleared-map-length, empty-asks, turn-live, turn-idle}
+use Rattle.slot_walks.proofs.laws.ClearedLaws.{numsTo, mapTo, nums-length, nums-whole, map-whole, cleared-map-length, empty-asks, turn-live, turn-idle}
 use Rattle.slot_walks.proofs.empty_slots.Statement.{statement}
 use Rattle.slot_walks.proofs.empty_slots.Tie as tie
 

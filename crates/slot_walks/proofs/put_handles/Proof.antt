@@ -9,8 +9,8 @@ use lib.Seq.{take-all}
 use borrow.Author.Needs.{needs}
 use Rattle.storage.specs.Keyed.{written}
 use Rattle.slot_walks.specs.Live.{liveFrom, handleAt}
-use Rattle.slot_walks.specs.LiveLaws.{liveTo, live-most, live-within}
-use Rattle.slot_walks.specs.FillLaws.{filled-length, filled-room, filled-next, filled-same, one-more, as-many}
+use Rattle.slot_walks.proofs.laws.LiveLaws.{liveTo, live-most, live-within}
+use Rattle.slot_walks.proofs.laws.FillLaws.{filled-length, filled-room, filled-next, filled-same, one-more, as-many}
 use Rattle.slot_walks.proofs.put_handles.Statement.{statement}
 use Rattle.slot_walks.proofs.put_handles.Tie as tie
 

@@ -5,7 +5,7 @@ use native.Mathlib.Omega.{arith}
 use lib.Count.{ones-le}
 use lib.ListN.{getD}
 use Rattle.slots.specs.Map.{head, wordsFor, usableBelow}
-use Rattle.slots.specs.CountLaws.{usable-most, word-more}
+use Rattle.slots.proofs.laws.CountLaws.{usable-most, word-more}
 use Rattle.slots.proofs.count_usable.Statement.{statement}
 use Rattle.slots.proofs.count_usable.Tie as tie
 

@@ -9,7 +9,7 @@ use borrow.Author.Tests.{not-true, not-false}
 use Rattle.basics.specs.Says.{says-yes, says-no, apart}
 use Rattle.slots.specs.Map.{usable}
 use Rattle.slots.specs.Slot.{versionAt, phaseAt, SlotHolds}
-use Rattle.slots.proofs.Laws.{said-slot}
+use Rattle.slots.proofs.Shared.{said-slot}
 use Rattle.slots.proofs.each_ok.Statement.{statement}
 use Rattle.slots.proofs.each_ok.Tie as tie
 

@@ -2,7 +2,7 @@
 use mathlib.Core.Path.{_≡_}
 use lib.ListN.{length}
 use borrow.Author.Needs.{needs}
-use Rattle.slots.proofs.Laws.{row-emptied}
+use Rattle.slots.proofs.Shared.{row-emptied}
 use Rattle.slots.proofs.emptied_row.Statement.{statement}
 use Rattle.slots.proofs.emptied_row.Tie as tie
 

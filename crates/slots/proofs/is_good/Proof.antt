@@ -1,6 +1,6 @@
 -- `slots::is_good` meets its contract, test by test. Assumes nothing.
 use borrow.Author.Needs.{needs}
-use Rattle.slots.proofs.Laws.{past-table, not-live, by-version}
+use Rattle.slots.proofs.Shared.{past-table, not-live, by-version}
 use Rattle.slots.proofs.is_good.Statement.{statement}
 use Rattle.slots.proofs.is_good.Tie as tie
 

@@ -4,7 +4,7 @@ use native.Mathlib.Omega.{arith}
 use borrow.Author.Needs.{needs}
 use Rattle.basics.specs.Says.{says-yes, says-no}
 use Rattle.slots.specs.Map.{head}
-use Rattle.slots.specs.MapLaws.{past-none, past-all}
+use Rattle.slots.proofs.laws.MapLaws.{past-none, past-all}
 use Rattle.slots.proofs.past_ok.Statement.{statement}
 use Rattle.slots.proofs.past_ok.Tie as tie
 

@@ -1,6 +1,6 @@
 -- `splits::push` meets its contract. Assumes nothing.
 use borrow.Author.Needs.{needs}
-use Rattle.splits.specs.LineLaws.{pushed, full}
+use Rattle.splits.proofs.laws.LineLaws.{pushed, full}
 use Rattle.splits.proofs.push.Statement.{statement}
 use Rattle.splits.proofs.push.Tie as tie
 

@@ -4,7 +4,7 @@ use mathlib.Core.List.{List, [], _∷_}
 use Prim.Native.Nat.{ℕ}
 use lib.Dec.{eqb}
 use borrow.Author.Needs.{needs}
-use Rattle.splits.specs.LineLaws.{without-cr}
+use Rattle.splits.proofs.laws.LineLaws.{without-cr}
 use Rattle.splits.specs.Sofar.{Fed, begun}
 use Rattle.splits.proofs.step.Statement.{statement}
 use Rattle.splits.proofs.step.Tie as tie

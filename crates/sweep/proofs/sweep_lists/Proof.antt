@@ -8,9 +8,9 @@ use lib.ListN.{length}
 use borrow.Author.Needs.{needs}
 use Rattle.storage.specs.Packed.{first, second}
 use Rattle.point_tables.specs.Tables.{Tables, tables, usedOf, rowsOf}
-use Rattle.point_tables.specs.HoldsLaws.{used-in-pool, rows-in-cells}
+use Rattle.point_tables.proofs.laws.HoldsLaws.{used-in-pool, rows-in-cells}
 use Rattle.storage.specs.Run.{ListEnd}
-use Rattle.sweep.specs.SweepingLaws.{Sweeping, sweeping-start, sweeping-rows, sweeping-spots, sweeping-room, sweeping-slots, sweeping-turn, sweeping-done}
+use Rattle.sweep.proofs.laws.SweepingLaws.{Sweeping, sweeping-start, sweeping-rows, sweeping-spots, sweeping-room, sweeping-slots, sweeping-turn, sweeping-done}
 use Rattle.sweep.proofs.sweep_lists.Statement.{statement}
 use Rattle.sweep.proofs.sweep_lists.Tie as tie
 

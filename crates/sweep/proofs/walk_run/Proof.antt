@@ -5,7 +5,7 @@ use native.Mathlib.Omega.{arith}
 use lib.ListN.{length}
 use borrow.Author.Needs.{needs}
 use Rattle.sweep.specs.Tags.{fateIn}
-use Rattle.sweep.specs.WalkingLaws.{Walking, walking-start, walking-rows, walking-spots, walking-done}
+use Rattle.sweep.proofs.laws.WalkingLaws.{Walking, walking-start, walking-rows, walking-spots, walking-done}
 use Rattle.sweep.proofs.Turns.{Within, walk-within, walk-slot, walk-stays, walk-leaves}
 use Rattle.sweep.proofs.walk_run.Statement.{statement}
 use Rattle.sweep.proofs.walk_run.Tie as tie

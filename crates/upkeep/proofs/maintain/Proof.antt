@@ -13,7 +13,7 @@ use Rattle.point_tables.specs.Outcome.{outcome}
 use Rattle.maintain.specs.Maintain.{isMoving, countStates, maintainedCounts}
 use Rattle.maintain.specs.SettledForm.{maintained-is}
 use Rattle.maintain.specs.MaintainLaws.{maintain-done, maintain-refused}
-use Rattle.settle.specs.CountsLaws.{moved-numbered, removed-numbered}
+use Rattle.settle.proofs.laws.CountsLaws.{moved-numbered, removed-numbered}
 use Rattle.upkeep.proofs.maintain.Statement.{statement}
 use Rattle.upkeep.proofs.maintain.Tie as tie
 

@@ -7,8 +7,8 @@ use lib.Ieee.{Float}
 use borrow.Author.Needs.{needs}
 use Rattle.point_tables.specs.Tables.{Tables, tables}
 use Rattle.settle.specs.Pass.{recordsIn}
-use Rattle.settle.specs.BareLaws.{holds-ready}
-use Rattle.upkeep.specs.Assembled.{room, put-room, k-is, in-pool, in-spots, few, sorted-front, named-back, map-room, used-inside, cells-room, assembled}
+use Rattle.settle.proofs.laws.BareLaws.{holds-ready}
+use Rattle.upkeep.proofs.laws.Assembled.{room, put-room, k-is, in-pool, in-spots, few, sorted-front, named-back, map-room, used-inside, cells-room, assembled}
 use Rattle.upkeep.proofs.settle_all.Statement.{statement}
 use Rattle.upkeep.proofs.settle_all.Tie as tie
 

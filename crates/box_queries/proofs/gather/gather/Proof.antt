@@ -3,8 +3,8 @@ use Prim.Native.Nat.{_≤_, _-_}
 use mathlib.Core.Path.{_≡_, subst}
 use native.Mathlib.Omega.{arith}
 use lib.ListN.{take}
-use Rattle.storage.specs.RunLaws.{run-onward}
-use Rattle.box_queries.specs.CollectLaws.{Gathered, gathered-start, gathered-next, gathered-end}
+use Rattle.storage.proofs.laws.RunLaws.{run-onward}
+use Rattle.box_queries.proofs.laws.CollectLaws.{Gathered, gathered-start, gathered-next, gathered-end}
 use Rattle.box_queries.proofs.gather.gather.Statement.{statement}
 use Rattle.box_queries.proofs.gather.gather.Tie as tie
 

@@ -9,7 +9,7 @@ use borrow.Author.Needs.{needs}
 use Rattle.geometry.specs.Intersects.{intersects}
 use Rattle.box_tables.specs.Tables.{aabbAt}
 use Rattle.storage.specs.Keyed.{filter}
-use Rattle.box_queries.specs.KeepLaws.{Kept, kept-none, kept-here, kept-taken, kept-passed, kept-as}
+use Rattle.box_queries.proofs.laws.KeepLaws.{Kept, kept-none, kept-here, kept-taken, kept-passed, kept-as}
 use Rattle.box_queries.proofs.keep.keep.Statement.{statement}
 use Rattle.box_queries.proofs.keep.keep.Tie as tie
 

@@ -7,7 +7,7 @@ use lib.ListN.{length, getD, take}
 use borrow.Author.Needs.{needs}
 use Rattle.slots.specs.Slot.{versionAt}
 use Rattle.storage.specs.Keyed.{written}
-use Rattle.storage.specs.PutLaws.{put-length, put-next}
+use Rattle.storage.proofs.laws.PutLaws.{put-length, put-next}
 use Rattle.box_queries.proofs.put.put_handles.Statement.{statement}
 use Rattle.box_queries.proofs.put.put_handles.Tie as tie
 use Rattle.slot_walks.specs.Live.{handleAt}

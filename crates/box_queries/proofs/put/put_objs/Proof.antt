@@ -6,7 +6,7 @@ use native.Mathlib.Omega.{arith}
 use lib.ListN.{length, getD, take}
 use borrow.Author.Needs.{needs}
 use Rattle.storage.specs.Keyed.{written}
-use Rattle.storage.specs.PutLaws.{put-length, put-next}
+use Rattle.storage.proofs.laws.PutLaws.{put-length, put-next}
 use Rattle.box_queries.proofs.put.put_objs.Statement.{statement}
 use Rattle.box_queries.proofs.put.put_objs.Tie as tie
 use Rattle.slot_walks.specs.Live.{objAt}

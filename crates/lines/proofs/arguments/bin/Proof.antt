@@ -3,7 +3,7 @@ use borrow.Author.Needs.{needs}
 use Rattle.lines.specs.Taken.{both, takeNumber, takeSpots}
 use Rattle.lines.specs.Requests.{bin, argumentsOf}
 use Rattle.lines.specs.Cursor.{fieldsFrom, spotsTaken, numberTaken}
-use Rattle.lines.proofs.Laws.{told, none-first, none-second, both-taken, no-request, one-request}
+use Rattle.lines.proofs.Shared.{told, none-first, none-second, both-taken, no-request, one-request}
 use Rattle.lines.proofs.arguments.bin.Statement.{statement}
 use Rattle.lines.proofs.arguments.bin.Tie as tie
 

@@ -3,7 +3,7 @@ use borrow.Author.Needs.{needs}
 use Rattle.lines.specs.Taken.{both, takeHandle, takeSpots}
 use Rattle.lines.specs.Requests.{bset, argumentsOf}
 use Rattle.lines.specs.Cursor.{fieldsFrom, handleTaken, spotsTaken}
-use Rattle.lines.proofs.Laws.{told, none-first, none-second, both-taken, no-request, one-request}
+use Rattle.lines.proofs.Shared.{told, none-first, none-second, both-taken, no-request, one-request}
 use Rattle.lines.proofs.arguments.bset.Statement.{statement}
 use Rattle.lines.proofs.arguments.bset.Tie as tie
 

@@ -4,7 +4,7 @@ use Rattle.lines.specs.declared.Request.the-variants.{Cell}
 use Rattle.lines.specs.Taken.{takeNumber}
 use Rattle.lines.specs.Requests.{argumentsOf}
 use Rattle.lines.specs.Cursor.{fieldsFrom, numberTaken}
-use Rattle.lines.proofs.Laws.{told, no-request, one-request}
+use Rattle.lines.proofs.Shared.{told, no-request, one-request}
 use Rattle.lines.proofs.arguments.cell.Statement.{statement}
 use Rattle.lines.proofs.arguments.cell.Tie as tie
 

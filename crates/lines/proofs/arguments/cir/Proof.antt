@@ -7,7 +7,7 @@ use Rattle.lines.specs.declared.Request.the-variants.{Cir}
 use Rattle.lines.specs.Taken.{taken, both, takeCount, takeSpot}
 use Rattle.lines.specs.Requests.{cir, argumentsOf, whole}
 use Rattle.lines.specs.Cursor.{fieldsFrom, spotTaken, countTaken}
-use Rattle.lines.proofs.Laws.{told, none-first, none-second, both-taken, no-request, one-request}
+use Rattle.lines.proofs.Shared.{told, none-first, none-second, both-taken, no-request, one-request}
 use Rattle.lines.proofs.arguments.cir.Statement.{statement}
 use Rattle.lines.proofs.arguments.cir.Tie as tie
 

@@ -3,7 +3,7 @@ use borrow.Author.Needs.{needs}
 use Rattle.lines.specs.Taken.{both, takeNumber, takeSpot}
 use Rattle.lines.specs.Requests.{ins, argumentsOf}
 use Rattle.lines.specs.Cursor.{fieldsFrom, spotTaken, numberTaken}
-use Rattle.lines.proofs.Laws.{told, none-first, none-second, both-taken, no-request, one-request}
+use Rattle.lines.proofs.Shared.{told, none-first, none-second, both-taken, no-request, one-request}
 use Rattle.lines.proofs.arguments.ins.Statement.{statement}
 use Rattle.lines.proofs.arguments.ins.Tie as tie
 

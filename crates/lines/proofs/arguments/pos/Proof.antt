@@ -3,7 +3,7 @@ use borrow.Author.Needs.{needs}
 use Rattle.lines.specs.Taken.{both, takeHandle, takeSpot}
 use Rattle.lines.specs.Requests.{moved, argumentsOf}
 use Rattle.lines.specs.Cursor.{fieldsFrom, handleTaken, spotTaken}
-use Rattle.lines.proofs.Laws.{told, none-first, none-second, both-taken, no-request, one-request}
+use Rattle.lines.proofs.Shared.{told, none-first, none-second, both-taken, no-request, one-request}
 use Rattle.lines.proofs.arguments.pos.Statement.{statement}
 use Rattle.lines.proofs.arguments.pos.Tie as tie
 

@@ -3,7 +3,7 @@ use borrow.Author.Needs.{needs}
 use Rattle.lines.specs.Taken.{takeSpots}
 use Rattle.lines.specs.Requests.{rec, argumentsOf}
 use Rattle.lines.specs.Cursor.{fieldsFrom, spotsTaken}
-use Rattle.lines.proofs.Laws.{told, no-request, one-request}
+use Rattle.lines.proofs.Shared.{told, no-request, one-request}
 use Rattle.lines.proofs.arguments.rec.Statement.{statement}
 use Rattle.lines.proofs.arguments.rec.Tie as tie
 

@@ -4,7 +4,7 @@ use Rattle.lines.specs.declared.Request.the-variants.{Rem}
 use Rattle.lines.specs.Taken.{takeHandle}
 use Rattle.lines.specs.Requests.{argumentsOf}
 use Rattle.lines.specs.Cursor.{fieldsFrom, handleTaken}
-use Rattle.lines.proofs.Laws.{told, no-request, one-request}
+use Rattle.lines.proofs.Shared.{told, no-request, one-request}
 use Rattle.lines.proofs.arguments.rem.Statement.{statement}
 use Rattle.lines.proofs.arguments.rem.Tie as tie
 

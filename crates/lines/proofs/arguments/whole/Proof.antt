@@ -2,7 +2,7 @@
 use mathlib.Core.Path.{sym, ap}
 use Rattle.lines.specs.Taken.{taken}
 use Rattle.lines.specs.Requests.{whole}
-use Rattle.lines.specs.CursorLaws.{field-at, no-field}
+use Rattle.lines.proofs.laws.CursorLaws.{field-at, no-field}
 use mathlib.Core.List.{List}
 use Prim.Native.Nat.{ℕ}
 use Rattle.lines.proofs.arguments.whole.Statement.{statement}

@@ -4,7 +4,7 @@ use mathlib.Core.Path.{_≡_, refl}
 use native.Mathlib.Omega.{arith}
 use lib.ListN.{length, drop}
 use Rattle.lines.specs.Cursor.{untilComma, endFrom}
-use Rattle.lines.specs.CursorLaws.{at-comma, at-other, at-end}
+use Rattle.lines.proofs.laws.CursorLaws.{at-comma, at-other, at-end}
 use Rattle.lines.proofs.fields.field_end.Statement.{statement}
 use Rattle.lines.proofs.fields.field_end.Tie as tie
 

@@ -8,9 +8,9 @@ use native.Mathlib.Omega.{arith}
 use borrow.Author.Needs.{needs}
 use Rattle.decimals.specs.declared.Count.{Count}
 use Rattle.lines.specs.Cursor.{fieldsFrom}
-use Rattle.lines.specs.CursorLaws.{end-within}
+use Rattle.lines.proofs.laws.CursorLaws.{end-within}
 use Rattle.lines.specs.Taken.{countThen}
-use Rattle.lines.proofs.Laws.{told, no-count, count-here}
+use Rattle.lines.proofs.Shared.{told, no-count, count-here}
 use Rattle.lines.proofs.fields.take_count.Statement.{statement}
 use Rattle.lines.proofs.fields.take_count.Tie as tie
 

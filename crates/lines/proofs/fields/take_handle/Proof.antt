@@ -2,7 +2,7 @@
 use borrow.Author.Needs.{needs}
 use Rattle.lines.specs.Taken.{both, handleOf, takeNumber}
 use Rattle.lines.specs.Cursor.{fieldsFrom, numberTaken}
-use Rattle.lines.proofs.Laws.{told, none-first, none-second, both-taken, none-made, one-made}
+use Rattle.lines.proofs.Shared.{told, none-first, none-second, both-taken, none-made, one-made}
 use Rattle.lines.proofs.fields.take_handle.Statement.{statement}
 use Rattle.lines.proofs.fields.take_handle.Tie as tie
 

@@ -4,9 +4,9 @@ use native.Mathlib.Omega.{arith}
 use borrow.Author.Needs.{needs}
 use Rattle.decimals.specs.declared.Number.{Number}
 use Rattle.lines.specs.Cursor.{fieldsFrom}
-use Rattle.lines.specs.CursorLaws.{end-within}
+use Rattle.lines.proofs.laws.CursorLaws.{end-within}
 use Rattle.lines.specs.Taken.{numberThen}
-use Rattle.lines.proofs.Laws.{told, no-number, number-here}
+use Rattle.lines.proofs.Shared.{told, no-number, number-here}
 use Rattle.lines.proofs.fields.take_number.Statement.{statement}
 use Rattle.lines.proofs.fields.take_number.Tie as tie
 

@@ -2,7 +2,7 @@
 use borrow.Author.Needs.{needs}
 use Rattle.lines.specs.Taken.{takeSpot}
 use Rattle.lines.specs.Cursor.{fieldsFrom, spotTaken}
-use Rattle.lines.proofs.Laws.{told, none-first, none-second, both-taken}
+use Rattle.lines.proofs.Shared.{told, none-first, none-second, both-taken}
 use Rattle.lines.proofs.fields.take_spots.Statement.{statement}
 use Rattle.lines.proofs.fields.take_spots.Tie as tie
 

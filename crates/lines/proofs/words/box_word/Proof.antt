@@ -1,7 +1,7 @@
 -- `lines::words::box_word` meets its contract, test by test. Assumes nothing.
 use mathlib.Core.Path.{refl, sym, _∙_}
 use borrow.Author.Needs.{needs}
-use Rattle.lines.proofs.Laws.{hit, miss}
+use Rattle.lines.proofs.Shared.{hit, miss}
 use Rattle.lines.proofs.words.box_word.Statement.{statement}
 use Rattle.lines.proofs.words.box_word.Tie as tie
 

@@ -4,7 +4,7 @@ use mathlib.Core.Path.{_≡_, sym}
 use native.Mathlib.Omega.{arith}
 use borrow.Author.Count.{below-none, below-more}
 use lib.ListN.{length, getD}
-use Rattle.lines.specs.WordLaws.{other-length, other-byte, same-bytes}
+use Rattle.lines.proofs.laws.WordLaws.{other-length, other-byte, same-bytes}
 use Rattle.lines.proofs.words.same.Statement.{statement}
 use Rattle.lines.proofs.words.same.Tie as tie
 

@@ -2,7 +2,7 @@
 use mathlib.Core.Path.{sym, _∙_}
 use borrow.Author.Needs.{needs}
 use Rattle.lines.specs.Words.{wordOf}
-use Rattle.lines.proofs.Laws.{hit, miss}
+use Rattle.lines.proofs.Shared.{hit, miss}
 use Rattle.lines.proofs.words.word.Statement.{statement}
 use Rattle.lines.proofs.words.word.Tie as tie
 

@@ -5,7 +5,7 @@ use borrow.Author.Needs.{needs}
 use Rattle.point_tables.specs.Tables.{Tables, tables}
 use Rattle.moves.specs.Batch.{batchAnswer}
 use Rattle.moves.specs.Held.{poolless}
-use Rattle.moves.specs.BatchAnswerLaws.{batch-accepted}
+use Rattle.moves.proofs.laws.BatchAnswerLaws.{batch-accepted}
 use Rattle.moves.proofs.Ends.{answered, short, refused, found, readied, ran}
 use Rattle.moves.proofs.batches.batch.Statement.{statement}
 use Rattle.moves.proofs.batches.batch.Tie as tie

@@ -6,7 +6,7 @@ use lib.ListN.{length}
 use borrow.Author.Needs.{needs}
 use Rattle.point_tables.specs.Tables.{Tables}
 use Rattle.moves.specs.Held.{poolless}
-use Rattle.moves.specs.BatchLaws.{Running, start, step, finish}
+use Rattle.moves.proofs.laws.BatchLaws.{Running, start, step, finish}
 use Rattle.moves.proofs.batches.run.Statement.{statement}
 use Rattle.moves.proofs.batches.run.Tie as tie
 

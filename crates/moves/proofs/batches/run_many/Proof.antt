@@ -7,7 +7,7 @@ use borrow.Author.Needs.{needs}
 use Rattle.point_tables.specs.Tables.{Tables, usedOf, rowsOf}
 use Rattle.moves.specs.Held.{poolless}
 use Rattle.moves.specs.Marks.{Walkable, MarkedTo}
-use Rattle.moves.specs.ManyLaws.{RunningMany, start-many, step-many, walkable, finish-many}
+use Rattle.moves.proofs.laws.ManyLaws.{RunningMany, start-many, step-many, walkable, finish-many}
 use Rattle.moves.proofs.batches.run_many.Statement.{statement}
 use Rattle.moves.proofs.batches.run_many.Tie as tie
 

@@ -5,8 +5,8 @@ use Rattle.point_tables.specs.Tables.{Tables}
 use Rattle.moves.specs.Batch.{Call}
 use Rattle.moves.specs.Held.{poolless, call, worked}
 use Rattle.moves.specs.Ready.{Workable}
-use Rattle.moves.specs.HeldLaws.{held-accepted}
-use Rattle.moves.proofs.Laws.{refused, done}
+use Rattle.moves.proofs.laws.HeldLaws.{held-accepted}
+use Rattle.moves.proofs.Shared.{refused, done}
 use Rattle.moves.proofs.call.deferred.Statement.{statement}
 use Rattle.moves.proofs.call.deferred.Tie as tie
 

@@ -1,7 +1,7 @@
 -- `moves::call::pend` meets its contract, by `pend-removed` and `pend-moved`. Assumes nothing.
 use Rattle.cells.specs.Numbers.{cell-ext}
 use Rattle.cells.specs.ReachLaws.{position-reached}
-use Rattle.moves.proofs.Laws.{pend-removed, pend-moved, back}
+use Rattle.moves.proofs.Shared.{pend-removed, pend-moved, back}
 use borrow.Author.Needs.{needs}
 use Rattle.moves.proofs.call.pend.Statement.{statement}
 use Rattle.moves.proofs.call.pend.Tie as tie

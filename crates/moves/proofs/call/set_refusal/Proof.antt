@@ -9,11 +9,11 @@ use borrow.Author.Needs.{needs}
 use native.Mathlib.Omega.{arith}
 use Rattle.geometry.specs.Domain.{positionInDomain}
 use Rattle.slots.specs.Slot.{good}
-use Rattle.slots.specs.HandleLaws.{good-says}
+use Rattle.slots.proofs.laws.HandleLaws.{good-says}
 use Rattle.objects.specs.Columns.{recordAt}
 use Rattle.objects.specs.States.{isRemoved}
 use Rattle.moves.specs.Held.{setRefusal}
-use Rattle.moves.proofs.Laws.{above-two, up-to-two}
+use Rattle.moves.proofs.Shared.{above-two, up-to-two}
 use Rattle.moves.proofs.call.set_refusal.Statement.{statement}
 use Rattle.moves.proofs.call.set_refusal.Tie as tie
 

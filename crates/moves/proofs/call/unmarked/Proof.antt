@@ -6,8 +6,8 @@ use borrow.Author.Needs.{needs}
 use Rattle.point_tables.specs.Tables.{Tables}
 use Rattle.moves.specs.Batch.{Call}
 use Rattle.moves.specs.Held.{poolless, call}
-use Rattle.moves.specs.HeldLaws.{held-accepted}
-use Rattle.moves.proofs.Laws.{refused-unmarked, done-unmarked}
+use Rattle.moves.proofs.laws.HeldLaws.{held-accepted}
+use Rattle.moves.proofs.Shared.{refused-unmarked, done-unmarked}
 use Rattle.moves.proofs.call.unmarked.Statement.{statement}
 use Rattle.moves.proofs.call.unmarked.Tie as tie
 

@@ -4,7 +4,7 @@ use borrow.Author.Needs.{needs}
 use Rattle.cells.specs.Numbers.{cell-ext}
 use Rattle.point_tables.specs.Tables.{Tables}
 use Rattle.moves.specs.Held.{poolless}
-use Rattle.moves.proofs.Laws.{back, made, rising}
+use Rattle.moves.proofs.Shared.{back, made, rising}
 use Rattle.moves.proofs.call.work.Statement.{statement}
 use Rattle.moves.proofs.call.work.Tie as tie
 

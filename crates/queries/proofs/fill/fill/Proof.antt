@@ -8,9 +8,9 @@ use borrow.Author.Needs.{needs}
 use Rattle.storage.specs.FilterLaws.{all-map}
 use Rattle.queries.specs.Queries.{findings}
 use Rattle.queries.specs.Places.{placesOf}
-use Rattle.queries.specs.StretchLaws.{places-most}
+use Rattle.queries.proofs.laws.StretchLaws.{places-most}
 use Rattle.queries.specs.Fill.{filled, Findable}
-use Rattle.queries.specs.FillLaws.{filled-9, filled-put, places-used, array-room, array-first, array-each}
+use Rattle.queries.proofs.laws.FillLaws.{filled-9, filled-put, places-used, array-room, array-first, array-each}
 use Rattle.queries.proofs.fill.fill.Statement.{statement}
 use Rattle.queries.proofs.fill.fill.Tie as tie
 use Rattle.replies.specs.Replies.{count}

@@ -9,7 +9,7 @@ use Rattle.slots.specs.Slot.{versionAt}
 use Rattle.storage.specs.Keyed.{written}
 use Rattle.storage.specs.Packed.{second}
 use Rattle.queries.specs.Fill.{handleAt, placeAt, Findable}
-use Rattle.storage.specs.PutLaws.{put-length, put-next}
+use Rattle.storage.proofs.laws.PutLaws.{put-length, put-next}
 use Rattle.queries.proofs.fill.put_findings.Statement.{statement}
 use Rattle.queries.proofs.fill.put_findings.Tie as tie
 

@@ -8,12 +8,12 @@ use Rattle.cells.specs.declared.Cell.{Cell}
 use Rattle.cells.specs.Numbers.{Near}
 use Rattle.cells.specs.Key.{keyOf}
 use Rattle.storage.specs.Keyed.{written}
-use Rattle.storage.specs.WrittenLaws.{length-written}
+use Rattle.storage.proofs.laws.WrittenLaws.{length-written}
 use Rattle.queries.specs.Places.{placesIn, spotPasses, placesOf}
-use Rattle.queries.specs.StretchLaws.{stretch-written, places-most, places-run}
+use Rattle.queries.proofs.laws.StretchLaws.{stretch-written, places-most, places-run}
 use Rattle.queries.proofs.gather.gather.Statement.{statement}
 use Rattle.queries.proofs.gather.gather.Tie as tie
-use Rattle.storage.specs.RunLaws.{run-onward}
+use Rattle.storage.proofs.laws.RunLaws.{run-onward}
 
 -- of the cells whose keys `low` and `high` are
 abbrev Inv-loop : tie.InvT-loop

@@ -9,9 +9,9 @@ use lib.Seq.{take-all}
 use borrow.Author.Needs.{needs}
 use Rattle.storage.specs.Keyed.{written}
 use Rattle.slot_walks.specs.Live.{liveFrom, objAt}
-use Rattle.slot_walks.specs.LiveLaws.{liveTo, live-most, live-within}
+use Rattle.slot_walks.proofs.laws.LiveLaws.{liveTo, live-most, live-within}
 use Rattle.removals.specs.Inner.{placeAt, placesOf, objsOf}
-use Rattle.slot_walks.specs.FillLaws.{filled-length, filled-room, filled-next, filled-same, one-more, as-many}
+use Rattle.slot_walks.proofs.laws.FillLaws.{filled-length, filled-room, filled-next, filled-same, one-more, as-many}
 use Rattle.removals.proofs.clearing.put_objects.Statement.{statement}
 use Rattle.removals.proofs.clearing.put_objects.Tie as tie
 

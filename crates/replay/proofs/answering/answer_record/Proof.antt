@@ -9,7 +9,7 @@ use Rattle.telling.specs.InRange.{InRange, read-in-range}
 use Rattle.point_tables.specs.Lent as point
 use Rattle.box_tables.specs.Lent as box
 use Rattle.replay.specs.Replay.{grids, naught}
-use Rattle.replay.specs.ReplayLaws.{can-tell, is-replayed}
+use Rattle.replay.proofs.laws.ReplayLaws.{can-tell, is-replayed}
 use Rattle.replay.proofs.answering.answer_record.Statement.{statement}
 use Rattle.replay.proofs.answering.answer_record.Tie as tie
 

@@ -6,7 +6,7 @@ use native.Mathlib.Omega.{arith}
 use lib.ListN.{length, drop, getD}
 use Rattle.splits.specs.Sofar.{sofar, feed}
 use Rattle.replay.specs.Next.{nextOf}
-use Rattle.replay.specs.NextLaws.{at-end, a-record, no-record}
+use Rattle.replay.proofs.laws.NextLaws.{at-end, a-record, no-record}
 use Rattle.replay.proofs.blocks.next_record.Statement.{statement}
 use Rattle.replay.proofs.blocks.next_record.Tie as tie
 

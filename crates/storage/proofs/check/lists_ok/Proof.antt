@@ -4,7 +4,7 @@ use Prim.Native.Nat.{ℕ, _-_, _≤_}
 use mathlib.Core.Path.{_≡_, subst}
 use native.Mathlib.Omega.{arith}
 use Rattle.basics.specs.Says.{says-yes, says-no}
-use Rattle.storage.specs.CheckLaws.{Met, met-none, met-more, met-fail, met-all, met-short}
+use Rattle.storage.proofs.laws.CheckLaws.{Met, met-none, met-more, met-fail, met-all, met-short}
 use Rattle.storage.proofs.check.lists_ok.Statement.{statement}
 use Rattle.storage.proofs.check.lists_ok.Tie as tie
 

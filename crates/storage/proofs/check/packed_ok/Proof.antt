@@ -3,7 +3,7 @@ use mathlib.Core.Path.{sym, _∙_}
 use borrow.Author.Needs.{needs}
 use borrow.Author.Tests.{not-true, not-false}
 use Rattle.basics.specs.Says.{says-no, apart}
-use Rattle.storage.specs.CheckLaws.{packed-parts, packed-rows, packed-lists}
+use Rattle.storage.proofs.laws.CheckLaws.{packed-parts, packed-rows, packed-lists}
 use Rattle.storage.proofs.check.packed_ok.Statement.{statement}
 use Rattle.storage.proofs.check.packed_ok.Tie as tie
 

@@ -5,7 +5,7 @@ use native.Mathlib.Omega.{arith}
 use borrow.Author.Tests.{not-true, not-false}
 use Rattle.basics.specs.Says.{says-yes, says-no, apart}
 use Rattle.storage.specs.Checked.{RowsFine}
-use Rattle.storage.specs.CheckLaws.{fine-none, fine-more, fine-at}
+use Rattle.storage.proofs.laws.CheckLaws.{fine-none, fine-more, fine-at}
 use Rattle.storage.proofs.check.rows_fine.Statement.{statement}
 use Rattle.storage.proofs.check.rows_fine.Tie as tie
 

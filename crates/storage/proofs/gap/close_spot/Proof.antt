@@ -4,7 +4,7 @@ use mathlib.Core.Path.{_≡_, refl, _∙_}
 use mathlib.Core.List.{[]}
 use lib.ListN.{length, length-set}
 use native.Mathlib.Omega.{arith}
-use Rattle.storage.specs.GapLaws.{shut, close-start, close-step, close-end}
+use Rattle.storage.proofs.laws.GapLaws.{shut, close-start, close-step, close-end}
 use Rattle.storage.proofs.gap.close_spot.Statement.{statement}
 use Rattle.storage.proofs.gap.close_spot.Tie as tie
 

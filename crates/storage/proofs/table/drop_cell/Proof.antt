@@ -4,8 +4,8 @@ use native.Mathlib.Omega.{arith}
 use lib.ListN.{take}
 use borrow.Author.Needs.{needs}
 use Rattle.storage.specs.Entries.{rowKey}
-use Rattle.storage.specs.TableLaws.{rising-sorted}
-use Rattle.storage.specs.TableMoveLaws.{drop-old, drop-none}
+use Rattle.storage.proofs.laws.TableLaws.{rising-sorted}
+use Rattle.storage.proofs.laws.TableMoveLaws.{drop-old, drop-none}
 use Rattle.storage.proofs.Tests.{denied}
 use Rattle.storage.proofs.table.drop_cell.Statement.{statement}
 use Rattle.storage.proofs.table.drop_cell.Tie as tie

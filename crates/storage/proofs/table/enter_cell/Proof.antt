@@ -2,7 +2,7 @@
 use mathlib.Core.Path.{_∙_}
 use native.Mathlib.Omega.{arith}
 use borrow.Author.Needs.{needs}
-use Rattle.storage.specs.TableMoveLaws.{at-within, enter-old, enter-new}
+use Rattle.storage.proofs.laws.TableMoveLaws.{at-within, enter-old, enter-new}
 use Rattle.storage.proofs.Tests.{denied}
 use Rattle.storage.proofs.table.enter_cell.Statement.{statement}
 use Rattle.storage.proofs.table.enter_cell.Tie as tie

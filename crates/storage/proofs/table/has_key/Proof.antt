@@ -1,7 +1,7 @@
 -- `storage::table::has_key` meets its contract. Assumes nothing.
 use borrow.Author.Needs.{needs}
 use Rattle.storage.specs.FilterLaws.{by-test}
-use Rattle.storage.specs.TableMoveLaws.{key-filled, filled-key}
+use Rattle.storage.proofs.laws.TableMoveLaws.{key-filled, filled-key}
 use Rattle.storage.proofs.Tests.{denied}
 use Rattle.storage.proofs.table.has_key.Statement.{statement}
 use Rattle.storage.proofs.table.has_key.Tie as tie

@@ -7,7 +7,7 @@ use mathlib.Core.List.{List, [], _∷_}
 use native.Mathlib.Omega.{arith}
 use lib.ListN.{length, set}
 use Rattle.storage.specs.Packed.{first}
-use Rattle.storage.specs.RebuildLaws.{Built, built-none, built-room, built-more, built-same}
+use Rattle.storage.proofs.laws.RebuildLaws.{Built, built-none, built-room, built-more, built-same}
 use Rattle.storage.proofs.Tests.{denied}
 use Rattle.storage.proofs.table.rebuild.Statement.{statement}
 use Rattle.storage.proofs.table.rebuild.Tie as tie

@@ -12,8 +12,8 @@ use Rattle.storage.specs.Packed.{first}
 use Rattle.storage.specs.Window.{columnOf, lineOf, inWindow}
 use Rattle.storage.specs.Run.{NextKey}
 use Rattle.storage.specs.FilterLaws.{by-order}
-use Rattle.storage.specs.CutLaws.{low-of, most-of}
-use Rattle.storage.specs.RunLaws.{skip, behind}
+use Rattle.storage.proofs.laws.CutLaws.{low-of, most-of}
+use Rattle.storage.proofs.laws.RunLaws.{skip, behind}
 use Rattle.storage.proofs.walk.first_in.Statement.{statement}
 use Rattle.storage.proofs.walk.first_in.Tie as tie
 

@@ -7,7 +7,7 @@ use native.Mathlib.Omega.{arith}
 use Rattle.storage.specs.Packed.{first}
 use Rattle.storage.specs.Window.{columnOf, lineOf, inWindow}
 use Rattle.storage.specs.FilterLaws.{by-order}
-use Rattle.storage.specs.RunLaws.{along}
+use Rattle.storage.proofs.laws.RunLaws.{along}
 use Rattle.storage.proofs.walk.run_end.Statement.{statement}
 use Rattle.storage.proofs.walk.run_end.Tie as tie
 

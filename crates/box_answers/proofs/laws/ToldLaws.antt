@@ -1,0 +1,100 @@
+-- The findings that a search says are in its outputs. Assumes nothing.
+use Prim.Native.Nat.{ℕ, min, _≤_}
+use mathlib.Core.Path.{_≡_, refl, sym, subst}
+use mathlib.Core.Bool.{Bool, true, false}
+use mathlib.Core.List.{List, map}
+use native.Mathlib.Omega.{arith}
+use native.Mathlib.Nat.{min-le-left, min-le-right}
+use lib.Dec.{eqb, leb}
+use lib.Ieee.{Float}
+use lib.ListN.{length, length-map}
+use borrow.Author.Tests.{eqb-true, leb-true}
+use Rattle.basics.specs.Refusals.{pick}
+use Rattle.geometry.specs.declared.Aabb.{Aabb}
+use Rattle.geometry.specs.Domain.{aabbInDomain}
+use Rattle.storage.specs.Keyed.{written}
+use Rattle.storage.proofs.laws.WrittenLaws.{length-written}
+use Rattle.box_tables.specs.Tables.{Tables, sizeOf, objOn, covers, mostCells}
+use Rattle.box_tables.specs.Decide.{holds}
+use Rattle.box_inserts.specs.Insert.{insertOf}
+use Rattle.box_changes.specs.SetAabb.{setAabbOf}
+use Rattle.box_changes.specs.Remove.{removeOf}
+use Rattle.telling.specs.Places.{boxOf}
+use Rattle.box_queries.specs.Queries as query
+use Rattle.printing.specs.declared.Said.the-variants.{Refused, Done, One, Two, Boxes}
+use Rattle.printing.specs.Said.{Told}
+use Rattle.replies.specs.Replies.{count}
+use Rattle.lines.specs.declared.Request.{Request}
+use Rattle.lines.specs.declared.Request.the-variants.{Cell, Ins, Pos, Rem, Now, Mnt, Cir, Rec, Cel, Bin, Bset, Brem, Bqry, Unreadable}
+use Rattle.telling.proofs.laws.RoomLaws.{had-room}
+use Rattle.telling.specs.Tells.{told-tells}
+use Rattle.box_answers.specs.Changes.{changeOf}
+use Rattle.box_answers.specs.Searches.{Searched, said, searchOf}
+use Rattle.slot_walks.specs.Live.{handleAt}
+
+-- what there is to tell is there: as many findings as the trace's grids can give, and all in the outputs
+abbrev pub IsTold : ℕ → Searched → Type 0
+IsTold places s = Told (s .tells) (length (s .handles)) places (length (s .corners))
+
+room-of : (t : Tables) (q : Aabb) (n room : ℕ) → query.answerOf t q n room ≡ 0 → n ≤ room
+unfolding query.answerOf
+room-of t q n room h = leb-true n room (had-room (holds t) (aabbInDomain q) (leb (covers (sizeOf t) q) mostCells) (leb n room) h)
+
+module _ (places : ℕ) (handles : List (List ℕ)) (corners : List (List Float)) (objs : List ℕ) (few : length corners ≤ 64) where
+  told-found : (ss : List ℕ) (f : ℕ → List ℕ) (g : ℕ → List Float) → length ss ≤ query.roomOf handles corners objs
+      → Told (Boxes (length ss)) (length (written (map f ss) handles)) places (length (written (map g ss) corners))
+  told-found ss f g h =
+      let m = min (length corners) (length objs) in
+      let i : length ss ≤ length handles = omega (arith, min-le-left (length handles) m) in
+      let j : length ss ≤ length corners = omega (arith, min-le-right (length handles) m, min-le-left (length corners) (length objs)) in
+      (omega arith, omega (arith, length-written (map f ss) handles (omega (arith, length-map ss f))), omega (arith, length-written (map g ss) corners (omega (arith, length-map ss g))))
+
+  told-query : (t : Tables) (q : Aabb) → IsTold places (said (query.queryOf t q handles corners objs))
+  unfolding query.queryOf
+  told-query t q = go (eqb a 0) refl
+    where
+      ss : List ℕ
+      ss = query.narrow t q
+
+      a : ℕ
+      a = query.answerOf t q (length ss) (query.roomOf handles corners objs)
+
+      go : (x : Bool) → eqb a 0 ≡ x → IsTold places (said (pick x (query.findings (count 0 (length ss)) (written (map (handleAt (t .nums)) ss) handles) (written (map (query.boxRow (t .reals)) ss) corners) (written (map (objOn t) ss) objs)) (query.findings (count a (pick (eqb a 9) (length ss) 0)) handles corners objs)))
+      go true h = told-found ss (handleAt (t .nums)) (query.boxRow (t .reals)) (room-of t q (length ss) (query.roomOf handles corners objs) (eqb-true a 0 h))
+      go false h = subst (λ (x : Bool). Told (pick x (Boxes (pick (eqb a 9) (length ss) 0)) (Refused a)) (length handles) places (length corners)) (sym h) tt
+
+  pub told : (t : Tables) (r : Request) → IsTold places (searchOf t r handles corners objs)
+  unfolding searchOf
+  told t (Bqry a b) = told-query t (boxOf a b)
+  told t (Cell s) = tt
+  told t (Ins p d) = tt
+  told t (Pos h p) = tt
+  told t (Rem h) = tt
+  told t (Now h) = tt
+  told t Mnt = tt
+  told t (Cir c k) = tt
+  told t (Rec a b) = tt
+  told t (Cel a b) = tt
+  told t (Bin p q d) = tt
+  told t (Bset h p q) = tt
+  told t (Brem h) = tt
+  told t Unreadable = tt
+
+-- a change has no findings to tell
+module _ (handles places boxes : ℕ) where
+  pub told-change : (t : Tables) (r : Request) → Told (changeOf t r .result) handles places boxes
+  unfolding changeOf
+  told-change t (Cell s) = tt
+  told-change t (Ins p d) = tt
+  told-change t (Pos h p) = tt
+  told-change t (Rem h) = tt
+  told-change t (Now h) = tt
+  told-change t Mnt = tt
+  told-change t (Cir c k) = tt
+  told-change t (Rec a b) = tt
+  told-change t (Cel a b) = tt
+  told-change t (Bin p q d) = let r = insertOf t (boxOf p q) d .result in told-tells handles places boxes (r .answer) (Two (r .handle .slot) (r .handle .version)) tt
+  told-change t (Bset h p q) = told-tells handles places boxes (setAabbOf t h (boxOf p q) .result) Done tt
+  told-change t (Brem h) = let r = removeOf t h .result in told-tells handles places boxes (r .answer) (One (r .obj)) tt
+  told-change t (Bqry a b) = tt
+  told-change t Unreadable = tt

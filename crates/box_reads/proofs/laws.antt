@@ -1,0 +1,5 @@
+-- Laws, and what the proofs share.
+pub mod ClearLaws
+pub mod LiveLaws
+pub mod ReadsLaws
+pub mod ClearKeeps

@@ -1,0 +1,90 @@
+-- `clear`: what each answer leaves and writes, and that tables that hold a grid still do after it. Assumes nothing.
+use Prim.Native.Nat.{ℕ, min}
+use mathlib.Core.Path.{_≡_, refl, sym, ap, _∙_}
+use mathlib.Core.Bool.{Bool, true, false}
+use mathlib.Core.List.{List, map}
+use lib.Dec.{eqb}
+use lib.Ieee.{Float}
+use lib.ListN.{length}
+use borrow.Author.Tests.{eq-eqb, ne-eqb}
+use Rattle.basics.specs.Refusals.{pick}
+use Rattle.basics.specs.Counting.{countBelow}
+use Rattle.slots.specs.Slot.{live, phaseAt}
+use Rattle.storage.specs.Keyed.{written}
+use Rattle.slot_walks.specs.Live.{liveAt, objAt}
+use Rattle.box_tables.specs.Tables.{Tables, usedOf, slotsOf}
+use Rattle.box_tables.specs.Holds.{Holds}
+use Rattle.box_tables.specs.Decide.{holds-says}
+use Rattle.box_tables.specs.Outcome.{Outcome, outcome}
+use Rattle.box_reads.specs.Live.{liveSlots, listAnswer, listCount}
+use Rattle.box_reads.proofs.laws.LiveLaws.{answer-of, live-count, list-counts}
+use Rattle.box_reads.specs.Reads.{lenOf}
+use Rattle.box_reads.proofs.laws.ReadsLaws.{len-0}
+use Rattle.box_reads.specs.Clear.{cleared, boxAt, Written, wrote, clearOf}
+use Rattle.box_reads.proofs.laws.ClearKeeps.{cleared-none, cleared-no-object, cleared-used, cleared-keeps}
+use Rattle.replies.specs.Replies.{count}
+
+module _ (t : Tables) (boxes : List (List Float)) (objs : List ℕ) where
+  -- the places that both outputs have
+  abbrev room : ℕ
+  room = min (length boxes) (length objs)
+
+  abbrev done : Outcome Written
+  done = outcome (wrote (listCount t room) (written (map (boxAt (t .reals)) (liveSlots t)) boxes) (written (map (objAt (t .nums)) (liveSlots t)) objs)) (cleared t)
+
+  abbrev refused : Outcome Written
+  refused = outcome (wrote (listCount t room) boxes objs) t
+
+  -- ---- accepted: the outputs are written and the grid is empty; refused: nothing changes
+  pub clear-0 : listAnswer t room ≡ 0 → clearOf t boxes objs ≡ done
+  unfolding clearOf
+  clear-0 e = rw (eq-eqb (listAnswer t room) 0 e)
+
+  pub clear-no : (listAnswer t room ≡ 0 → ⊥) → clearOf t boxes objs ≡ refused
+  unfolding clearOf
+  clear-no n = rw (ne-eqb (listAnswer t room) 0 n)
+
+  -- what is returned, whatever the answer
+  pub clear-returned : clearOf t boxes objs .result .returned ≡ listCount t room
+  unfolding clearOf
+  clear-returned = go (eqb (listAnswer t room) 0)
+    where
+      go : (b : Bool) → pick b done refused .result .returned ≡ listCount t room
+      go true = refl
+      go false = refl
+
+  -- a refusal leaves the tables and both outputs
+  pub clear-refused : (clearOf t boxes objs .result .returned .answer ≡ 0 → ⊥) → clearOf t boxes objs ≡ outcome (wrote (clearOf t boxes objs .result .returned) boxes objs) t
+  clear-refused n =
+      let k : listAnswer t room ≡ 0 → ⊥ = λ e. n (ap (λ c. c .answer) clear-returned ∙ answer-of t room ∙ e) in
+      clear-no k ∙ ap (λ c. outcome (wrote c boxes objs) t) (sym clear-returned)
+
+  accepted : clearOf t boxes objs .result .returned .answer ≡ 0 → clearOf t boxes objs ≡ done
+  accepted e = clear-0 (sym (answer-of t room) ∙ ap (λ c. c .answer) (sym clear-returned) ∙ e)
+
+  -- after 0 no slot is live
+  pub clear-none : clearOf t boxes objs .result .returned .answer ≡ 0 → (s : ℕ) → phaseAt (clearOf t boxes objs .after .nums) s ≡ live → ⊥
+  clear-none e s l = cleared-none t s (ap (λ o. phaseAt (o .after .nums) s) (sym (accepted e)) ∙ l)
+
+  -- tables that hold a grid still do
+  module _ (h : Holds t) where
+    pub clear-holds : Holds (clearOf t boxes objs .after)
+    unfolding clearOf
+    clear-holds = go (eqb (listAnswer t room) 0)
+      where
+        go : (b : Bool) → Holds (pick b done refused .after)
+        go true = cleared-keeps t h
+        go false = h
+
+    -- the number returned with 0 and 9 is that of the live slots
+    pub clear-counts : clearOf t boxes objs .result .returned .count ≡ countBelow (liveAt (t .nums)) (slotsOf t)
+    clear-counts = ap (λ c. c .count) clear-returned ∙ list-counts t room h ∙ live-count t
+
+    -- after 0 no entry is in use, and `len` gives 0
+    pub clear-used : clearOf t boxes objs .result .returned .answer ≡ 0 → usedOf (clearOf t boxes objs .after) ≡ 0
+    clear-used e = ap (λ o. usedOf (o .after)) (accepted e) ∙ cleared-used t h
+
+    pub clear-len : clearOf t boxes objs .result .returned .answer ≡ 0 → lenOf (clearOf t boxes objs .after) ≡ count 0 0
+    clear-len e =
+        ap (λ o. lenOf (o .after)) (accepted e)
+        ∙ sym (len-0 (cleared t) (holds-says (cleared t) .no (cleared-keeps t h))) ∙ ap (count 0) (cleared-no-object t)

@@ -1,0 +1,86 @@
+-- `insert`: exactly when each answer is given, what it then leaves, and that tables that hold a grid still do after it. Assumes nothing.
+use Prim.Native.Nat.{ℕ}
+use mathlib.Core.Path.{_≡_, refl, _∙_}
+use mathlib.Core.Bool.{Bool, true, false}
+use mathlib.Core.Logic.{_⊎_, inl, inr}
+use lib.Dec.{eqb}
+use Rattle.basics.specs.Says.{says-t}
+use Rattle.basics.specs.Refusals.{pick}
+use Rattle.geometry.specs.Domain.{positionInDomain}
+use Rattle.geometry.specs.declared.Position.{Position}
+use Rattle.slots.specs.declared.Usable.{Usable}
+use Rattle.slots.specs.declared.Usable.the-variants.{At, Nothing}
+use Rattle.slots.specs.Map.{lowestUsable, slotIn}
+use Rattle.slots.specs.Slot.{versionAt}
+use Rattle.slots.proofs.laws.SlotLaws.{lowest-free}
+use Rattle.blank.proofs.laws.BlankLaws.{not-said}
+use Rattle.objects.specs.Occupied.{InDomain}
+use Rattle.point_tables.specs.Tables.{Tables, slotsOf}
+use Rattle.point_tables.specs.Holds.{Holds}
+use Rattle.point_tables.specs.Decide.{holds, holds-says}
+use Rattle.point_tables.specs.Outcome.{Outcome, outcome}
+use Rattle.replies.specs.declared.Inserted.{Inserted}
+use Rattle.inserts.specs.Insert.{usableSlot, put, insertAnswer, insertOf}
+use Rattle.inserts.specs.Fresh.{answerBy}
+use Rattle.inserts.proofs.laws.InsertKeeps.{put-keeps}
+use Rattle.replies.specs.Replies.{inserted}
+
+pub insert-keeps : (t : Tables) (s : ℕ) (p : Position) (d : ℕ) → Holds t → InDomain p → lowestUsable (t .map) (slotsOf t) ≡ At s → Holds (put t s p d)
+insert-keeps t s p d h i e =
+    let f = lowest-free (t .nums) (t .map) (h .slots) s e in
+    put-keeps t h s (f .0) (f .1) p d i
+
+module _ (t : Tables) (p : Position) (d : ℕ) where
+  -- the outcome by the three tests
+  abbrev insertBy : Bool → Bool → Usable → Outcome Inserted
+  insertBy a b u =
+      pick (eqb (answerBy a b u) 0)
+      (outcome (inserted 0 (slotIn u) (versionAt (t .nums) (slotIn u))) (put t (slotIn u) p d))
+      (outcome (inserted (answerBy a b u) 0 0) t)
+
+  by-tests : insertOf t p d ≡ insertBy (holds t) (positionInDomain p) (usableSlot t)
+  unfolding insertOf insertAnswer
+  by-tests = refl
+
+  -- ---- exactly when each answer is given
+  pub insert-done : (s : ℕ) → Holds t → InDomain p → usableSlot t ≡ At s → insertOf t p d ≡ outcome (inserted 0 s (versionAt (t .nums) s)) (put t s p d)
+  insert-done s h i e = by-tests ∙ rw (holds-says t .no h, says-t (positionInDomain p) .no i, e)
+
+  pub insert-unheld : (Holds t → ⊥) → insertOf t p d ≡ outcome (inserted 3 0 0) t
+  insert-unheld h = by-tests ∙ rw (not-said (holds-says t) h)
+
+  pub insert-outside : Holds t → (InDomain p → ⊥) → insertOf t p d ≡ outcome (inserted 6 0 0) t
+  insert-outside h i = by-tests ∙ rw (holds-says t .no h, not-said (says-t (positionInDomain p)) i)
+
+  pub insert-full : Holds t → InDomain p → usableSlot t ≡ Nothing → insertOf t p d ≡ outcome (inserted 4 0 0) t
+  insert-full h i e = by-tests ∙ rw (holds-says t .no h, says-t (positionInDomain p) .no i, e)
+
+  -- ---- 0, 3, 4 or 6
+  pub insert-answers : (insertOf t p d .result .answer ≡ 0) ⊎ ((insertOf t p d .result .answer ≡ 3) ⊎ ((insertOf t p d .result .answer ≡ 4) ⊎ (insertOf t p d .result .answer ≡ 6)))
+  insert-answers = rw by-tests (go (holds t) (positionInDomain p) (usableSlot t))
+    where
+      go : (a b : Bool) (u : Usable) → (insertBy a b u .result .answer ≡ 0) ⊎ ((insertBy a b u .result .answer ≡ 3) ⊎ ((insertBy a b u .result .answer ≡ 4) ⊎ (insertBy a b u .result .answer ≡ 6)))
+      go false b u = inr (inl refl)
+      go true false u = inr (inr (inr refl))
+      go true true Nothing = inr (inr (inl refl))
+      go true true (At s) = inl refl
+
+  -- a refusal leaves the tables and returns zeros
+  pub insert-refused : (insertOf t p d .result .answer ≡ 0 → ⊥) → insertOf t p d ≡ outcome (inserted (insertOf t p d .result .answer) 0 0) t
+  insert-refused = rw by-tests (go (holds t) (positionInDomain p) (usableSlot t))
+    where
+      go : (a b : Bool) (u : Usable) → (insertBy a b u .result .answer ≡ 0 → ⊥) → insertBy a b u ≡ outcome (inserted (insertBy a b u .result .answer) 0 0) t
+      go false b u n = refl
+      go true false u n = refl
+      go true true Nothing n = refl
+      go true true (At s) n = absurd (n refl)
+
+  -- tables that hold a grid still do
+  pub insert-holds : Holds t → Holds (insertOf t p d .after)
+  insert-holds h = rw by-tests (go (holds t) (positionInDomain p) (usableSlot t) (says-t (positionInDomain p) .yes) refl)
+    where
+      go : (a b : Bool) (u : Usable) → (b ≡ true → InDomain p) → usableSlot t ≡ u → Holds (insertBy a b u .after)
+      go false b u i e = h
+      go true false u i e = h
+      go true true Nothing i e = h
+      go true true (At s) i e = insert-keeps t s p d h (i refl) e

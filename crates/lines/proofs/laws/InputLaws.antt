@@ -1,0 +1,50 @@
+-- A record as the code walks it; and of the records of an input the first 129 bytes are enough. Assumes nothing.
+use Prim.Native.Nat.{ℕ, _+_, _≤_, _<_}
+use mathlib.Core.Path.{_≡_, refl, sym, ap, _∙_}
+use mathlib.Core.Bool.{Bool}
+use mathlib.Core.List.{List, [], _∷_, map}
+use mathlib.Core.Logic.{⊎-elim}
+use native.Mathlib.Omega.{arith}
+use lib.ListN.{length, take, length-take}
+use lib.Seq.{take-all}
+use borrow.Author.Tests.{le-leb, lt-leb}
+use Rattle.basics.specs.Refusals.{pick}
+use Rattle.basics.specs.Says.{d-le}
+use Rattle.splits.specs.Records.{recordsOf}
+use Rattle.splits.specs.Sofar.{begun, recordsFrom}
+use Rattle.splits.proofs.laws.SplitLaws.{splits-records}
+use Rattle.lines.specs.declared.Keyword.{Keyword}
+use Rattle.lines.specs.declared.Request.{Request}
+use Rattle.lines.specs.declared.Request.the-variants.{Unreadable}
+use Rattle.lines.specs.Fields.{fieldsOf}
+use Rattle.lines.specs.Words.{wordOf}
+use Rattle.lines.specs.Requests.{argumentsOf, whole, ofFields, requestOf}
+use Rattle.lines.specs.Cursor.{endFrom, fieldsFrom}
+use Rattle.lines.proofs.laws.CursorLaws.{field-at, fields-from-start}
+
+pub too-long : (bytes : List ℕ) → 128 < length bytes → requestOf bytes ≡ Unreadable
+unfolding requestOf
+too-long bytes h = ap (λ (t : Bool). pick t (ofFields (fieldsOf bytes)) Unreadable) (lt-leb (length bytes) 128 h)
+
+pub read-at : (bytes : List ℕ) → length bytes ≤ 128 → (end : ℕ) (k : Keyword) (r : Request) → end ≡ endFrom bytes 0 → k ≡ wordOf (take end bytes) → r ≡ whole (argumentsOf k (fieldsFrom bytes (end + 1))) → requestOf bytes ≡ r
+unfolding requestOf ofFields
+read-at bytes h end k r e w a =
+    let first : fieldsOf bytes ≡ take end bytes ∷ fieldsFrom bytes (end + 1) = sym (fields-from-start bytes) ∙ (field-at bytes 0 (omega arith) ∙ ap (λ (n : ℕ). take n bytes ∷ fieldsFrom bytes (n + 1)) (sym e)) in
+    ap (λ (t : Bool). pick t (ofFields (fieldsOf bytes)) Unreadable) (le-leb (length bytes) 128 h) ∙
+    (ap ofFields first ∙ (ap (λ (j : Keyword). whole (argumentsOf j (fieldsFrom bytes (end + 1)))) (sym w) ∙ sym a))
+
+-- ---- of a record its first 129 bytes are enough
+pub cut-read : (bytes : List ℕ) → requestOf (take 129 bytes) ≡ requestOf bytes
+cut-read bytes =
+    ⊎-elim
+    (λ h. ap requestOf (take-all 129 bytes (omega arith)))
+    (λ h. too-long (take 129 bytes) (omega (arith, h, length-take 129 bytes)) ∙ sym (too-long bytes (omega (arith, h))))
+    (d-le (length bytes) 128)
+
+all-cut : (rs : List (List ℕ)) → map requestOf (map (take 129) rs) ≡ map requestOf rs
+all-cut [] = refl
+all-cut (r ∷ rs) = λ z. cut-read r z ∷ all-cut rs z
+
+-- an input that is split in a line of 130 bytes is read record by record
+pub requests-of-input : (input : List ℕ) → map requestOf (recordsFrom 130 begun input) ≡ map requestOf (recordsOf input)
+requests-of-input input = ap (map requestOf) (splits-records 130 (omega arith) input) ∙ all-cut (recordsOf input)

@@ -1,0 +1,5 @@
+-- Laws, and what the proofs share.
+pub mod Digits
+pub mod RadixLaws
+pub mod GrownLaws
+pub mod DealLaws

@@ -1,0 +1,112 @@
+-- The findings that a search says are in its outputs. Assumes nothing.
+use Prim.Native.Nat.{ℕ, min, _≤_}
+use mathlib.Core.Path.{_≡_, refl, sym, subst}
+use mathlib.Core.Bool.{Bool, true, false, _&&_}
+use mathlib.Core.List.{List, map}
+use native.Mathlib.Omega.{arith}
+use native.Mathlib.Nat.{min-le-left, min-le-right}
+use lib.Dec.{eqb, leb}
+use lib.Ieee.{Float}
+use lib.ListN.{length, length-map}
+use borrow.Author.Tests.{eqb-true, leb-true}
+use Rattle.basics.specs.Refusals.{pick}
+use Rattle.geometry.specs.declared.Position.{Position}
+use Rattle.geometry.specs.Domain.{positionInDomain, radiusInDomain}
+use Rattle.geometry.specs.Rectangle.{lowerCorner, upperCorner}
+use Rattle.cells.specs.CellRule.{cellAt}
+use Rattle.cells.specs.Range.{cellsIn}
+use Rattle.storage.specs.Keyed.{written}
+use Rattle.storage.proofs.laws.WrittenLaws.{length-written}
+use Rattle.point_tables.specs.Tables.{Tables, sizeOf}
+use Rattle.point_tables.specs.Decide.{holds}
+use Rattle.inserts.specs.Insert.{insertOf}
+use Rattle.moves.specs.Moves.{setPositionOf, removeOf}
+use Rattle.removals.specs.Meaning.RemoveMaintain.{removeMaintainOf}
+use Rattle.maintain.specs.Maintain.{maintainOf}
+use Rattle.sixteenths.specs.Sixteenth.{sixteenth}
+use Rattle.telling.specs.Places.{placeOf}
+use Rattle.queries.specs.declared.Test.{Test}
+use Rattle.queries.specs.declared.Test.the-variants.{Any, Circle, Rectangle}
+use Rattle.queries.specs.Queries as query
+use Rattle.printing.specs.declared.Said.{Said}
+use Rattle.printing.specs.declared.Said.the-variants.{Refused, Done, One, Two, Points}
+use Rattle.printing.specs.Said.{Told}
+use Rattle.replies.specs.Replies.{count}
+use Rattle.lines.specs.declared.Request.{Request}
+use Rattle.lines.specs.declared.Request.the-variants.{Cell, Ins, Pos, Rem, Now, Mnt, Cir, Rec, Cel, Bin, Bset, Brem, Bqry, Unreadable}
+use Rattle.telling.proofs.laws.RoomLaws.{had-room}
+use Rattle.telling.specs.Tells.{told-tells}
+use Rattle.point_answers.specs.Changes.{changeOf}
+use Rattle.point_answers.specs.Searches.{Searched, said, searchOf}
+
+-- what there is to tell is there: as many findings as the trace's grids can give, and all in the outputs
+abbrev pub IsTold : ℕ → Searched → Type 0
+IsTold boxes s = Told (s .tells) (length (s .handles)) (length (s .places)) boxes
+
+room-of : (t : Tables) (ok : Bool) (ll ur : Position) (test : Test) (room : ℕ) → query.searchAnswer t ok ll ur test room ≡ 0 → length (query.found t ll ur test) ≤ room
+unfolding query.searchAnswer
+room-of t ok ll ur test room h =
+    let n = length (query.found t ll ur test) in
+    leb-true n room (had-room (holds t) ok (leb (cellsIn (cellAt (sizeOf t) ll) (cellAt (sizeOf t) ur)) query.mostCells) (leb n room) h)
+
+module _ (boxes : ℕ) (handles : List (List ℕ)) (places : List (List Float)) (few : length handles ≤ 256) where
+  told-found : {A : Type 0} (es : List A) (f : A → List ℕ) (g : A → List Float) → length es ≤ min (length handles) (length places)
+      → Told (Points (length es)) (length (written (map f es) handles)) (length (written (map g es) places)) boxes
+  told-found es f g h =
+      let i : length es ≤ length handles = omega (arith, min-le-left (length handles) (length places)) in
+      let j : length es ≤ length places = omega (arith, min-le-right (length handles) (length places)) in
+      (omega arith, omega (arith, length-written (map f es) handles (omega (arith, length-map es f))), omega (arith, length-written (map g es) places (omega (arith, length-map es g))))
+
+  module _ (t : Tables) (ok : Bool) (ll ur : Position) (test : Test) where
+    told-search : IsTold boxes (said (query.searchOf t ok ll ur test handles places))
+    unfolding query.searchOf
+    told-search = go (eqb a 0) refl
+      where
+        a : ℕ
+        a = query.searchAnswer t ok ll ur test (min (length handles) (length places))
+
+        go : (x : Bool) → eqb a 0 ≡ x → IsTold boxes (said (pick x (query.findings (count 0 (length (query.found t ll ur test))) (written (map (query.handleRow t) (query.found t ll ur test)) handles) (written (map query.placeRow (query.found t ll ur test)) places)) (query.findings (count a (pick (eqb a 9) (length (query.found t ll ur test)) 0)) handles places)))
+        go true h = told-found (query.found t ll ur test) (query.handleRow t) query.placeRow (room-of t ok ll ur test (min (length handles) (length places)) (eqb-true a 0 h))
+        go false h = subst (λ (x : Bool). Told (pick x (Points (pick (eqb a 9) (length (query.found t ll ur test)) 0)) (Refused a)) (length handles) (length places) boxes) (sym h) tt
+
+  pub told : (t : Tables) (r : Request) → IsTold boxes (searchOf t r handles places)
+  unfolding searchOf query.aroundOf query.aabbOf query.queryOf
+  told t (Cir c k) =
+      let q = placeOf c in
+      let f = sixteenth k in
+      told-search t (positionInDomain q && radiusInDomain f) (query.cornerBelow q f) (query.cornerAbove q f) (Circle q f)
+  told t (Rec a b) =
+      let l = lowerCorner (placeOf a) (placeOf b) in
+      let u = upperCorner (placeOf a) (placeOf b) in
+      told-search t (positionInDomain (placeOf a) && positionInDomain (placeOf b)) l u (Rectangle l u)
+  told t (Cel a b) = told-search t (positionInDomain (placeOf a) && positionInDomain (placeOf b)) (placeOf a) (placeOf b) Any
+  told t (Cell s) = tt
+  told t (Ins p d) = tt
+  told t (Pos h p) = tt
+  told t (Rem h) = tt
+  told t (Now h) = tt
+  told t Mnt = tt
+  told t (Bin p q d) = tt
+  told t (Bset h p q) = tt
+  told t (Brem h) = tt
+  told t (Bqry p q) = tt
+  told t Unreadable = tt
+
+-- a change has no findings to tell
+module _ (handles places boxes : ℕ) where
+  pub told-change : (t : Tables) (r : Request) → Told (changeOf t r .result) handles places boxes
+  unfolding changeOf
+  told-change t (Cell s) = tt
+  told-change t (Ins p d) = let r = insertOf t (placeOf p) d .result in told-tells handles places boxes (r .answer) (Two (r .handle .slot) (r .handle .version)) tt
+  told-change t (Pos h p) = let r = setPositionOf t h (placeOf p) .result in told-tells handles places boxes (r .answer) Done tt
+  told-change t (Rem h) = let r = removeOf t h .result in told-tells handles places boxes (r .answer) (One (r .obj)) tt
+  told-change t (Now h) = let r = removeMaintainOf t h .result in told-tells handles places boxes (r .answer) (One (r .obj)) tt
+  told-change t Mnt = let r = maintainOf t .result in told-tells handles places boxes (r .answer) (Two (r .moved) (r .removed)) tt
+  told-change t (Cir c k) = tt
+  told-change t (Rec a b) = tt
+  told-change t (Cel a b) = tt
+  told-change t (Bin p q d) = tt
+  told-change t (Bset h p q) = tt
+  told-change t (Brem h) = tt
+  told-change t (Bqry a b) = tt
+  told-change t Unreadable = tt

@@ -1,0 +1,4 @@
+-- Laws, and what the proofs share.
+pub mod ReplayLaws
+pub mod NextLaws
+pub mod TraceLaws

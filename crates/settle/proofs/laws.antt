@@ -1,0 +1,8 @@
+-- Laws, and what the proofs share.
+pub mod Spots
+pub mod SpotLaws
+pub mod PutLaws
+pub mod BareLaws
+pub mod PassedLaws
+pub mod CountsLaws
+pub mod PassLaws

@@ -1,0 +1,4 @@
+-- Laws, and what the proofs share.
+pub mod LiveLaws
+pub mod ClearedLaws
+pub mod FillLaws

@@ -1,0 +1,66 @@
+-- What the proofs of slots share: a row of four numbers, and a good handle and a slot test by test. Assumes nothing.
+use Prim.Native.Nat.{ℕ, _≤_, _<_}
+use mathlib.Core.Path.{_≡_, refl, sym, subst}
+use mathlib.Core.Bool.{Bool, true, false}
+use mathlib.Core.List.{List, [], _∷_}
+use native.Mathlib.Omega.{arith}
+use lib.Dec.{eqb}
+use lib.ListN.{length, getD, drop}
+use borrow.Author.Tests.{lt-ltb, le-ltb, eq-eqb, ne-eqb}
+use Rattle.basics.specs.Says.{Says, says-yes, says-no, apart}
+use Rattle.basics.specs.Refusals.{pick}
+use Rattle.slots.specs.Map.{usable}
+use Rattle.slots.proofs.laws.MapLaws.{not-usable}
+use Rattle.slots.specs.Slot.{live, versionAt, phaseAt, good, nextVersion, nextPhase, emptiedRow, SlotHolds}
+
+-- the numbers of a row behind its first two
+behind : (row : List ℕ) → length row ≡ 4 → drop 2 row ≡ getD row 2 0 ∷ getD row 3 0 ∷ []
+behind [] e = absurd (omega arith)
+behind (a ∷ []) e = absurd (omega arith)
+behind (a ∷ b ∷ []) e = absurd (omega arith)
+behind (a ∷ b ∷ c ∷ []) e = absurd (omega arith)
+behind (a ∷ b ∷ c ∷ d ∷ []) e = refl
+behind (a ∷ b ∷ c ∷ d ∷ x ∷ row) e = absurd (omega arith)
+
+pub row-emptied : (row : List ℕ) (v p : ℕ) → length row ≡ 4 → v ≡ nextVersion (getD row 0 0) → p ≡ nextPhase (getD row 0 0) → v ∷ p ∷ getD row 2 0 ∷ getD row 3 0 ∷ [] ≡ emptiedRow row
+row-emptied row v p l e f = rw (e, f, ← behind row l)
+
+-- ---- a handle's tests, in the order of the code; i is its slot as an index
+module _ (nums : List (List ℕ)) (slot version i : ℕ) (e : i ≡ slot) where
+  pub past-table : length nums ≤ i → false ≡ good nums slot version
+  unfolding good
+  past-table h = rw (← e, le-ltb i (length nums) h)
+
+  pub not-live : i < length nums → (phaseAt nums i ≡ live → ⊥) → false ≡ good nums slot version
+  unfolding good
+  not-live h p = rw (← e, lt-ltb i (length nums) h, ne-eqb (phaseAt nums i) live p)
+
+  pub by-version : i < length nums → phaseAt nums i ≡ live → eqb (versionAt nums i) version ≡ good nums slot version
+  unfolding good
+  by-version h p = rw (← e, lt-ltb i (length nums) h, eq-eqb (phaseAt nums i) live p)
+
+-- ---- a slot's tests, in the order of the code; b is whether the map has it
+module _ (version phase : ℕ) (b : Bool) where
+  pub free-slot : (version ≡ 0 → ⊥) → phase ≡ 0 → Says b (SlotHolds version phase (pick b 1 0))
+  free-slot v p = go b
+    where
+      go : (b : Bool) → Says b (SlotHolds version phase (pick b 1 0))
+      go true = says-yes (record { versioned = v; phased = omega arith; spent = λ q. absurd (omega arith); in-map = rw (eq-eqb phase 0 p) })
+      go false = says-no (λ h. omega (arith, rw (eq-eqb phase 0 p) at (h .in-map)))
+
+  pub mapped-slot : (phase ≡ 0 → ⊥) → b ≡ true → SlotHolds version phase (pick b 1 0) → ⊥
+  mapped-slot p e h = omega (arith, rw (e, ne-eqb phase 0 p) at (h .in-map))
+
+  pub kept-slot : (version ≡ 0 → ⊥) → (phase ≡ 0 → ⊥) → phase ≤ 2 → (phase ≡ 2 → version ≡ 4294967295) → b ≡ false → SlotHolds version phase (pick b 1 0)
+  kept-slot v p l s e = record { versioned = v; phased = l; spent = s; in-map = rw (e, ne-eqb phase 0 p) }
+
+  pub no-phase : (phase ≡ 0 → ⊥) → (phase ≡ 1 → ⊥) → (phase ≡ 2 → ⊥) → SlotHolds version phase (pick b 1 0) → ⊥
+  no-phase p q r h = omega (arith, h .phased, p, q, r)
+
+-- a slot's test by the bit that was read from the map
+pub said-slot : (m : List ℕ) (s : ℕ) (b : Bool) (version phase : ℕ) (r : Bool) → Says b (usable m s ≡ 1) → Says r (SlotHolds version phase (pick b 1 0)) → Says r (SlotHolds version phase (usable m s))
+said-slot m s b version phase r u h = subst (λ (k : ℕ). Says r (SlotHolds version phase k)) (sym (go b u)) h
+  where
+    go : (b : Bool) → Says b (usable m s ≡ 1) → usable m s ≡ pick b 1 0
+    go true u = u .yes refl
+    go false u = not-usable m s (λ e. apart (u .no e))

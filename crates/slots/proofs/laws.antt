@@ -1,0 +1,9 @@
+-- Laws, and what the proofs share.
+pub mod HandleLaws
+pub mod SlotLaws
+pub mod CountLaws
+pub mod BitLaws
+pub mod LowestLaws
+pub mod MapLaws
+pub mod EmptyLaws
+pub mod Decide

@@ -1,0 +1,5 @@
+-- Laws, and what the proofs share.
+pub mod SplitLaws
+pub mod Cases
+pub mod RecordLaws
+pub mod LineLaws

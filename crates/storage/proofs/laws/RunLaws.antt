@@ -1,0 +1,132 @@
+-- Keys in and out of a window, and how the walk of a sorted pool skips those that are out. Assumes nothing.
+use Prim.Native.Nat.{ℕ, _+_, _*_, _<_, _≤_}
+use mathlib.Core.Path.{_≡_, refl}
+use mathlib.Core.Bool.{Bool, true, false, _&&_}
+use mathlib.Core.List.{List, []}
+use native.Mathlib.Omega.{arith}
+use lib.Dec.{leb}
+use lib.ListN.{length, take}
+use borrow.Author.Tests.{leb-true, le-leb, lt-leb}
+use Rattle.basics.specs.Says.{apart, d-lt}
+use Rattle.storage.specs.Keyed.{Sorted, below}
+use Rattle.storage.specs.Entries.{rowKey}
+use Rattle.storage.specs.Packed.{first}
+use Rattle.storage.specs.FilterLaws.{by-order}
+use Rattle.storage.proofs.laws.PackedLaws.{sorted-ordered}
+use Rattle.storage.proofs.laws.CutLaws.{high-of, most-of}
+use Rattle.storage.specs.Window.{columnOf, lineOf, inWindow}
+use Rattle.storage.specs.Run.{NextKey, NextRun}
+use mathlib.Core.Logic.{⊎-elim}
+use Rattle.storage.specs.declared.Run.{Run}
+
+no-left : (p q r s : Bool) → p ≡ false → ((p && q) && (r && s)) ≡ false
+no-left p q r s e = rw e
+
+no-right : (p q r s : Bool) → q ≡ false → ((p && q) && (r && s)) ≡ false
+no-right true q r s e = rw e
+no-right false q r s e = refl
+
+no-under : (p q r s : Bool) → r ≡ false → ((p && q) && (r && s)) ≡ false
+no-under true true r s e = rw e
+no-under true false r s e = refl
+no-under false q r s e = refl
+
+no-over : (p q r s : Bool) → s ≡ false → ((p && q) && (r && s)) ≡ false
+no-over true true true s e = rw e
+no-over true true false s e = refl
+no-over true false r s e = refl
+no-over false q r s e = refl
+
+all-four : (p q r s : Bool) → ((p && q) && (r && s)) ≡ true → (p ≡ true) × (q ≡ true) × (r ≡ true) × (s ≡ true)
+all-four true true true true e = (refl, refl, refl, refl)
+all-four true true true false e = absurd (apart e)
+all-four true true false s e = absurd (apart e)
+all-four true false r s e = absurd (apart e)
+all-four false q r s e = absurd (apart e)
+
+module _ (x0 y0 x1 y1 k : ℕ) where
+  pub left-out : columnOf k < x0 → inWindow x0 y0 x1 y1 k ≡ false
+  unfolding inWindow
+  left-out h = no-left (leb x0 (columnOf k)) (leb (columnOf k) x1) (leb y0 (lineOf k)) (leb (lineOf k) y1) (lt-leb x0 (columnOf k) h)
+
+  pub right-out : x1 < columnOf k → inWindow x0 y0 x1 y1 k ≡ false
+  unfolding inWindow
+  right-out h = no-right (leb x0 (columnOf k)) (leb (columnOf k) x1) (leb y0 (lineOf k)) (leb (lineOf k) y1) (lt-leb (columnOf k) x1 h)
+
+  pub under-out : lineOf k < y0 → inWindow x0 y0 x1 y1 k ≡ false
+  unfolding inWindow
+  under-out h = no-under (leb x0 (columnOf k)) (leb (columnOf k) x1) (leb y0 (lineOf k)) (leb (lineOf k) y1) (lt-leb y0 (lineOf k) h)
+
+  pub over-out : y1 < lineOf k → inWindow x0 y0 x1 y1 k ≡ false
+  unfolding inWindow
+  over-out h = no-over (leb x0 (columnOf k)) (leb (columnOf k) x1) (leb y0 (lineOf k)) (leb (lineOf k) y1) (lt-leb (lineOf k) y1 h)
+
+  pub inside : x0 ≤ columnOf k → columnOf k ≤ x1 → y0 ≤ lineOf k → lineOf k ≤ y1 → inWindow x0 y0 x1 y1 k ≡ true
+  unfolding inWindow
+  inside a b c d = rw (le-leb x0 (columnOf k) a, le-leb (columnOf k) x1 b, le-leb y0 (lineOf k) c, le-leb (lineOf k) y1 d)
+
+module _ (x0 y0 x1 y1 key : ℕ) where
+  -- ---- the next key, case by case
+  pub next-below : (low : ℕ) → low ≡ y0 * 4294967296 + x0 → lineOf key < y0 → x0 < 4294967296 → NextKey x0 y0 x1 y1 key low
+  next-below low e h b =
+      record {
+        onward = omega arith;
+        skipped = λ k p q. by-order (lineOf k) y0 (λ w. under-out x0 y0 x1 y1 k w) (λ w. left-out x0 y0 x1 y1 k (omega arith)) (λ w. absurd (omega arith));
+        here = λ q. absurd (omega arith);
+      }
+
+  pub next-left : columnOf key < x0 → x0 < 4294967296 → NextKey x0 y0 x1 y1 key (lineOf key * 4294967296 + x0)
+  next-left h b = record { onward = omega arith; skipped = λ k p q. left-out x0 y0 x1 y1 k (omega arith); here = λ q. absurd (omega arith) }
+
+  pub next-right : x1 < columnOf key → x0 < 4294967296 → NextKey x0 y0 x1 y1 key ((lineOf key + 1) * 4294967296 + x0)
+  next-right h b =
+      record {
+        onward = omega arith;
+        skipped = λ k p q. by-order (lineOf k) (lineOf key + 1) (λ w. right-out x0 y0 x1 y1 k (omega arith)) (λ w. left-out x0 y0 x1 y1 k (omega arith)) (λ w. absurd (omega arith));
+        here = λ q. absurd (omega arith);
+      }
+
+  pub next-here : inWindow x0 y0 x1 y1 key ≡ true → NextKey x0 y0 x1 y1 key key
+  next-here h = record { onward = omega arith; skipped = λ k p q. absurd (omega arith); here = λ e. h }
+
+  facts : inWindow x0 y0 x1 y1 key ≡ true → (x0 ≤ columnOf key) × (columnOf key ≤ x1) × (y0 ≤ lineOf key) × (lineOf key ≤ y1)
+  unfolding inWindow
+  facts h =
+      let f = all-four (leb x0 (columnOf key)) (leb (columnOf key) x1) (leb y0 (lineOf key)) (leb (lineOf key) y1) h in
+      (leb-true x0 (columnOf key) (f .0), leb-true (columnOf key) x1 (f .1), leb-true y0 (lineOf key) (f .2), leb-true (lineOf key) y1 (f .3))
+
+  -- past the window's last key there is none
+  pub past-out : x1 < 4294967296 → y1 * 4294967296 + x1 < key → inWindow x0 y0 x1 y1 key ≡ false
+  past-out b h =
+      by-order (lineOf key) y1
+      (λ w. absurd (omega arith))
+      (λ w. right-out x0 y0 x1 y1 key (omega arith))
+      (λ w. over-out x0 y0 x1 y1 key w)
+
+  -- from a key of the window on, up to the last column of its row, all are in it
+  pub same-line : (k : ℕ) → x1 < 4294967296 → inWindow x0 y0 x1 y1 key ≡ true → key ≤ k → k ≤ lineOf key * 4294967296 + x1 → inWindow x0 y0 x1 y1 k ≡ true
+  same-line k b h p q = let f = facts h in inside x0 y0 x1 y1 k (omega (arith, f .0)) (omega (arith, f .1)) (omega (arith, f .2)) (omega (arith, f .3))
+
+-- ---- the same of the places of a sorted pool
+module _ (pool : List (List ℕ)) (used : ℕ) (room : used ≤ length pool) (s : Sorted rowKey (take used pool)) (x0 y0 x1 y1 : ℕ) where
+  -- up to the place of the next key there is nothing
+  pub skip : (p t : ℕ) → NextKey x0 y0 x1 y1 (first pool p) t → (j : ℕ) → p ≤ j → j < length (below rowKey t (take used pool)) → inWindow x0 y0 x1 y1 (first pool j) ≡ false
+  skip p t n j a b =
+      let h : j < used = omega (arith, b, most-of rowKey t [] pool used room s) in
+      let late : t ≤ first pool j → ⊥ = λ w. omega (arith, b, high-of rowKey t [] pool used room s j h w) in
+      by-order (first pool j) t (λ w. n .skipped (first pool j) (sorted-ordered used pool room s p j h a) w) (λ w. absurd (late (omega arith))) (λ w. absurd (late (omega arith)))
+
+  -- behind a key that is past the window there is nothing
+  pub behind : (p : ℕ) → x1 < 4294967296 → y1 * 4294967296 + x1 < first pool p → (j : ℕ) → p ≤ j → j < used → inWindow x0 y0 x1 y1 (first pool j) ≡ false
+  behind p b h j a m = past-out x0 y0 x1 y1 (first pool j) b (omega (arith, h, sorted-ordered used pool room s p j m a))
+
+  -- the entries of one row of cells
+  pub along : (from j : ℕ) → x1 < 4294967296 → inWindow x0 y0 x1 y1 (first pool from) ≡ true → from ≤ j → j < used → first pool j ≤ lineOf (first pool from) * 4294967296 + x1 → inWindow x0 y0 x1 y1 (first pool j) ≡ true
+  along from j b h a m q = same-line x0 y0 x1 y1 (first pool from) (first pool j) b h (sorted-ordered used pool room s from j m a) q
+
+-- a run goes on from where it was asked for
+pub run-onward : (pool : List (List ℕ)) (used i x0 y0 x1 y1 : ℕ) (r : Run) → NextRun pool used i x0 y0 x1 y1 r → i < used → i < r .to
+run-onward pool used i x0 y0 x1 y1 r n h = ⊎-elim (λ l. omega (arith, n .more l, n .onward)) (λ l. omega (arith, n .ends, d-not l)) (d-lt (r .from) used)
+  where
+    d-not : (r .from < used → ⊥) → used ≤ r .from
+    d-not l = omega arith
