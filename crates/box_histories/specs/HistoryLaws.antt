@@ -1,7 +1,6 @@
--- Tables built and changed only by these calls always hold a box grid, and the number of objects is that of the accepted inserts less the
--- objects taken out. Assumes nothing.
+-- The length law: since an accepted `new`, the number of objects is that of the accepted inserts less the objects taken out. Assumes nothing.
 use Prim.Native.Nat.{ℕ, zero, suc, _+_, _<_}
-use mathlib.Core.Path.{_≡_, refl, sym, ap, _∙_}
+use mathlib.Core.Path.{_≡_, refl, ap}
 use mathlib.Core.Bool.{Bool, true, false}
 use mathlib.Core.List.{List, [], _∷_}
 use native.Mathlib.Omega.{arith}
@@ -11,16 +10,15 @@ use lib.ListN.{length}
 use borrow.Author.Tests.{eqb-true, eqb-false, ne-eqb}
 use Rattle.basics.specs.Refusals.{pick}
 use Rattle.basics.specs.Counting.{one, countBelow}
-use Rattle.cells.specs.Size.{SizeInDomain}
 use Rattle.slots.specs.Slot.{live, phaseAt}
 use Rattle.slot_walks.specs.Live.{liveAt}
 use Rattle.blank.specs.Blank.{blankNums}
 use Rattle.blank.proofs.laws.BlankLaws.{blank-not-live}
-use Rattle.box_tables.specs.Tables.{Tables, slotsOf, Sized}
+use Rattle.box_tables.specs.Tables.{Tables, slotsOf}
 use Rattle.box_tables.specs.Holds.{Holds}
-use Rattle.box_tables.specs.Decide.{holds, holds-says}
-use Rattle.box_inserts.specs.New.{built}
-use Rattle.box_inserts.proofs.laws.NewLaws.{built-holds}
+use Rattle.box_tables.specs.Outcome.{Outcome, outcome}
+use Rattle.box_inserts.specs.New.{built, newAnswer, newOf}
+use Rattle.box_inserts.proofs.laws.NewLaws.{new-holds}
 use Rattle.box_inserts.proofs.laws.InsertLaws.{insert-holds, insert-count}
 use Rattle.box_inserts.proofs.laws.LiveLaws.{liveCount}
 use Rattle.box_changes.proofs.laws.SetAabbLaws.{set-aabb-holds, set-live}
@@ -75,20 +73,27 @@ unfolding afterAll allOut allIn
 all-length t [] h = omega arith
 all-length t (o ∷ os) h = omega (arith, one-length t h o, all-length (after t o) os (after-holds t o h))
 
-none-yet : (t : Tables) (size : ℕ) → liveCount (built t size) ≡ 0
-unfolding liveCount built
-none-yet t size = none-live (blankNums (slotsOf t)) (length (blankNums (slotsOf t))) (blank-not-live (slotsOf t) size)
+-- an accepted `new` leaves no slot live
+none-yet : (t : Tables) (size : ℕ) → newOf t size .result ≡ 0 → liveCount (newOf t size .after) ≡ 0
+unfolding liveCount newOf built
+none-yet t size z = go (eqb (newAnswer t size) 0) refl z
+  where
+    by : Bool → Outcome ℕ
+    by b = pick b (outcome 0 (built t size)) (outcome (newAnswer t size) t)
 
--- since building: `len` answers 0 with the accepted inserts less the objects taken out
-pub len-since-new : (t : Tables) (size : ℕ) (os : List Op) → Sized t → SizeInDomain size
-    → (lenOf (afterAll (built t size) os) .answer ≡ 0) × (lenOf (afterAll (built t size) os) .count + allOut (built t size) os ≡ allIn (built t size) os)
-unfolding liveCount
-len-since-new t size os z d =
-    let h = built-holds t size z d in
-    let k = all-hold (built t size) os h in
-    let e = len-counts (afterAll (built t size) os) k in
-    (ap (λ c. c .answer) e, omega (arith, ap (λ c. c .count) e, all-length (built t size) os h, none-yet t size))
+    go : (b : Bool) → eqb (newAnswer t size) 0 ≡ b → by b .result ≡ 0 → countBelow (liveAt (by b .after .nums)) (slotsOf (by b .after)) ≡ 0
+    go true e z = none-live (blankNums (slotsOf t)) (length (blankNums (slotsOf t))) (blank-not-live (slotsOf t) size)
+    go false e z = absurd (eqb-false (newAnswer t size) 0 e z)
 
--- tables built and changed only by these calls are never refused as not holding a grid
-pub always-held : (t : Tables) (size : ℕ) (os : List Op) → Sized t → SizeInDomain size → holds (afterAll (built t size) os) ≡ true
-always-held t size os z d = holds-says (afterAll (built t size) os) .no (all-hold (built t size) os (built-holds t size z d))
+-- since building, on tables of any content that `new` accepts: `len` answers 0 with the accepted inserts less the objects taken out
+module _ (t : Tables) (size : ℕ) (accepts : newOf t size .result ≡ 0) where
+  abbrev fresh : Tables
+  fresh = newOf t size .after
+
+  pub len-since-new : (os : List Op) → (lenOf (afterAll fresh os) .answer ≡ 0) × (lenOf (afterAll fresh os) .count + allOut fresh os ≡ allIn fresh os)
+  unfolding liveCount
+  len-since-new os =
+      let h = new-holds t size accepts in
+      let k = all-hold fresh os h in
+      let e = len-counts (afterAll fresh os) k in
+      (ap (λ c. c .answer) e, omega (arith, ap (λ c. c .count) e, all-length fresh os h, none-yet t size accepts))

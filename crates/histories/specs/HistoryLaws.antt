@@ -1,19 +1,17 @@
--- Tables built and changed only by these calls always hold a grid, and the number of objects is that of the accepted inserts less the
--- objects taken out. Assumes nothing.
+-- The length law: since an accepted `new`, the number of objects is that of the accepted inserts less the objects taken out. Assumes nothing.
 use Prim.Native.Nat.{ℕ, _+_}
 use mathlib.Core.Path.{_≡_, refl, sym, ap, _∙_}
 use mathlib.Core.Bool.{Bool, true, false}
 use mathlib.Core.List.{List, [], _∷_}
 use native.Mathlib.Omega.{arith}
-use lib.Dec.{T, eqb}
+use lib.Dec.{eqb}
 use lib.Ieee.{Float}
-use lib.ListN.{length, getD}
+use lib.ListN.{length}
 use borrow.Author.Tests.{eqb-true, eqb-false}
 use Rattle.basics.specs.Refusals.{pick}
 use Rattle.basics.specs.Says.{apart, says-t}
 use Rattle.geometry.specs.declared.Position.{Position}
 use Rattle.geometry.specs.Domain.{positionInDomain}
-use Rattle.cells.specs.Size.{SizeInDomain}
 use Rattle.slots.specs.declared.Handle.{Handle}
 use Rattle.slots.specs.declared.Usable.{Usable}
 use Rattle.slots.specs.declared.Usable.the-variants.{At, Nothing}
@@ -21,12 +19,12 @@ use Rattle.slots.proofs.laws.SlotLaws.{lowest-free}
 use Rattle.storage.specs.Keyed.{written}
 use Rattle.objects.specs.declared.State.the-variants.{Removed}
 use Rattle.objects.specs.States.{aimed}
-use Rattle.point_tables.specs.Tables.{Tables, sizeOf, usedOf, slotsOf, recordOn, Sized}
+use Rattle.point_tables.specs.Tables.{Tables, sizeOf, usedOf, recordOn}
 use Rattle.point_tables.specs.Holds.{Holds}
 use Rattle.point_tables.specs.Decide.{holds, holds-says}
 use Rattle.point_tables.specs.Outcome.{Outcome, outcome}
-use Rattle.inserts.specs.New.{built}
-use Rattle.inserts.proofs.laws.NewLaws.{built-holds}
+use Rattle.inserts.specs.New.{built, newAnswer, newOf}
+use Rattle.inserts.proofs.laws.NewLaws.{new-holds}
 use Rattle.inserts.specs.Insert.{usableSlot, insertOf}
 use Rattle.inserts.proofs.laws.InsertLaws.{insert-done, insert-outside, insert-full, insert-holds}
 use Rattle.inserts.proofs.laws.PutLaws.{more, put-used}
@@ -39,8 +37,7 @@ use Rattle.removals.proofs.laws.RemoveLaws.{isGood, remove-done, remove-lost, r
 use Rattle.removals.specs.Meaning.Clear.{clearOf}
 use Rattle.removals.proofs.laws.ClearLaws.{clear-refused, clear-holds, clear-counts, clear-empty}
 use Rattle.maintain.specs.MaintainLaws.{maintain-keeps, maintain-length}
-use Rattle.maintain.specs.Maintain.{maintainOf}
-use Rattle.reads.specs.Meaning.{lenOf, liveHandles}
+use Rattle.reads.specs.Meaning.{lenOf}
 use Rattle.reads.proofs.laws.ReadsLaws.{len-0}
 use Rattle.reads.proofs.laws.LenLaws.{len-used}
 use Rattle.histories.specs.History.{Op, insert, setPosition, remove, batch, maintain, removeMaintain, clear, after, afterAll, accepted, putIn, takenOut, allIn, allOut}
@@ -147,20 +144,27 @@ unfolding afterAll allOut allIn
 all-length t [] h = omega arith
 all-length t (o ∷ os) h = omega (arith, one-length t h o, all-length (after t o) os (after-holds t o h))
 
-none-yet : (t : Tables) (size : ℕ) → usedOf (built t size) ≡ 0
-unfolding built
-none-yet t size = refl
+-- an accepted `new` leaves no entry in use
+none-yet : (t : Tables) (size : ℕ) → newOf t size .result ≡ 0 → usedOf (newOf t size .after) ≡ 0
+unfolding newOf built
+none-yet t size z = go (eqb (newAnswer t size) 0) refl z
+  where
+    by : Bool → Outcome ℕ
+    by b = pick b (outcome 0 (built t size)) (outcome (newAnswer t size) t)
 
--- since building: `len` answers 0 with the accepted inserts less the objects taken out
-pub len-since-new : (t : Tables) (size : ℕ) (os : List Op) → Sized t → SizeInDomain size
-    → (lenOf (afterAll (built t size) os) .answer ≡ 0) × (lenOf (afterAll (built t size) os) .count + allOut (built t size) os ≡ allIn (built t size) os)
-len-since-new t size os z d =
-    let h = built-holds t size z d in
-    let k = all-hold (built t size) os h in
-    let e = len-0 (afterAll (built t size) os) (holds-says (afterAll (built t size) os) .no k) in
-    let n : lenOf (afterAll (built t size) os) .count ≡ usedOf (afterAll (built t size) os) = ap (λ c. c .count) (sym e) ∙ len-used (afterAll (built t size) os) k in
-    (ap (λ c. c .answer) (sym e), omega (arith, n, all-length (built t size) os h, none-yet t size))
+    go : (b : Bool) → eqb (newAnswer t size) 0 ≡ b → by b .result ≡ 0 → usedOf (by b .after) ≡ 0
+    go true e z = refl
+    go false e z = absurd (eqb-false (newAnswer t size) 0 e z)
 
--- tables built and changed only by these calls are never refused as not holding a grid
-pub always-held : (t : Tables) (size : ℕ) (os : List Op) → Sized t → SizeInDomain size → holds (afterAll (built t size) os) ≡ true
-always-held t size os z d = holds-says (afterAll (built t size) os) .no (all-hold (built t size) os (built-holds t size z d))
+-- since building, on tables of any content that `new` accepts: `len` answers 0 with the accepted inserts less the objects taken out
+module _ (t : Tables) (size : ℕ) (accepts : newOf t size .result ≡ 0) where
+  abbrev fresh : Tables
+  fresh = newOf t size .after
+
+  pub len-since-new : (os : List Op) → (lenOf (afterAll fresh os) .answer ≡ 0) × (lenOf (afterAll fresh os) .count + allOut fresh os ≡ allIn fresh os)
+  len-since-new os =
+      let h = new-holds t size accepts in
+      let k = all-hold fresh os h in
+      let e = len-0 (afterAll fresh os) (holds-says (afterAll fresh os) .no k) in
+      let n : lenOf (afterAll fresh os) .count ≡ usedOf (afterAll fresh os) = ap (λ c. c .count) (sym e) ∙ len-used (afterAll fresh os) k in
+      (ap (λ c. c .answer) (sym e), omega (arith, n, all-length fresh os h, none-yet t size accepts))
