@@ -4,9 +4,10 @@ use mathlib.Core.Path.{_≡_, refl, sym, ap, _∙_}
 use mathlib.Core.Bool.{Bool, true, false, not, _&&_, _||_}
 use mathlib.Core.List.{List, [], _∷_}
 use lib.Dec.{eqb}
-use borrow.Author.Tests.{eqb-true, ne-eqb}
+use lib.ListN.{drop}
+use borrow.Author.Tests.{eqb-true}
 use Rattle.basics.specs.Says.{apart}
-use Rattle.basics.specs.Refusals.{Refusal, unless, orElse, firstOf, pick}
+use Rattle.basics.specs.Refusals.{Refusal, orElse, firstOf, pick}
 use Rattle.demands.specs.Answers.{order, applies, firstIn, firstThat}
 
 -- ---- numbers, each once; tests whose numbers are some of them, in their order
@@ -74,24 +75,21 @@ pub in-order : (rs : List Refusal) → ordered order rs ≡ true → firstOf rs 
 unfolding firstThat
 in-order rs o = first-in order rs refl o
 
--- ---- an outcome by the answer of its tests: that answer, and, if it is a refusal, nothing but the number
-pub answered : {R : Type 0} (answer : R → ℕ) (rs : List Refusal) (x : R) (y : ℕ → R) → ordered order rs ≡ true → answer x ≡ 0 → answer (y (firstOf rs)) ≡ firstOf rs → answer (pick (eqb (firstOf rs) 0) x (y (firstOf rs))) ≡ firstThat rs
-answered answer rs x y o f g = go (eqb (firstOf rs) 0) refl ∙ in-order rs o
+-- ---- 3 is given exactly if it applies: it is the first of all
+not-among : (n : ℕ) (ns : List ℕ) (rs : List Refusal) → among n ns ≡ false → eqb 0 n ≡ false → eqb (firstIn ns rs) n ≡ false
+not-among n [] rs a z = z
+not-among n (m ∷ ns) rs a z = go (applies rs m) (eqb m n) refl a (λ q. not-among n ns rs q z)
   where
-    go : (c : Bool) → eqb (firstOf rs) 0 ≡ c → answer (pick c x (y (firstOf rs))) ≡ firstOf rs
-    go true z = f ∙ sym (eqb-true (firstOf rs) 0 z)
-    go false z = g
+    go : (b c : Bool) → eqb m n ≡ c → (c || among n ns) ≡ false → (among n ns ≡ false → eqb (firstIn ns rs) n ≡ false)
+        → eqb (pick b m (firstIn ns rs)) n ≡ false
+    go b true e a f = absurd (apart (sym a))
+    go true false e a f = e
+    go false false e a f = f a
 
-pub refused : {R : Type 0} (rs : List Refusal) (x : R) (y : ℕ → R) → ordered order rs ≡ true → (firstThat rs ≡ 0 → ⊥) → pick (eqb (firstOf rs) 0) x (y (firstOf rs)) ≡ y (firstThat rs)
-refused rs x y o n = rw (ne-eqb (firstOf rs) 0 (λ z. n (sym (in-order rs o) ∙ z))) (ap y (in-order rs o))
-
--- ---- of a call that the tables alone refuse
-pub by-held : {R : Type 0} (answer : R → ℕ) (b : Bool) (x y : R) → answer x ≡ 0 → answer y ≡ 3 → answer (pick b x y) ≡ firstThat (unless b 3 ∷ [])
+pub three-first : (rs : List Refusal) → eqb (firstThat rs) 3 ≡ applies rs 3
 unfolding firstThat
-by-held answer true x y e f = e
-by-held answer false x y e f = f
-
-pub not-held : {R : Type 0} (b : Bool) (x y : R) → (firstThat (unless b 3 ∷ []) ≡ 0 → ⊥) → pick b x y ≡ y
-unfolding firstThat
-not-held true x y n = absurd (n refl)
-not-held false x y n = refl
+three-first rs = go (applies rs 3) (not-among 3 (drop 1 order) rs refl refl)
+  where
+    go : (b : Bool) → eqb (firstIn (drop 1 order) rs) 3 ≡ false → eqb (pick b 3 (firstIn (drop 1 order) rs)) 3 ≡ b
+    go true e = refl
+    go false e = e

@@ -1,21 +1,27 @@
--- Every public call of the box grid with all that it is handed besides the tables, what it leaves, and which refusals apply to it.
--- Assumes nothing.
+-- Every public call of the box grid with all that it is handed besides the tables, what it leaves, which refusals apply to it, and what it
+-- leaves if it is refused. Assumes nothing.
 use Prim.Native.Nat.{ℕ, min}
 use mathlib.Core.List.{List, []}
 use lib.Ieee.{Float}
 use lib.ListN.{length}
 use Rattle.geometry.specs.declared.Aabb.{Aabb}
 use Rattle.slots.specs.declared.Handle.{Handle}
+use Rattle.replies.specs.declared.Inserted.{Inserted}
+use Rattle.replies.specs.declared.Reply.{Reply}
+use Rattle.replies.specs.declared.Count.{Count}
 use Rattle.box_tables.specs.Tables.{Tables}
+use Rattle.box_tables.specs.Outcome.{Outcome}
 use Rattle.box_inserts.specs.New.{newOf}
 use Rattle.box_inserts.specs.Insert.{insertOf}
 use Rattle.box_changes.specs.SetAabb.{setAabbOf}
 use Rattle.box_changes.specs.Remove.{removeOf}
-use Rattle.box_reads.specs.Reads.{getOf, lenOf, handlesOf}
-use Rattle.box_reads.specs.Clear.{clearOf}
-use Rattle.box_queries.specs.Queries.{broad, narrow, roomOf, broadOf, queryOf}
+use Rattle.box_reads.specs.declared.Got.{Got}
+use Rattle.box_reads.specs.Live.{liveSlots}
+use Rattle.box_reads.specs.Reads.{zero-aabb, Listing, getOf, lenOf, handlesOf}
+use Rattle.box_reads.specs.Clear.{Written, clearOf}
+use Rattle.box_queries.specs.Queries.{Handles, Findings, broad, narrow, roomOf, broadOf, queryOf}
 use Rattle.basics.specs.Refusals.{Refusal}
-use Rattle.demands.specs.PointCalls.{Outputs, outputs, none}
+use Rattle.demands.specs.Left.{Outputs, outputs, none, zeros, theCount, theHandle, theData, theObject, Left, left, refused}
 use Rattle.demands.specs.BoxAnswers.{newApplies, insertApplies, setAabbApplies, handleApplies, tablesApply, roomApplies, queryApplies}
 
 pub data BoxCall : Type 0 where
@@ -43,26 +49,49 @@ lentTo (handles out) = outputs out [] []
 lentTo (queryBroad q hs) = outputs hs [] []
 lentTo (query q hs bs os) = outputs hs bs os
 
--- ---- what a call leaves: its answer, the tables and the outputs
-pub record Left : Type 0 where
-  pub answer : ℕ
-  pub after : Tables
-  pub outs : Outputs
+-- ---- what is left, by the kind of what a call gives
+abbrev pub Leaves : Type 0
+Leaves = Left Tables Aabb
 
-abbrev pub left : ℕ → Tables → Outputs → Left
-left a t o = record { answer = a; after = t; outs = o }
+abbrev pub ofNumber : Outcome ℕ → Leaves
+ofNumber o = left (o .result) (zeros zero-aabb) (o .after) none
 
-unfoldable pub leaves : Tables → BoxCall → Left
-leaves t (new size) = let o = newOf t size in left (o .result) (o .after) none
-leaves t (insert b d) = let o = insertOf t b d in left (o .result .answer) (o .after) none
-leaves t (setAabb h b) = let o = setAabbOf t h b in left (o .result) (o .after) none
-leaves t (remove h) = let o = removeOf t h in left (o .result .answer) (o .after) none
-leaves t (clear bs os) = let o = clearOf t bs os in left (o .result .returned .answer) (o .after) (outputs [] (o .result .boxes) (o .result .objs))
-leaves t (get h) = left (getOf t h .answer) t none
-leaves t len = left (lenOf t .answer) t none
-leaves t (handles out) = let o = handlesOf t out in left (o .returned .answer) t (outputs (o .out) [] [])
-leaves t (queryBroad q hs) = let o = broadOf t q hs in left (o .returned .answer) t (outputs (o .handles) [] [])
-leaves t (query q hs bs os) = let o = queryOf t q hs bs os in left (o .returned .answer) t (outputs (o .handles) (o .boxes) (o .objs))
+abbrev pub ofInserted : Outcome Inserted → Leaves
+ofInserted o = left (o .result .answer) (theHandle zero-aabb (o .result .handle)) (o .after) none
+
+abbrev pub ofReply : Outcome Reply → Leaves
+ofReply o = left (o .result .answer) (theData zero-aabb (o .result .obj)) (o .after) none
+
+abbrev pub ofWritten : Outcome Written → Leaves
+ofWritten o = let w = o .result in left (w .returned .answer) (theCount zero-aabb (w .returned .count)) (o .after) (outputs [] (w .boxes) (w .objs))
+
+-- the calls that only read
+abbrev pub ofGot : Tables → Got → Leaves
+ofGot t g = left (g .answer) (theObject (g .aabb) (g .obj)) t none
+
+abbrev pub ofCount : Tables → Count → Leaves
+ofCount t c = left (c .answer) (theCount zero-aabb (c .count)) t none
+
+abbrev pub ofListing : Tables → Listing → Leaves
+ofListing t l = left (l .returned .answer) (theCount zero-aabb (l .returned .count)) t (outputs (l .out) [] [])
+
+abbrev pub ofHandles : Tables → Handles → Leaves
+ofHandles t f = left (f .returned .answer) (theCount zero-aabb (f .returned .count)) t (outputs (f .handles) [] [])
+
+abbrev pub ofFindings : Tables → Findings → Leaves
+ofFindings t f = left (f .returned .answer) (theCount zero-aabb (f .returned .count)) t (outputs (f .handles) (f .boxes) (f .objs))
+
+unfoldable pub leaves : Tables → BoxCall → Leaves
+leaves t (new size) = ofNumber (newOf t size)
+leaves t (insert b d) = ofInserted (insertOf t b d)
+leaves t (setAabb h b) = ofNumber (setAabbOf t h b)
+leaves t (remove h) = ofReply (removeOf t h)
+leaves t (clear bs os) = ofWritten (clearOf t bs os)
+leaves t (get h) = ofGot t (getOf t h)
+leaves t len = ofCount t (lenOf t)
+leaves t (handles out) = ofListing t (handlesOf t out)
+leaves t (queryBroad q hs) = ofHandles t (broadOf t q hs)
+leaves t (query q hs bs os) = ofFindings t (queryOf t q hs bs os)
 
 -- ---- document 01's refusals of each call
 unfoldable pub refusals : Tables → BoxCall → List Refusal
@@ -76,3 +105,19 @@ refusals t len = tablesApply t
 refusals t (handles out) = roomApplies t (length out)
 refusals t (queryBroad q hs) = queryApplies t q (length (broad t q)) (length hs)
 refusals t (query q hs bs os) = queryApplies t q (length (narrow t q)) (roomOf hs bs os)
+
+-- ---- the number found: the findings, for `clear` and `handles` the objects; of the others none answers 9
+unfoldable pub numberFound : Tables → BoxCall → ℕ
+numberFound t (new size) = 0
+numberFound t (insert b d) = 0
+numberFound t (setAabb h b) = 0
+numberFound t (remove h) = 0
+numberFound t (clear bs os) = length (liveSlots t)
+numberFound t (get h) = 0
+numberFound t len = 0
+numberFound t (handles out) = length (liveSlots t)
+numberFound t (queryBroad q hs) = length (broad t q)
+numberFound t (query q hs bs os) = length (narrow t q)
+
+abbrev pub refusedWith : Tables → BoxCall → ℕ → Leaves
+refusedWith t c n = refused zero-aabb (numberFound t c) t (lentTo c) n

@@ -1,66 +1,54 @@
 -- The user's demands on the box grid: demand 1, and that tables built and changed only by its calls always hold a grid. Assumes nothing.
 use Prim.Native.Nat.{ℕ}
 use mathlib.Core.Path.{_≡_, refl, ap, _∙_}
-use mathlib.Core.Bool.{true}
+use mathlib.Core.Bool.{true, false}
 use mathlib.Core.List.{List, [], _∷_}
 use mathlib.Core.Logic.{⊎-elim}
+use lib.Dec.{eqb}
+use borrow.Author.Tests.{eqb-false}
 use Rattle.basics.specs.Says.{d-eq}
-use Rattle.cells.specs.Size.{SizeInDomain}
-use Rattle.box_tables.specs.Tables.{Tables, Sized}
+use Rattle.box_tables.specs.Tables.{Tables}
 use Rattle.box_tables.specs.Holds.{Holds}
-use Rattle.box_tables.specs.Decide.{holds, holds-says}
-use Rattle.box_tables.specs.Outcome.{Outcome, outcome}
-use Rattle.box_inserts.specs.New.{built, newOf}
-use Rattle.box_inserts.proofs.laws.NewLaws.{built-holds, new-holds, new-refused}
+use Rattle.box_tables.specs.Decide.{sized-says, holds, holds-says}
+use Rattle.box_inserts.specs.New.{newOf}
+use Rattle.box_inserts.proofs.laws.NewLaws.{new-holds, new-refused}
 use Rattle.box_inserts.proofs.laws.InsertLaws.{insert-holds}
 use Rattle.box_changes.proofs.laws.SetAabbLaws.{set-aabb-holds}
 use Rattle.box_changes.proofs.laws.RemoveLaws.{remove-holds}
 use Rattle.box_reads.proofs.laws.ClearLaws.{clear-holds}
-use Rattle.box_reads.specs.Reads.{Listing}
-use Rattle.box_reads.specs.Clear.{Written}
-use Rattle.box_queries.specs.Queries.{Handles, Findings}
-use Rattle.demands.specs.Answers.{firstThat}
-use Rattle.demands.specs.PointCalls.{outputs, none}
-use Rattle.demands.specs.BoxAnswers as Answers
-use Rattle.demands.specs.BoxCalls.{BoxCall, new, insert, setAabb, remove, clear, get, len, handles, queryBroad, query, lentTo, leaves, refusals}
+use Rattle.demands.specs.Answers.{applies, firstThat}
+use Rattle.demands.specs.AnswerLaws.{three-first}
+use Rattle.demands.specs.Tested.{first-answer, first-refused}
+use Rattle.demands.specs.BoxCalls.{BoxCall, new, insert, setAabb, remove, clear, get, len, handles, queryBroad, query, leaves, refusals, refusedWith}
+use Rattle.demands.specs.BoxSteps.{step}
 
--- ---- demand 1: bad input gets the refusal that document 01 lists, and a refused call changes no table and no output
+-- ---- demand 1: bad input gets the refusal that document 01 lists,
 pub demand-1-answer : (t : Tables) (c : BoxCall) → leaves t c .answer ≡ firstThat (refusals t c)
-unfolding leaves refusals
-demand-1-answer t (new size) = Answers.new-answer t size
-demand-1-answer t (insert b d) = Answers.insert-answer t b d
-demand-1-answer t (setAabb h b) = Answers.set-aabb-answer t h b
-demand-1-answer t (remove h) = Answers.remove-answer t h
-demand-1-answer t (clear bs os) = Answers.clear-answer t bs os
-demand-1-answer t (get h) = Answers.get-answer t h
-demand-1-answer t len = Answers.len-answer t
-demand-1-answer t (handles out) = Answers.handles-answer t out
-demand-1-answer t (queryBroad q hs) = Answers.broad-answer t q hs
-demand-1-answer t (query q hs bs os) = Answers.query-answer t q hs bs os
+demand-1-answer t c = first-answer (step t c) (λ n. refl)
 
-still : {R : Type 0} {o : Outcome R} {r : R} {t : Tables} → o ≡ outcome r t → (o .after ≡ t) × (none ≡ none)
-still {R} e = (ap (λ (x : Outcome R). x .after) e, refl)
+-- and a refused call leaves the tables and the outputs as they were, and returns zeros; 9 also returns the number found
+pub demand-1-refused : (t : Tables) (c : BoxCall) → (firstThat (refusals t c) ≡ 0 → ⊥) → leaves t c ≡ refusedWith t c (firstThat (refusals t c))
+demand-1-refused t c n = first-refused (step t c) n
 
-pub demand-1-unchanged : (t : Tables) (c : BoxCall) → (leaves t c .answer ≡ 0 → ⊥) → (leaves t c .after ≡ t) × (leaves t c .outs ≡ lentTo c)
-demand-1-unchanged t c n = go c (λ z. n (demand-1-answer t c ∙ z))
-  where
-    go : (c : BoxCall) → (firstThat (refusals t c) ≡ 0 → ⊥) → (leaves t c .after ≡ t) × (leaves t c .outs ≡ lentTo c)
-    go (new size) n = unfold leaves refusals in still (Answers.new-refused t size n)
-    go (insert b d) n = unfold leaves refusals in still (Answers.insert-refused t b d n)
-    go (setAabb h b) n = unfold leaves refusals in still (Answers.set-aabb-refused t h b n)
-    go (remove h) n = unfold leaves refusals in still (Answers.remove-refused t h n)
-    go (clear bs os) n =
-        unfold leaves refusals in
-        let e = Answers.clear-refused t bs os n in
-        (ap (λ (x : Outcome Written). x .after) e, ap (λ (x : Outcome Written). outputs [] (x .result .boxes) (x .result .objs)) e)
-    go (get h) n = unfold leaves in (refl, refl)
-    go len n = unfold leaves in (refl, refl)
-    go (handles out) n = unfold leaves refusals in (refl, ap (λ (x : Listing). outputs (x .out) [] []) (Answers.handles-refused t out n))
-    go (queryBroad q hs) n = unfold leaves refusals in (refl, ap (λ (x : Handles). outputs (x .handles) [] []) (Answers.broad-refused t q hs n))
-    go (query q hs bs os) n = unfold leaves refusals in (refl, ap (λ (x : Findings). outputs (x .handles) (x .boxes) (x .objs)) (Answers.query-refused t q hs bs os n))
+-- ---- on tables that hold a grid no call answers 3, `new` included: they have the right lengths
+no-three : (t : Tables) (c : BoxCall) → Holds t → applies (refusals t c) 3 ≡ false
+unfolding refusals
+no-three t (new size) h = rw (sized-says t .no (h .sized))
+no-three t (insert b d) h = rw (holds-says t .no h)
+no-three t (setAabb g b) h = rw (holds-says t .no h)
+no-three t (remove g) h = rw (holds-says t .no h)
+no-three t (clear bs os) h = rw (holds-says t .no h)
+no-three t (get g) h = rw (holds-says t .no h)
+no-three t len h = rw (holds-says t .no h)
+no-three t (handles out) h = rw (holds-says t .no h)
+no-three t (queryBroad q hs) h = rw (holds-says t .no h)
+no-three t (query q hs bs os) h = rw (holds-says t .no h)
 
--- ---- tables built and changed only by these calls always hold a grid and are never refused as not holding one: any history of public calls,
--- accepted or refused, in which the grid may be built anew
+pub never-three : (t : Tables) (c : BoxCall) → Holds t → leaves t c .answer ≡ 3 → ⊥
+never-three t c h = eqb-false (leaves t c .answer) 3 (ap (λ (a : ℕ). eqb a 3) (demand-1-answer t c) ∙ three-first (refusals t c) ∙ no-three t c h)
+
+-- ---- tables built and changed only by these calls always hold a grid and are never refused as not holding one: on tables of any content that
+-- `new` accepts, any history of public calls, accepted or refused, in which the grid may be built anew
 new-keeps : (t : Tables) (size : ℕ) → Holds t → Holds (newOf t size .after)
 new-keeps t size h = ⊎-elim (new-holds t size) (λ n. rw (new-refused t size n) h) (d-eq (newOf t size .result) 0)
 
@@ -87,5 +75,12 @@ unfolding afterCalls
 all-keep t [] h = h
 all-keep t (c ∷ cs) h = all-keep (leaves t c .after) cs (keeps-a-grid t c h)
 
-pub always-a-grid : (t : Tables) (size : ℕ) (cs : List BoxCall) → Sized t → SizeInDomain size → holds (afterCalls (built t size) cs) ≡ true
-always-a-grid t size cs z d = holds-says (afterCalls (built t size) cs) .no (all-keep (built t size) cs (built-holds t size z d))
+module _ (t : Tables) (size : ℕ) (accepts : newOf t size .result ≡ 0) (cs : List BoxCall) where
+  kept : Holds (afterCalls (newOf t size .after) cs)
+  kept = all-keep (newOf t size .after) cs (new-holds t size accepts)
+
+  pub always-a-grid : holds (afterCalls (newOf t size .after) cs) ≡ true
+  always-a-grid = holds-says (afterCalls (newOf t size .after) cs) .no kept
+
+  pub never-refused-as-none : (c : BoxCall) → leaves (afterCalls (newOf t size .after) cs) c .answer ≡ 3 → ⊥
+  never-refused-as-none c = never-three (afterCalls (newOf t size .after) cs) c kept

@@ -1,31 +1,28 @@
 -- The user's demands on the point grid. Demand 2 is each call's own promise, read beside 01 and the Rust: docs/PROMISES.md. Assumes nothing.
 use Prim.Native.Nat.{ℕ}
 use mathlib.Core.Path.{_≡_, refl, ap, _∙_}
-use mathlib.Core.Bool.{true}
+use mathlib.Core.Bool.{Bool, true, false, not, _&&_, _||_}
 use mathlib.Core.List.{List, [], _∷_, _++_}
 use mathlib.Core.Logic.{⊎-elim}
+use lib.Dec.{eqb}
 use lib.Ieee.{Float}
 use Rattle.basics.specs.Says.{d-eq}
 use Rattle.geometry.specs.declared.Position.{Position}
 use Rattle.geometry.specs.Circle.{inCircle}
 use Rattle.slots.specs.declared.Handle.{Handle}
-use Rattle.cells.specs.Size.{SizeInDomain}
 use Rattle.storage.specs.Keyed.{All}
-use Rattle.point_tables.specs.Tables.{Tables, Sized}
+use Rattle.point_tables.specs.Tables.{Tables}
 use Rattle.point_tables.specs.Holds.{Holds}
-use Rattle.point_tables.specs.Decide.{holds, holds-says}
-use Rattle.point_tables.specs.Outcome.{Outcome, outcome}
-use Rattle.inserts.specs.New.{built, newOf}
-use Rattle.inserts.proofs.laws.NewLaws.{built-holds, new-holds, new-refused}
+use Rattle.point_tables.specs.Decide.{sized-says, holds, holds-says}
+use Rattle.inserts.specs.New.{newOf}
+use Rattle.inserts.proofs.laws.NewLaws.{new-holds, new-refused}
 use Rattle.inserts.proofs.laws.InsertLaws.{insert-holds}
 use Rattle.moves.proofs.laws.MovesKeeps.{set-position-keeps, remove-keeps}
 use Rattle.moves.proofs.laws.BatchAnswerLaws.{batch-keeps}
 use Rattle.removals.proofs.laws.RemoveLaws.{remove-holds}
 use Rattle.removals.proofs.laws.ClearLaws.{clear-holds}
 use Rattle.maintain.specs.MaintainLaws.{maintain-keeps}
-use Rattle.moves.specs.Batch.{Call, callOf, tablesAfter, Batched}
-use Rattle.removals.specs.Meaning.Clear.{Written}
-use Rattle.reads.specs.Meaning.{Listing}
+use Rattle.moves.specs.Batch.{Call, callOf, tablesAfter, even}
 use Rattle.maintain.specs.Maintain.{maintainOf}
 use Rattle.queries.specs.Queries.{Findings, aroundOf}
 use Rattle.trackers.specs.Merges.{Turn, calls, Merge, NotShared, Alike, batchFor, SameBatch}
@@ -35,64 +32,47 @@ use Rattle.stands.specs.Report.{ReportedAt, Reports, Due}
 use Rattle.stands.specs.StandsLaws.{maintain-settles, nextMaintain, next-accepted}
 use Rattle.stands.specs.ReportLaws.{circle-reports, reports-once}
 use Rattle.stands.specs.MovedLaws.{Other, moved-found}
-use Rattle.demands.specs.Answers.{firstThat}
-use Rattle.demands.specs.PointAnswers as Answers
-use Rattle.demands.specs.PointCalls.{PointCall, new, insert, setPosition, remove, batch, maintain, removeMaintain, clear, get, len, handles, query, queryAround, queryAabb, outputs, none, lentTo, leaves, refusals}
+use Rattle.demands.specs.Answers.{applies, firstThat}
+use Rattle.demands.specs.AnswerLaws.{three-first}
+use Rattle.demands.specs.Tested.{first-answer, first-refused}
+use Rattle.demands.specs.PointCalls.{PointCall, new, insert, setPosition, remove, batch, maintain, removeMaintain, clear}
+use Rattle.demands.specs.PointCalls.{get, len, handles, query, queryAround, queryAabb}
+use Rattle.demands.specs.PointCalls.{leaves, refusals, refusedWith, uneven}
+use Rattle.demands.specs.PointSteps.{step}
 
 -- ---- demand 1: no call traps, whatever tables, handles and numbers it is handed: no public call has a `requires`, so that its theorem is of
--- any of them. Bad input gets the refusal that document 01 lists, and a refused call changes no table and no output.
+-- any of them. Bad input gets the refusal that document 01 lists,
 pub demand-1-answer : (t : Tables) (c : PointCall) → leaves t c .answer ≡ firstThat (refusals t c)
-unfolding leaves refusals
-demand-1-answer t (new size) = Answers.new-answer t size
-demand-1-answer t (insert p d) = Answers.insert-answer t p d
-demand-1-answer t (setPosition h p) = Answers.set-position-answer t h p
-demand-1-answer t (remove h) = Answers.remove-answer t h
-demand-1-answer t (batch ks hs ps out) = Answers.batch-answer t ks hs ps out
-demand-1-answer t maintain = Answers.maintain-answer t
-demand-1-answer t (removeMaintain h) = Answers.remove-maintain-answer t h
-demand-1-answer t (clear ps os) = Answers.clear-answer t ps os
-demand-1-answer t (get h) = Answers.get-answer t h
-demand-1-answer t len = Answers.len-answer t
-demand-1-answer t (handles out) = Answers.handles-answer t out
-demand-1-answer t (query ll ur hs ps) = Answers.query-answer t ll ur hs ps
-demand-1-answer t (queryAround c r hs ps) = Answers.around-answer t c r hs ps
-demand-1-answer t (queryAabb a b hs ps) = Answers.aabb-answer t a b hs ps
+demand-1-answer t c = first-answer (step t c) (λ n. refl)
 
--- a refused call that has tables to change, and one that has outputs only
-still : {R : Type 0} {o : Outcome R} {r : R} {t : Tables} → o ≡ outcome r t → (o .after ≡ t) × (none ≡ none)
-still {R} e = (ap (λ (x : Outcome R). x .after) e, refl)
+-- and a refused call leaves the tables and the outputs as they were, and returns zeros; 9 also returns the number found
+pub demand-1-refused : (t : Tables) (c : PointCall) → (firstThat (refusals t c) ≡ 0 → ⊥) → leaves t c ≡ refusedWith t c (firstThat (refusals t c))
+demand-1-refused t c n = first-refused (step t c) n
 
-unread : (t : Tables) {o : Findings} {f : Findings} → o ≡ f → (t ≡ t) × (outputs (o .handles) (o .places) [] ≡ outputs (f .handles) (f .places) [])
-unread t e = (refl, ap (λ (x : Findings). outputs (x .handles) (x .places) []) e)
-
-pub demand-1-unchanged : (t : Tables) (c : PointCall) → (leaves t c .answer ≡ 0 → ⊥) → (leaves t c .after ≡ t) × (leaves t c .outs ≡ lentTo c)
-demand-1-unchanged t c n = go c (λ z. n (demand-1-answer t c ∙ z))
+-- ---- on tables that hold a grid no call but an uneven batch answers 3, `new` included: they have the right lengths
+holding-three : (t : Tables) (c : PointCall) → Holds t → applies (refusals t c) 3 ≡ uneven c
+unfolding refusals uneven
+holding-three t (new size) h = rw (sized-says t .no (h .sized))
+holding-three t (insert p d) h = rw (holds-says t .no h)
+holding-three t (setPosition g p) h = rw (holds-says t .no h)
+holding-three t (remove g) h = rw (holds-says t .no h)
+holding-three t (batch ks hs ps out) h = rw (holds-says t .no h) (go (even ks hs ps))
   where
-    go : (c : PointCall) → (firstThat (refusals t c) ≡ 0 → ⊥) → (leaves t c .after ≡ t) × (leaves t c .outs ≡ lentTo c)
-    go (new size) n = unfold leaves refusals in still (Answers.new-refused t size n)
-    go (insert p d) n = unfold leaves refusals in still (Answers.insert-refused t p d n)
-    go (setPosition h p) n = unfold leaves refusals in still (Answers.set-position-refused t h p n)
-    go (remove h) n = unfold leaves refusals in still (Answers.remove-refused t h n)
-    go (batch ks hs ps out) n =
-        unfold leaves refusals in
-        let e = Answers.batch-refused t ks hs ps out n in
-        (ap (λ (x : Outcome Batched). x .after) e, ap (λ (x : Outcome Batched). outputs (x .result .out) [] []) e)
-    go maintain n = unfold leaves refusals in still (Answers.maintain-refused t n)
-    go (removeMaintain h) n = unfold leaves refusals in still (Answers.remove-maintain-refused t h n)
-    go (clear ps os) n =
-        unfold leaves refusals in
-        let e = Answers.clear-refused t ps os n in
-        (ap (λ (x : Outcome Written). x .after) e, ap (λ (x : Outcome Written). outputs [] (x .result .places) (x .result .objs)) e)
-    go (get h) n = unfold leaves in (refl, refl)
-    go len n = unfold leaves in (refl, refl)
-    go (handles out) n = unfold leaves refusals in (refl, ap (λ (x : Listing). outputs (x .out) [] []) (Answers.handles-refused t out n))
-    go (query ll ur hs ps) n = unfold leaves refusals in unread t (Answers.query-refused t ll ur hs ps n)
-    go (queryAround c r hs ps) n = unfold leaves refusals in unread t (Answers.around-refused t c r hs ps n)
-    go (queryAabb a b hs ps) n = unfold leaves refusals in unread t (Answers.aabb-refused t a b hs ps n)
+    go : (b : Bool) → (not (b && true) || false) ≡ not b
+    go true = refl
+    go false = refl
+holding-three t maintain h = rw (holds-says t .no h)
+holding-three t (removeMaintain g) h = rw (holds-says t .no h)
+holding-three t (clear ps os) h = rw (holds-says t .no h)
+holding-three t (get g) h = rw (holds-says t .no h)
+holding-three t len h = rw (holds-says t .no h)
+holding-three t (handles out) h = rw (holds-says t .no h)
+holding-three t (query ll ur hs ps) h = rw (holds-says t .no h)
+holding-three t (queryAround c r hs ps) h = rw (holds-says t .no h)
+holding-three t (queryAabb a b hs ps) h = rw (holds-says t .no h)
 
--- building anew: a grid if it is accepted, and the tables as they were if not
-new-keeps : (t : Tables) (size : ℕ) → Holds t → Holds (newOf t size .after)
-new-keeps t size h = ⊎-elim (new-holds t size) (λ n. rw (new-refused t size n) h) (d-eq (newOf t size .result) 0)
+pub never-three : (t : Tables) (c : PointCall) → Holds t → eqb (leaves t c .answer) 3 ≡ uneven c
+never-three t c h = ap (λ (a : ℕ). eqb a 3) (demand-1-answer t c) ∙ three-first (refusals t c) ∙ holding-three t c h
 
 -- ---- demand 3, first half: t is the grid right after an accepted maintain; l k are the calls of tracker k, no handle used by two trackers.
 -- Every two merges m and n that keep each tracker's own order give each call the same answer and data and leave the same tables.
@@ -129,8 +109,11 @@ module _ (before : Tables) (a : maintainOf before .result .answer ≡ 0) (l : �
       → inCircle (c .at) centre radius ≡ true → Reports (aroundOf (nextMaintain t (xs ++ (c ∷ ys)) .after) centre radius hs ps) (c .handle) (c .at)
   no-hand-is-lost xs c ys k e o centre radius hs ps b n = moved-found t (maintain-settles before a) xs c ys k e o centre radius hs ps b n
 
--- ---- tables built and changed only by these calls always hold a grid and are never refused as not holding one: any history of public calls,
--- accepted or refused, in which the grid may be built anew
+-- ---- tables built and changed only by these calls always hold a grid and are never refused as not holding one: on tables of any content that
+-- `new` accepts, any history of public calls, accepted or refused, in which the grid may be built anew
+new-keeps : (t : Tables) (size : ℕ) → Holds t → Holds (newOf t size .after)
+new-keeps t size h = ⊎-elim (new-holds t size) (λ n. rw (new-refused t size n) h) (d-eq (newOf t size .result) 0)
+
 pub keeps-a-grid : (t : Tables) (c : PointCall) → Holds t → Holds (leaves t c .after)
 unfolding leaves
 keeps-a-grid t (new size) h = new-keeps t size h
@@ -158,5 +141,12 @@ unfolding afterCalls
 all-keep t [] h = h
 all-keep t (c ∷ cs) h = all-keep (leaves t c .after) cs (keeps-a-grid t c h)
 
-pub always-a-grid : (t : Tables) (size : ℕ) (cs : List PointCall) → Sized t → SizeInDomain size → holds (afterCalls (built t size) cs) ≡ true
-always-a-grid t size cs z d = holds-says (afterCalls (built t size) cs) .no (all-keep (built t size) cs (built-holds t size z d))
+module _ (t : Tables) (size : ℕ) (accepts : newOf t size .result ≡ 0) (cs : List PointCall) where
+  kept : Holds (afterCalls (newOf t size .after) cs)
+  kept = all-keep (newOf t size .after) cs (new-holds t size accepts)
+
+  pub always-a-grid : holds (afterCalls (newOf t size .after) cs) ≡ true
+  always-a-grid = holds-says (afterCalls (newOf t size .after) cs) .no kept
+
+  pub never-refused-as-none : (c : PointCall) → eqb (leaves (afterCalls (newOf t size .after) cs) c .answer) 3 ≡ uneven c
+  never-refused-as-none c = never-three (afterCalls (newOf t size .after) cs) c kept

@@ -1,10 +1,14 @@
 -- The three demands, and the definitions that only they need.
 pub mod Answers
 pub mod AnswerLaws
+pub mod Left
+pub mod Tested
 pub mod PointAnswers
-pub mod BoxAnswers
 pub mod PointCalls
+pub mod PointSteps
+pub mod BoxAnswers
 pub mod BoxCalls
+pub mod BoxSteps
 pub mod Determined
 pub mod Demands
 pub mod BoxDemands

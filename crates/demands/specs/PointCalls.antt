@@ -1,24 +1,32 @@
--- Every public call of the point grid with all that it is handed besides the tables, what it leaves, and which refusals apply to it.
--- Assumes nothing.
+-- Every public call of the point grid with all that it is handed besides the tables, what it leaves, which refusals apply to it, and what
+-- it leaves if it is refused. Assumes nothing.
 use Prim.Native.Nat.{ℕ, min}
-use mathlib.Core.Bool.{_&&_}
+use mathlib.Core.Bool.{Bool, false, not}
 use mathlib.Core.List.{List, []}
 use lib.Ieee.{Float}
 use lib.ListN.{length}
 use Rattle.geometry.specs.declared.Position.{Position}
 use Rattle.slots.specs.declared.Handle.{Handle}
 use Rattle.point_tables.specs.Tables.{Tables}
+use Rattle.point_tables.specs.Outcome.{Outcome}
+use Rattle.replies.specs.declared.Inserted.{Inserted}
+use Rattle.replies.specs.declared.Reply.{Reply}
+use Rattle.replies.specs.declared.Count.{Count}
 use Rattle.inserts.specs.New.{newOf}
 use Rattle.inserts.specs.Insert.{insertOf}
 use Rattle.moves.specs.Moves.{setPositionOf, removeOf}
-use Rattle.moves.specs.Batch.{batchOf}
+use Rattle.moves.specs.Batch.{Batched, even, batchOf}
+use Rattle.maintain.specs.declared.Maintained.{Maintained}
 use Rattle.maintain.specs.Maintain.{maintainOf}
 use Rattle.removals.specs.Meaning.RemoveMaintain.{removeMaintainTests, removeMaintainOf}
-use Rattle.removals.specs.Meaning.Clear.{clearTests, clearOf}
-use Rattle.reads.specs.Meaning.{getTests, lenTests, handlesTests, getOf, lenOf, handlesOf}
+use Rattle.removals.specs.Meaning.Clear.{Written, liveSlots, clearTests, clearOf}
+use Rattle.reads.specs.declared.Got.{Got}
+use Rattle.reads.specs.Meaning.{zero-position, Listing, liveHandles, getTests, lenTests, handlesTests, getOf, lenOf, handlesOf}
 use Rattle.queries.specs.Queries.{Findings, queryOf, aroundOf, aabbOf}
 use Rattle.basics.specs.Refusals.{Refusal}
-use Rattle.demands.specs.PointAnswers.{newApplies, insertApplies, setPositionApplies, handleApplies, batchApplies, tablesApply, queryTests, aroundTests, aabbTests}
+use Rattle.demands.specs.Left.{Outputs, outputs, none, zeros, theCount, theHandle, theData, theChanges, theObject, Left, left, refused}
+use Rattle.demands.specs.PointAnswers.{newApplies, insertApplies, setPositionApplies, handleApplies, batchApplies, tablesApply}
+use Rattle.demands.specs.PointAnswers.{queryFinds, aroundFinds, aabbFinds, queryTests, aroundTests, aabbTests}
 
 pub data PointCall : Type 0 where
   new : ℕ → PointCall
@@ -36,19 +44,7 @@ pub data PointCall : Type 0 where
   queryAround : Position → Float → List (List ℕ) → List (List Float) → PointCall
   queryAabb : Position → Position → List (List ℕ) → List (List Float) → PointCall
 
--- the outputs of a call: rows of numbers, places and data; a call that has none of a kind has an empty one
-pub record Outputs : Type 0 where
-  pub rows : List (List ℕ)
-  pub places : List (List Float)
-  pub objs : List ℕ
-
-abbrev pub outputs : List (List ℕ) → List (List Float) → List ℕ → Outputs
-outputs r p o = record { rows = r; places = p; objs = o }
-
-abbrev pub none : Outputs
-none = outputs [] [] []
-
--- as they are lent
+-- the outputs as they are lent
 abbrev pub lentTo : PointCall → Outputs
 lentTo (new size) = none
 lentTo (insert p d) = none
@@ -65,33 +61,57 @@ lentTo (query ll ur hs ps) = outputs hs ps []
 lentTo (queryAround c r hs ps) = outputs hs ps []
 lentTo (queryAabb a b hs ps) = outputs hs ps []
 
--- ---- what a call leaves: its answer, the tables and the outputs
-pub record Left : Type 0 where
-  pub answer : ℕ
-  pub after : Tables
-  pub outs : Outputs
+-- ---- what is left, by the kind of what a call gives
+abbrev pub Leaves : Type 0
+Leaves = Left Tables Position
 
-abbrev pub left : ℕ → Tables → Outputs → Left
-left a t o = record { answer = a; after = t; outs = o }
+abbrev pub ofNumber : Outcome ℕ → Leaves
+ofNumber o = left (o .result) (zeros zero-position) (o .after) none
 
-abbrev found : Tables → Findings → Left
-found t f = left (f .returned .answer) t (outputs (f .handles) (f .places) [])
+abbrev pub ofInserted : Outcome Inserted → Leaves
+ofInserted o = left (o .result .answer) (theHandle zero-position (o .result .handle)) (o .after) none
 
-unfoldable pub leaves : Tables → PointCall → Left
-leaves t (new size) = let o = newOf t size in left (o .result) (o .after) none
-leaves t (insert p d) = let o = insertOf t p d in left (o .result .answer) (o .after) none
-leaves t (setPosition h p) = let o = setPositionOf t h p in left (o .result .answer) (o .after) none
-leaves t (remove h) = let o = removeOf t h in left (o .result .answer) (o .after) none
-leaves t (batch ks hs ps out) = let o = batchOf t ks hs ps out in left (o .result .answer) (o .after) (outputs (o .result .out) [] [])
-leaves t maintain = let o = maintainOf t in left (o .result .answer) (o .after) none
-leaves t (removeMaintain h) = let o = removeMaintainOf t h in left (o .result .answer) (o .after) none
-leaves t (clear ps os) = let o = clearOf t ps os in left (o .result .returned .answer) (o .after) (outputs [] (o .result .places) (o .result .objs))
-leaves t (get h) = left (getOf t h .answer) t none
-leaves t len = left (lenOf t .answer) t none
-leaves t (handles out) = let o = handlesOf t out in left (o .returned .answer) t (outputs (o .out) [] [])
-leaves t (query ll ur hs ps) = found t (queryOf t ll ur hs ps)
-leaves t (queryAround c r hs ps) = found t (aroundOf t c r hs ps)
-leaves t (queryAabb a b hs ps) = found t (aabbOf t a b hs ps)
+abbrev pub ofReply : Outcome Reply → Leaves
+ofReply o = left (o .result .answer) (theData zero-position (o .result .obj)) (o .after) none
+
+abbrev pub ofBatched : Outcome Batched → Leaves
+ofBatched o = left (o .result .answer) (theCount zero-position (o .result .count)) (o .after) (outputs (o .result .out) [] [])
+
+abbrev pub ofMaintained : Outcome Maintained → Leaves
+ofMaintained o = left (o .result .answer) (theChanges zero-position (o .result .moved) (o .result .removed)) (o .after) none
+
+abbrev pub ofWritten : Outcome Written → Leaves
+ofWritten o =
+    let w = o .result in left (w .returned .answer) (theCount zero-position (w .returned .count)) (o .after) (outputs [] (w .places) (w .objs))
+
+-- the calls that only read
+abbrev pub ofGot : Tables → Got → Leaves
+ofGot t g = left (g .answer) (theObject (g .position) (g .obj)) t none
+
+abbrev pub ofCount : Tables → Count → Leaves
+ofCount t c = left (c .answer) (theCount zero-position (c .count)) t none
+
+abbrev pub ofListing : Tables → Listing → Leaves
+ofListing t l = left (l .returned .answer) (theCount zero-position (l .returned .count)) t (outputs (l .out) [] [])
+
+abbrev pub ofFindings : Tables → Findings → Leaves
+ofFindings t f = left (f .returned .answer) (theCount zero-position (f .returned .count)) t (outputs (f .handles) (f .places) [])
+
+unfoldable pub leaves : Tables → PointCall → Leaves
+leaves t (new size) = ofNumber (newOf t size)
+leaves t (insert p d) = ofInserted (insertOf t p d)
+leaves t (setPosition h p) = ofReply (setPositionOf t h p)
+leaves t (remove h) = ofReply (removeOf t h)
+leaves t (batch ks hs ps out) = ofBatched (batchOf t ks hs ps out)
+leaves t maintain = ofMaintained (maintainOf t)
+leaves t (removeMaintain h) = ofReply (removeMaintainOf t h)
+leaves t (clear ps os) = ofWritten (clearOf t ps os)
+leaves t (get h) = ofGot t (getOf t h)
+leaves t len = ofCount t (lenOf t)
+leaves t (handles out) = ofListing t (handlesOf t out)
+leaves t (query ll ur hs ps) = ofFindings t (queryOf t ll ur hs ps)
+leaves t (queryAround c r hs ps) = ofFindings t (aroundOf t c r hs ps)
+leaves t (queryAabb a b hs ps) = ofFindings t (aabbOf t a b hs ps)
 
 -- ---- document 01's refusals of each call
 unfoldable pub refusals : Tables → PointCall → List Refusal
@@ -109,3 +129,40 @@ refusals t (handles out) = handlesTests t out
 refusals t (query ll ur hs ps) = queryTests t ll ur hs ps
 refusals t (queryAround c r hs ps) = aroundTests t c r hs ps
 refusals t (queryAabb a b hs ps) = aabbTests t a b hs ps
+
+-- ---- the number found: the findings, for `clear` and `handles` the objects, for a batch its calls; of the others none answers 9
+unfoldable pub numberFound : Tables → PointCall → ℕ
+numberFound t (new size) = 0
+numberFound t (insert p d) = 0
+numberFound t (setPosition h p) = 0
+numberFound t (remove h) = 0
+numberFound t (batch ks hs ps out) = length ks
+numberFound t maintain = 0
+numberFound t (removeMaintain h) = 0
+numberFound t (clear ps os) = length (liveSlots t)
+numberFound t (get h) = 0
+numberFound t len = 0
+numberFound t (handles out) = length (liveHandles t)
+numberFound t (query ll ur hs ps) = length (queryFinds t ll ur)
+numberFound t (queryAround c r hs ps) = length (aroundFinds t c r)
+numberFound t (queryAabb a b hs ps) = length (aabbFinds t a b)
+
+abbrev pub refusedWith : Tables → PointCall → ℕ → Leaves
+refusedWith t c n = refused zero-position (numberFound t c) t (lentTo c) n
+
+-- ---- whether a call is a batch whose lists differ in length
+unfoldable pub uneven : PointCall → Bool
+uneven (new size) = false
+uneven (insert p d) = false
+uneven (setPosition h p) = false
+uneven (remove h) = false
+uneven (batch ks hs ps out) = not (even ks hs ps)
+uneven maintain = false
+uneven (removeMaintain h) = false
+uneven (clear ps os) = false
+uneven (get h) = false
+uneven len = false
+uneven (handles out) = false
+uneven (query ll ur hs ps) = false
+uneven (queryAround c r hs ps) = false
+uneven (queryAabb a b hs ps) = false

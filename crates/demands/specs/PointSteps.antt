@@ -1,0 +1,77 @@
+-- Each call of the point grid makes its tests one after the other: it is done if they pass, and else leaves what a call refused with the
+-- first number leaves. Assumes nothing.
+use Prim.Native.Nat.{ℕ}
+use mathlib.Core.Path.{refl}
+use mathlib.Core.Bool.{Bool, _&&_}
+use mathlib.Core.List.{List, []}
+use lib.Dec.{eqb}
+use lib.Ieee.{Float}
+use lib.ListN.{length}
+use Rattle.basics.specs.Refusals.{Refusal, pick}
+use Rattle.replies.specs.Replies.{count, inserted, reply}
+use Rattle.geometry.specs.declared.Position.{Position}
+use Rattle.geometry.specs.Domain.{positionInDomain, radiusInDomain}
+use Rattle.geometry.specs.Rectangle.{lowerCorner, upperCorner}
+use Rattle.point_tables.specs.Tables.{Tables}
+use Rattle.point_tables.specs.Decide.{holds}
+use Rattle.point_tables.specs.Outcome.{outcome}
+use Rattle.inserts.specs.New.{newAnswer, newOf}
+use Rattle.inserts.specs.Insert.{insertAnswer, insertOf}
+use Rattle.moves.specs.Moves.{setPositionAnswer, setPositionOf, removeAnswer, removeOf}
+use Rattle.moves.specs.Batch.{batched, batchAnswer, batchOf}
+use Rattle.maintain.specs.Maintain.{maintainedCounts, maintainOf}
+use Rattle.removals.specs.Meaning.RemoveMaintain.{removeMaintainAnswer, removeMaintainOf}
+use Rattle.removals.specs.Meaning.Clear.{wrote, liveSlots, clearAnswer, clearOf}
+use Rattle.reads.specs.Meaning.{zero-position, got, listing, liveHandles, getOf, lenOf, handlesOf}
+use Rattle.queries.specs.declared.Test.{Test}
+use Rattle.queries.specs.declared.Test.the-variants.{Any, Circle, Rectangle}
+use Rattle.queries.specs.Queries.{findings, found, cornerBelow, cornerAbove, searchAnswer, searchOf, queryOf, aroundOf, aabbOf}
+use Rattle.demands.specs.Tested.{Tested, tested, tested-held, no-nine, at-nine}
+use Rattle.demands.specs.Left.{outputs, none, refused}
+use Rattle.demands.specs.PointCalls.{PointCall, new, insert, setPosition, remove, batch, maintain, removeMaintain, clear}
+use Rattle.demands.specs.PointCalls.{get, len, handles, query, queryAround, queryAabb}
+use Rattle.demands.specs.PointCalls.{ofNumber, ofInserted, ofReply, ofBatched, ofMaintained, ofWritten, ofGot, ofCount, ofListing, ofFindings}
+use Rattle.demands.specs.PointCalls.{leaves, refusals, numberFound, refusedWith}
+use Rattle.demands.specs.PointAnswers.{searchTests}
+
+-- the three queries are one search
+module _ (t : Tables) (ok : Bool) (ll ur : Position) (test : Test) (hs : List (List ℕ)) (ps : List (List Float)) where
+  abbrev finds : ℕ
+  finds = length (found t ll ur test)
+
+  abbrev tests : List Refusal
+  tests = searchTests t ok ll ur finds hs ps
+
+  search : Tested tests (refused zero-position finds t (outputs hs ps [])) (ofFindings t (searchOf t ok ll ur test hs ps))
+  unfolding searchOf searchAnswer
+  search = tested (ofFindings t) _ (λ a. findings (count a (pick (eqb a 9) finds 0)) hs ps) refl (at-nine zero-position t (outputs hs ps []) finds) _ refl
+
+pub step : (t : Tables) (c : PointCall) → Tested (refusals t c) (refusedWith t c) (leaves t c)
+unfolding leaves refusals numberFound
+step t (new size) = unfold newOf newAnswer in tested ofNumber _ (λ a. outcome a t) refl (no-nine zero-position t none) _ refl
+step t (insert p d) = unfold insertOf insertAnswer in tested ofInserted _ (λ a. outcome (inserted a 0 0) t) refl (no-nine zero-position t none) _ refl
+step t (setPosition h p) = unfold setPositionOf setPositionAnswer in tested ofReply _ (λ a. outcome (reply a 0) t) refl (no-nine zero-position t none) _ refl
+step t (remove h) = unfold removeOf removeAnswer in tested ofReply _ (λ a. outcome (reply a 0) t) refl (no-nine zero-position t none) _ refl
+step t (batch ks hs ps out) =
+    unfold batchOf batchAnswer in
+    let n = length ks in
+    tested ofBatched _ (λ a. outcome (batched a (pick (eqb a 9) n 0) out) t) refl (at-nine zero-position t (outputs out [] []) n) _ refl
+step t maintain = unfold maintainOf in tested-held ofMaintained _ (λ a. outcome (maintainedCounts a 0 0) t) refl (no-nine zero-position t none) (holds t)
+step t (removeMaintain h) =
+    unfold removeMaintainOf removeMaintainAnswer in tested ofReply _ (λ a. outcome (reply a 0) t) refl (no-nine zero-position t none) _ refl
+step t (clear ps os) =
+    unfold clearOf clearAnswer in
+    let n = length (liveSlots t) in
+    tested ofWritten _ (λ a. outcome (wrote (count a (pick (eqb a 9) n 0)) ps os) t) refl (at-nine zero-position t (outputs [] ps os) n) _ refl
+step t (get h) = unfold getOf in tested (ofGot t) _ (λ a. got a zero-position 0) refl (no-nine zero-position t none) _ refl
+step t len = unfold lenOf in tested (ofCount t) _ (λ a. count a 0) refl (no-nine zero-position t none) _ refl
+step t (handles out) =
+    unfold handlesOf in
+    let n = length (liveHandles t) in
+    tested (ofListing t) _ (λ a. listing (count a (pick (eqb a 9) n 0)) out) refl (at-nine zero-position t (outputs out [] []) n) _ refl
+step t (query ll ur hs ps) = unfold queryOf in search t (positionInDomain ll && positionInDomain ur) ll ur Any hs ps
+step t (queryAround c r hs ps) =
+    unfold aroundOf in search t (positionInDomain c && radiusInDomain r) (cornerBelow c r) (cornerAbove c r) (Circle c r) hs ps
+step t (queryAabb a b hs ps) =
+    unfold aabbOf in
+    search t (positionInDomain a && positionInDomain b) (lowerCorner a b) (upperCorner a b) (Rectangle (lowerCorner a b) (upperCorner a b)) hs ps
