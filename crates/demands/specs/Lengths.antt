@@ -1,12 +1,72 @@
--- The right lengths of the tables exist for every number of slots and every pool of the domain. Assumes nothing.
+-- The right lengths of the tables exist for every number of slots and every pool of the domain: `new` answers 0 on tables of these lengths,
+-- at every cell size of the domain. Assumes nothing.
 use Prim.Native.Nat.{ℕ, _+_, _≤_}
-use mathlib.Core.Path.{refl}
+use mathlib.Core.Path.{_≡_, ap}
+use mathlib.Core.List.{List, [], _∷_}
+use mathlib.Core.Bool.{false}
+use lib.IntN.{pos}
+use lib.Ieee.{Float, fin}
+use lib.ListN.{replicate, length-replicate}
+use Rattle.cells.specs.Size.{SizeInDomain}
 use Rattle.slots.specs.Map.{head, wordsFor}
 use Rattle.point_tables.specs.Tables as Points
+use Rattle.point_tables.specs.Outcome as PointOutcome
+use Rattle.inserts.specs.New as PointNew
+use Rattle.inserts.proofs.laws.NewLaws as PointLaws
 use Rattle.box_tables.specs.Tables as Boxes
+use Rattle.box_tables.specs.Outcome as BoxOutcome
+use Rattle.box_inserts.specs.New as BoxNew
+use Rattle.box_inserts.proofs.laws.NewLaws as BoxLaws
 
-pub point-lengths : (n : ℕ) → 1 ≤ n → n ≤ 4096 → Points.Lengths n n n (head + wordsFor n) n n n
-point-lengths n some most = record { some = some; most = most; of-reals = refl; of-ints = refl; of-map = refl; of-pool = refl; of-spots = refl; of-cells = refl }
+abbrev two : {A : Type 0} → A → List A
+two a = a ∷ a ∷ []
 
-pub box-lengths : (n pool : ℕ) → 1 ≤ n → n ≤ 256 → 1 ≤ pool → pool ≤ 8192 → Boxes.Lengths n n (head + wordsFor n) pool
-box-lengths n pool some most more few = record { some = some; most = most; of-reals = refl; of-map = refl; pool-some = more; pool-most = few }
+abbrev four : {A : Type 0} → A → List A
+four a = a ∷ a ∷ a ∷ a ∷ []
+
+abbrev zero : Float
+zero = fin false 0 (pos 0)
+
+-- ---- tables of zeros, for n slots
+abbrev pub pointTables : ℕ → Points.Tables
+pointTables n =
+    Points.tables (replicate n (four 0)) (replicate n (four zero)) (replicate n (four (pos 0))) (replicate (head + wordsFor n) 0)
+    (replicate n (two 0)) (replicate n (two zero)) (replicate n (two 0))
+
+point-sized : (n : ℕ) → 1 ≤ n → n ≤ 4096 → Points.Sized (pointTables n)
+point-sized n some most =
+    rw (length-replicate {A = List ℕ} n (four 0))
+    (record {
+      some = some;
+      most = most;
+      of-reals = length-replicate n _;
+      of-ints = length-replicate n _;
+      of-map = length-replicate (head + wordsFor n) _;
+      of-pool = length-replicate n _;
+      of-spots = length-replicate n _;
+      of-cells = length-replicate n _;
+    })
+
+pub point-lengths : (n size : ℕ) → 1 ≤ n → n ≤ 4096 → SizeInDomain size → PointNew.newOf (pointTables n) size .result ≡ 0
+point-lengths n size some most d = ap (λ (o : PointOutcome.Outcome ℕ). o .result) (PointLaws.new-done (pointTables n) size (point-sized n some most) d)
+
+-- ---- and for n slots and a pool
+abbrev pub boxTables : ℕ → ℕ → Boxes.Tables
+boxTables n pool =
+    Boxes.tables (replicate n (four 0)) (replicate n (four zero)) (replicate (head + wordsFor n) 0) (replicate pool (two 0))
+
+box-sized : (n pool : ℕ) → 1 ≤ n → n ≤ 256 → 1 ≤ pool → pool ≤ 8192 → Boxes.Sized (boxTables n pool)
+box-sized n pool some most more few =
+    rw (length-replicate {A = List ℕ} n (four 0), length-replicate {A = List ℕ} pool (two 0))
+    (record {
+      some = some;
+      most = most;
+      of-reals = length-replicate n _;
+      of-map = length-replicate (head + wordsFor n) _;
+      pool-some = more;
+      pool-most = few;
+    })
+
+pub box-lengths : (n pool size : ℕ) → 1 ≤ n → n ≤ 256 → 1 ≤ pool → pool ≤ 8192 → SizeInDomain size → BoxNew.newOf (boxTables n pool) size .result ≡ 0
+box-lengths n pool size some most more few d =
+    ap (λ (o : BoxOutcome.Outcome ℕ). o .result) (BoxLaws.new-done (boxTables n pool) size (box-sized n pool some most more few) d)
