@@ -39,7 +39,8 @@ none [] (r ∷ rs) n o e = absurd (apart o)
 none (m ∷ ms) (r ∷ rs) n o e = go (none ms rs n) (none ms (r ∷ rs) n) (eqb (r .number) m) refl o (eqb m n) refl e
   where
     go : (ordered ms rs ≡ true → among n ms ≡ false → applies rs n ≡ false) → (ordered ms (r ∷ rs) ≡ true → among n ms ≡ false → applies (r ∷ rs) n ≡ false)
-        → (b : Bool) → eqb (r .number) m ≡ b → pick b (ordered ms rs) (ordered ms (r ∷ rs)) ≡ true → (c : Bool) → eqb m n ≡ c → (c || among n ms) ≡ false → applies (r ∷ rs) n ≡ false
+        → (b : Bool) → eqb (r .number) m ≡ b → pick b (ordered ms rs) (ordered ms (r ∷ rs)) ≡ true
+        → (c : Bool) → eqb m n ≡ c → (c || among n ms) ≡ false → applies (r ∷ rs) n ≡ false
     go f g b q o true d e = absurd (apart (sym e))
     go f g true q o false d e = rw (ap (λ (k : ℕ). eqb k n) (eqb-true (r .number) m q) ∙ d) (f o e)
     go f g false q o false d e = g o e
@@ -62,10 +63,12 @@ first-in (n ∷ ns) (r ∷ rs) d o =
     go (first-in ns rs (w .1)) (first-in ns (r ∷ rs) (w .1)) (untrue (among n ns) (w .0)) (eqb (r .number) n) refl o (r .passes) refl
   where
     go : (ordered ns rs ≡ true → firstOf rs ≡ firstIn ns rs) → (ordered ns (r ∷ rs) ≡ true → firstOf (r ∷ rs) ≡ firstIn ns (r ∷ rs)) → among n ns ≡ false
-        → (b : Bool) → eqb (r .number) n ≡ b → pick b (ordered ns rs) (ordered ns (r ∷ rs)) ≡ true → (p : Bool) → r .passes ≡ p → firstOf (r ∷ rs) ≡ firstIn (n ∷ ns) (r ∷ rs)
+        → (b : Bool) → eqb (r .number) n ≡ b → pick b (ordered ns rs) (ordered ns (r ∷ rs)) ≡ true
+        → (p : Bool) → r .passes ≡ p → firstOf (r ∷ rs) ≡ firstIn (n ∷ ns) (r ∷ rs)
     go f g a false q o p e = rw (none ns (r ∷ rs) n o a) (g o)
     go f g a true q o false e = rw (q, e) (eqb-true (r .number) n q)
-    go f g a true q o true e = ap (λ (p : Bool). orElse p (r .number) (firstOf rs)) e ∙ f o ∙ sym (passed ns r rs e) ∙ sym (ap (λ (b : Bool). pick b n (firstIn ns (r ∷ rs))) off)
+    go f g a true q o true e =
+        ap (λ (p : Bool). orElse p (r .number) (firstOf rs)) e ∙ f o ∙ sym (passed ns r rs e) ∙ sym (ap (λ (b : Bool). pick b n (firstIn ns (r ∷ rs))) off)
       where
         off : applies (r ∷ rs) n ≡ false
         off = rw (q, e) (none ns rs n o a)

@@ -92,21 +92,29 @@ module _ (before : Tables) (a : maintainOf before .result .answer ≡ 0) (l : �
   pub demand-3-maintain : (m : List Turn) → nextMaintain t (calls m) .result .answer ≡ 0
   demand-3-maintain m = next-accepted t (maintain-settles before a) (calls m)
 
-  module _ (m : List Turn) (p : Merge l m) (centre : Position) (radius : Float) (hs : List (List ℕ)) (ps : List (List Float)) (b : aroundOf (nextMaintain t (calls m) .after) centre radius hs ps .returned .answer ≡ 0) where
+  -- what the circle leaves after the calls cs and the next maintain
+  abbrev reportAfter : List Call → Position → Float → List (List ℕ) → List (List Float) → Findings
+  reportAfter cs centre radius hs ps = aroundOf (nextMaintain t cs .after) centre radius hs ps
+
+  module _ (m : List Turn) (p : Merge l m) (centre : Position) (radius : Float) (hs : List (List ℕ)) (ps : List (List Float)) where
     abbrev report : Findings
-    report = aroundOf (nextMaintain t (calls m) .after) centre radius hs ps
+    report = reportAfter (calls m) centre radius hs ps
 
-    pub demand-3-exactly : (g : Handle) (at : Position) → (Reports report g at → Due t (calls m) centre radius g at) × (Due t (calls m) centre radius g at → Reports report g at)
-    demand-3-exactly g at = circle-reports t (maintain-settles before a) (calls m) centre radius hs ps b g at
+    module _ (b : report .returned .answer ≡ 0) where
+      pub demand-3-exactly : (g : Handle) (at : Position)
+          → (Reports report g at → Due t (calls m) centre radius g at) × (Due t (calls m) centre radius g at → Reports report g at)
+      demand-3-exactly g at = circle-reports t (maintain-settles before a) (calls m) centre radius hs ps b g at
 
-    pub demand-3-once : (i j : ℕ) (g k : Handle) (x y : Position) → ReportedAt report i g x → ReportedAt report j k y → g .slot ≡ k .slot → i ≡ j
-    demand-3-once i j g k x y r q e = reports-once t (maintain-settles before a) (calls m) centre radius hs ps b i j g k x y r q e
+      pub demand-3-once : (i j : ℕ) (g k : Handle) (x y : Position) → ReportedAt report i g x → ReportedAt report j k y → g .slot ≡ k .slot → i ≡ j
+      demand-3-once i j g k x y r q e = reports-once t (maintain-settles before a) (calls m) centre radius hs ps b i j g k x y r q e
 
   -- ---- the historic failure: a point that an accepted set_position moved last, by any distance within the domain, and that lies strictly
   -- inside the circle, is in the report. The calls are xs, then c, then ys, and none of ys has its handle.
-  pub no-hand-is-lost : (xs : List Call) (c : Call) (ys : List Call) → c .kind ≡ 0 → callOf (tablesAfter t xs) c .result .answer ≡ 0 → All (Other (c .handle)) ys
-      → (centre : Position) (radius : Float) (hs : List (List ℕ)) (ps : List (List Float)) → aroundOf (nextMaintain t (xs ++ (c ∷ ys)) .after) centre radius hs ps .returned .answer ≡ 0
-      → inCircle (c .at) centre radius ≡ true → Reports (aroundOf (nextMaintain t (xs ++ (c ∷ ys)) .after) centre radius hs ps) (c .handle) (c .at)
+  pub no-hand-is-lost : (xs : List Call) (c : Call) (ys : List Call)
+      → c .kind ≡ 0 → callOf (tablesAfter t xs) c .result .answer ≡ 0 → All (Other (c .handle)) ys
+      → (centre : Position) (radius : Float) (hs : List (List ℕ)) (ps : List (List Float))
+      → reportAfter (xs ++ (c ∷ ys)) centre radius hs ps .returned .answer ≡ 0
+      → inCircle (c .at) centre radius ≡ true → Reports (reportAfter (xs ++ (c ∷ ys)) centre radius hs ps) (c .handle) (c .at)
   no-hand-is-lost xs c ys k e o centre radius hs ps b n = moved-found t (maintain-settles before a) xs c ys k e o centre radius hs ps b n
 
 -- ---- tables built and changed only by these calls always hold a grid and are never refused as not holding one: on tables of any content that

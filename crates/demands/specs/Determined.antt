@@ -1,5 +1,5 @@
--- Any two results that a promise permits are equal: one theorem for each public call. The promises are those of the calls' `ensures`.
--- Assumes nothing.
+-- Any two results that a promise permits are equal: one theorem for each public call. The promises are those of the calls' `ensures`. A NaN
+-- is one value here: which of its bit patterns stands in a place is not said. Assumes nothing.
 use Prim.Native.Nat.{ℕ}
 use mathlib.Core.Path.{_≡_, sym, ap, _∙_}
 use mathlib.Core.List.{List}
@@ -50,22 +50,26 @@ module _ (t t₁ t₂ : Tables) where
   pub insert-determined : (p : Position) (d : ℕ) (r₁ r₂ : Inserted) → outcome r₁ t₁ ≡ insertOf t p d → outcome r₂ t₂ ≡ insertOf t p d → (r₁ ≡ r₂) × (t₁ ≡ t₂)
   insert-determined p d r₁ r₂ e f = same e f
 
-  pub set-position-determined : (h : Handle) (p : Position) (r₁ r₂ : ℕ) → outcome (reply r₁ 0) t₁ ≡ setPositionOf t h p → outcome (reply r₂ 0) t₂ ≡ setPositionOf t h p → (r₁ ≡ r₂) × (t₁ ≡ t₂)
+  pub set-position-determined : (h : Handle) (p : Position) (r₁ r₂ : ℕ)
+      → outcome (reply r₁ 0) t₁ ≡ setPositionOf t h p → outcome (reply r₂ 0) t₂ ≡ setPositionOf t h p → (r₁ ≡ r₂) × (t₁ ≡ t₂)
   set-position-determined h p r₁ r₂ e f = let g = same e f in (ap (λ (x : Reply). x .answer) (g .0), g .1)
 
   pub remove-determined : (h : Handle) (r₁ r₂ : Reply) → outcome r₁ t₁ ≡ removeOf t h → outcome r₂ t₂ ≡ removeOf t h → (r₁ ≡ r₂) × (t₁ ≡ t₂)
   remove-determined h r₁ r₂ e f = same e f
 
-  pub batch-determined : (ks : List ℕ) (hs : List (List ℕ)) (ps : List (List Float)) (out : List (List ℕ)) (r₁ r₂ : Batched) → outcome r₁ t₁ ≡ batchOf t ks hs ps out → outcome r₂ t₂ ≡ batchOf t ks hs ps out → (r₁ ≡ r₂) × (t₁ ≡ t₂)
+  pub batch-determined : (ks : List ℕ) (hs : List (List ℕ)) (ps : List (List Float)) (out : List (List ℕ)) (r₁ r₂ : Batched)
+      → outcome r₁ t₁ ≡ batchOf t ks hs ps out → outcome r₂ t₂ ≡ batchOf t ks hs ps out → (r₁ ≡ r₂) × (t₁ ≡ t₂)
   batch-determined ks hs ps out r₁ r₂ e f = same e f
 
   pub maintain-determined : (r₁ r₂ : Maintained) → outcome r₁ t₁ ≡ maintainOf t → outcome r₂ t₂ ≡ maintainOf t → (r₁ ≡ r₂) × (t₁ ≡ t₂)
   maintain-determined r₁ r₂ e f = same e f
 
-  pub remove-maintain-determined : (h : Handle) (r₁ r₂ : Reply) → outcome r₁ t₁ ≡ removeMaintainOf t h → outcome r₂ t₂ ≡ removeMaintainOf t h → (r₁ ≡ r₂) × (t₁ ≡ t₂)
+  pub remove-maintain-determined : (h : Handle) (r₁ r₂ : Reply)
+      → outcome r₁ t₁ ≡ removeMaintainOf t h → outcome r₂ t₂ ≡ removeMaintainOf t h → (r₁ ≡ r₂) × (t₁ ≡ t₂)
   remove-maintain-determined h r₁ r₂ e f = same e f
 
-  pub clear-determined : (ps : List (List Float)) (os : List ℕ) (r₁ r₂ : Written) → outcome r₁ t₁ ≡ clearOf t ps os → outcome r₂ t₂ ≡ clearOf t ps os → (r₁ ≡ r₂) × (t₁ ≡ t₂)
+  pub clear-determined : (ps : List (List Float)) (os : List ℕ) (r₁ r₂ : Written)
+      → outcome r₁ t₁ ≡ clearOf t ps os → outcome r₂ t₂ ≡ clearOf t ps os → (r₁ ≡ r₂) × (t₁ ≡ t₂)
   clear-determined ps os r₁ r₂ e f = same e f
 
 -- the calls that only read: what they return, with their outputs after them
@@ -79,13 +83,16 @@ module _ (t : Tables) where
   pub handles-determined : (out : List (List ℕ)) (r₁ r₂ : Listing) → r₁ ≡ handlesOf t out → r₂ ≡ handlesOf t out → r₁ ≡ r₂
   handles-determined out r₁ r₂ e f = one e f
 
-  pub query-determined : (ll ur : Position) (hs : List (List ℕ)) (ps : List (List Float)) (r₁ r₂ : Findings) → r₁ ≡ queryOf t ll ur hs ps → r₂ ≡ queryOf t ll ur hs ps → r₁ ≡ r₂
+  pub query-determined : (ll ur : Position) (hs : List (List ℕ)) (ps : List (List Float)) (r₁ r₂ : Findings)
+      → r₁ ≡ queryOf t ll ur hs ps → r₂ ≡ queryOf t ll ur hs ps → r₁ ≡ r₂
   query-determined ll ur hs ps r₁ r₂ e f = one e f
 
-  pub around-determined : (c : Position) (r : Float) (hs : List (List ℕ)) (ps : List (List Float)) (r₁ r₂ : Findings) → r₁ ≡ aroundOf t c r hs ps → r₂ ≡ aroundOf t c r hs ps → r₁ ≡ r₂
+  pub around-determined : (c : Position) (r : Float) (hs : List (List ℕ)) (ps : List (List Float)) (r₁ r₂ : Findings)
+      → r₁ ≡ aroundOf t c r hs ps → r₂ ≡ aroundOf t c r hs ps → r₁ ≡ r₂
   around-determined c r hs ps r₁ r₂ e f = one e f
 
-  pub aabb-determined : (a b : Position) (hs : List (List ℕ)) (ps : List (List Float)) (r₁ r₂ : Findings) → r₁ ≡ aabbOf t a b hs ps → r₂ ≡ aabbOf t a b hs ps → r₁ ≡ r₂
+  pub aabb-determined : (a b : Position) (hs : List (List ℕ)) (ps : List (List Float)) (r₁ r₂ : Findings)
+      → r₁ ≡ aabbOf t a b hs ps → r₂ ≡ aabbOf t a b hs ps → r₁ ≡ r₂
   aabb-determined a b hs ps r₁ r₂ e f = one e f
 
 -- ---- the box grid
@@ -96,16 +103,20 @@ module _ (t t₁ t₂ : BoxTables.Tables) where
   pub box-new-determined : (size r₁ r₂ : ℕ) → Boxes.outcome r₁ t₁ ≡ BoxNew.newOf t size → Boxes.outcome r₂ t₂ ≡ BoxNew.newOf t size → (r₁ ≡ r₂) × (t₁ ≡ t₂)
   box-new-determined size r₁ r₂ e f = boxed e f
 
-  pub box-insert-determined : (b : Aabb) (d : ℕ) (r₁ r₂ : Inserted) → Boxes.outcome r₁ t₁ ≡ BoxInsert.insertOf t b d → Boxes.outcome r₂ t₂ ≡ BoxInsert.insertOf t b d → (r₁ ≡ r₂) × (t₁ ≡ t₂)
+  pub box-insert-determined : (b : Aabb) (d : ℕ) (r₁ r₂ : Inserted)
+      → Boxes.outcome r₁ t₁ ≡ BoxInsert.insertOf t b d → Boxes.outcome r₂ t₂ ≡ BoxInsert.insertOf t b d → (r₁ ≡ r₂) × (t₁ ≡ t₂)
   box-insert-determined b d r₁ r₂ e f = boxed e f
 
-  pub set-aabb-determined : (h : Handle) (b : Aabb) (r₁ r₂ : ℕ) → Boxes.outcome r₁ t₁ ≡ setAabbOf t h b → Boxes.outcome r₂ t₂ ≡ setAabbOf t h b → (r₁ ≡ r₂) × (t₁ ≡ t₂)
+  pub set-aabb-determined : (h : Handle) (b : Aabb) (r₁ r₂ : ℕ)
+      → Boxes.outcome r₁ t₁ ≡ setAabbOf t h b → Boxes.outcome r₂ t₂ ≡ setAabbOf t h b → (r₁ ≡ r₂) × (t₁ ≡ t₂)
   set-aabb-determined h b r₁ r₂ e f = boxed e f
 
-  pub box-remove-determined : (h : Handle) (r₁ r₂ : Reply) → Boxes.outcome r₁ t₁ ≡ BoxRemove.removeOf t h → Boxes.outcome r₂ t₂ ≡ BoxRemove.removeOf t h → (r₁ ≡ r₂) × (t₁ ≡ t₂)
+  pub box-remove-determined : (h : Handle) (r₁ r₂ : Reply)
+      → Boxes.outcome r₁ t₁ ≡ BoxRemove.removeOf t h → Boxes.outcome r₂ t₂ ≡ BoxRemove.removeOf t h → (r₁ ≡ r₂) × (t₁ ≡ t₂)
   box-remove-determined h r₁ r₂ e f = boxed e f
 
-  pub box-clear-determined : (bs : List (List Float)) (os : List ℕ) (r₁ r₂ : BoxClear.Written) → Boxes.outcome r₁ t₁ ≡ BoxClear.clearOf t bs os → Boxes.outcome r₂ t₂ ≡ BoxClear.clearOf t bs os → (r₁ ≡ r₂) × (t₁ ≡ t₂)
+  pub box-clear-determined : (bs : List (List Float)) (os : List ℕ) (r₁ r₂ : BoxClear.Written)
+      → Boxes.outcome r₁ t₁ ≡ BoxClear.clearOf t bs os → Boxes.outcome r₂ t₂ ≡ BoxClear.clearOf t bs os → (r₁ ≡ r₂) × (t₁ ≡ t₂)
   box-clear-determined bs os r₁ r₂ e f = boxed e f
 
 module _ (t : BoxTables.Tables) where
@@ -118,8 +129,10 @@ module _ (t : BoxTables.Tables) where
   pub box-handles-determined : (out : List (List ℕ)) (r₁ r₂ : BoxReads.Listing) → r₁ ≡ BoxReads.handlesOf t out → r₂ ≡ BoxReads.handlesOf t out → r₁ ≡ r₂
   box-handles-determined out r₁ r₂ e f = one e f
 
-  pub query-broad-determined : (q : Aabb) (hs : List (List ℕ)) (r₁ r₂ : BoxQueries.Handles) → r₁ ≡ BoxQueries.broadOf t q hs → r₂ ≡ BoxQueries.broadOf t q hs → r₁ ≡ r₂
+  pub query-broad-determined : (q : Aabb) (hs : List (List ℕ)) (r₁ r₂ : BoxQueries.Handles)
+      → r₁ ≡ BoxQueries.broadOf t q hs → r₂ ≡ BoxQueries.broadOf t q hs → r₁ ≡ r₂
   query-broad-determined q hs r₁ r₂ e f = one e f
 
-  pub box-query-determined : (q : Aabb) (hs : List (List ℕ)) (bs : List (List Float)) (os : List ℕ) (r₁ r₂ : BoxQueries.Findings) → r₁ ≡ BoxQueries.queryOf t q hs bs os → r₂ ≡ BoxQueries.queryOf t q hs bs os → r₁ ≡ r₂
+  pub box-query-determined : (q : Aabb) (hs : List (List ℕ)) (bs : List (List Float)) (os : List ℕ) (r₁ r₂ : BoxQueries.Findings)
+      → r₁ ≡ BoxQueries.queryOf t q hs bs os → r₂ ≡ BoxQueries.queryOf t q hs bs os → r₁ ≡ r₂
   box-query-determined q hs bs os r₁ r₂ e f = one e f

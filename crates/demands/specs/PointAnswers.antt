@@ -22,6 +22,7 @@ use Rattle.point_tables.specs.Tables.{Tables, sizeOf, recordOn}
 use Rattle.point_tables.specs.Decide.{holds, sized}
 use Rattle.inserts.specs.Insert.{usableSlot}
 use Rattle.moves.specs.Batch.{even}
+use Rattle.removals.specs.Meaning.Clear.{liveSlots}
 use Rattle.queries.specs.declared.Test.the-variants.{Any, Circle, Rectangle}
 use Rattle.queries.specs.Queries.{mostCells, found, cornerBelow, cornerAbove}
 
@@ -50,6 +51,10 @@ batchApplies t kinds handles positions room = unless (even kinds handles positio
 -- `maintain` and `len`
 abbrev pub tablesApply : Tables → List Refusal
 tablesApply t = unless (holds t) 3 ∷ []
+
+-- `clear` and `handles`: all objects into so many places
+abbrev pub roomApplies : Tables → ℕ → List Refusal
+roomApplies t room = unless (holds t) 3 ∷ unless (leb (length (liveSlots t)) room) 9 ∷ []
 
 -- ---- the queries: what each finds, and its tests
 abbrev pub queryFinds : Tables → Position → Position → List Entry

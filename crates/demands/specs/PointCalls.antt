@@ -18,14 +18,14 @@ use Rattle.moves.specs.Moves.{setPositionOf, removeOf}
 use Rattle.moves.specs.Batch.{Batched, even, batchOf}
 use Rattle.maintain.specs.declared.Maintained.{Maintained}
 use Rattle.maintain.specs.Maintain.{maintainOf}
-use Rattle.removals.specs.Meaning.RemoveMaintain.{removeMaintainTests, removeMaintainOf}
-use Rattle.removals.specs.Meaning.Clear.{Written, liveSlots, clearTests, clearOf}
+use Rattle.removals.specs.Meaning.RemoveMaintain.{removeMaintainOf}
+use Rattle.removals.specs.Meaning.Clear.{Written, liveSlots, clearOf}
 use Rattle.reads.specs.declared.Got.{Got}
-use Rattle.reads.specs.Meaning.{zero-position, Listing, liveHandles, getTests, lenTests, handlesTests, getOf, lenOf, handlesOf}
+use Rattle.reads.specs.Meaning.{zero-position, Listing, getOf, lenOf, handlesOf}
 use Rattle.queries.specs.Queries.{Findings, queryOf, aroundOf, aabbOf}
 use Rattle.basics.specs.Refusals.{Refusal}
 use Rattle.demands.specs.Left.{Outputs, outputs, none, zeros, theCount, theHandle, theData, theChanges, theObject, Left, left, refused}
-use Rattle.demands.specs.PointAnswers.{newApplies, insertApplies, setPositionApplies, handleApplies, batchApplies, tablesApply}
+use Rattle.demands.specs.PointAnswers.{newApplies, insertApplies, setPositionApplies, handleApplies, batchApplies, tablesApply, roomApplies}
 use Rattle.demands.specs.PointAnswers.{queryFinds, aroundFinds, aabbFinds, queryTests, aroundTests, aabbTests}
 
 pub data PointCall : Type 0 where
@@ -121,11 +121,11 @@ refusals t (setPosition h p) = setPositionApplies t h p
 refusals t (remove h) = handleApplies t h
 refusals t (batch ks hs ps out) = batchApplies t ks hs ps (length out)
 refusals t maintain = tablesApply t
-refusals t (removeMaintain h) = removeMaintainTests t h
-refusals t (clear ps os) = clearTests t (min (length ps) (length os))
-refusals t (get h) = getTests t h
-refusals t len = lenTests t
-refusals t (handles out) = handlesTests t out
+refusals t (removeMaintain h) = handleApplies t h
+refusals t (clear ps os) = roomApplies t (min (length ps) (length os))
+refusals t (get h) = handleApplies t h
+refusals t len = tablesApply t
+refusals t (handles out) = roomApplies t (length out)
 refusals t (query ll ur hs ps) = queryTests t ll ur hs ps
 refusals t (queryAround c r hs ps) = aroundTests t c r hs ps
 refusals t (queryAabb a b hs ps) = aabbTests t a b hs ps
@@ -142,7 +142,7 @@ numberFound t (removeMaintain h) = 0
 numberFound t (clear ps os) = length (liveSlots t)
 numberFound t (get h) = 0
 numberFound t len = 0
-numberFound t (handles out) = length (liveHandles t)
+numberFound t (handles out) = length (liveSlots t)
 numberFound t (query ll ur hs ps) = length (queryFinds t ll ur)
 numberFound t (queryAround c r hs ps) = length (aroundFinds t c r)
 numberFound t (queryAabb a b hs ps) = length (aabbFinds t a b)

@@ -1,17 +1,18 @@
 -- Each call of the point grid makes its tests one after the other: it is done if they pass, and else leaves what a call refused with the
 -- first number leaves. Assumes nothing.
 use Prim.Native.Nat.{ℕ}
-use mathlib.Core.Path.{refl}
+use mathlib.Core.Path.{_≡_, refl, subst}
 use mathlib.Core.Bool.{Bool, _&&_}
-use mathlib.Core.List.{List, []}
-use lib.Dec.{eqb}
+use mathlib.Core.List.{List, [], _∷_}
+use lib.Dec.{eqb, leb}
 use lib.Ieee.{Float}
-use lib.ListN.{length}
-use Rattle.basics.specs.Refusals.{Refusal, pick}
+use lib.ListN.{length, length-map}
+use Rattle.basics.specs.Refusals.{Refusal, unless, pick}
 use Rattle.replies.specs.Replies.{count, inserted, reply}
 use Rattle.geometry.specs.declared.Position.{Position}
 use Rattle.geometry.specs.Domain.{positionInDomain, radiusInDomain}
 use Rattle.geometry.specs.Rectangle.{lowerCorner, upperCorner}
+use Rattle.slot_walks.specs.Live.{handleAt, liveFrom}
 use Rattle.point_tables.specs.Tables.{Tables}
 use Rattle.point_tables.specs.Decide.{holds}
 use Rattle.point_tables.specs.Outcome.{outcome}
@@ -46,6 +47,21 @@ module _ (t : Tables) (ok : Bool) (ll ur : Position) (test : Test) (hs : List (L
   unfolding searchOf searchAnswer
   search = tested (ofFindings t) _ (λ a. findings (count a (pick (eqb a 9) finds 0)) hs ps) refl (at-nine zero-position t (outputs hs ps []) finds) _ refl
 
+-- `handles` has a row for each object
+module _ (t : Tables) (out : List (List ℕ)) where
+  abbrev listedBy : ℕ → Type 0
+  listedBy n = Tested (unless (holds t) 3 ∷ unless (leb n (length out)) 9 ∷ []) (refused zero-position n t (outputs out [] [])) (ofListing t (handlesOf t out))
+
+  listed : listedBy (length (liveHandles t))
+  unfolding handlesOf
+  listed =
+      let n = length (liveHandles t) in
+      tested (ofListing t) _ (λ a. listing (count a (pick (eqb a 9) n 0)) out) refl (at-nine zero-position t (outputs out [] []) n) _ refl
+
+  as-many : length (liveHandles t) ≡ length (liveSlots t)
+  unfolding liveHandles liveSlots
+  as-many = length-map (liveFrom 0 (t .nums)) (handleAt (t .nums))
+
 pub step : (t : Tables) (c : PointCall) → Tested (refusals t c) (refusedWith t c) (leaves t c)
 unfolding leaves refusals numberFound
 step t (new size) = unfold newOf newAnswer in tested ofNumber _ (λ a. outcome a t) refl (no-nine zero-position t none) _ refl
@@ -65,10 +81,7 @@ step t (clear ps os) =
     tested ofWritten _ (λ a. outcome (wrote (count a (pick (eqb a 9) n 0)) ps os) t) refl (at-nine zero-position t (outputs [] ps os) n) _ refl
 step t (get h) = unfold getOf in tested (ofGot t) _ (λ a. got a zero-position 0) refl (no-nine zero-position t none) _ refl
 step t len = unfold lenOf in tested (ofCount t) _ (λ a. count a 0) refl (no-nine zero-position t none) _ refl
-step t (handles out) =
-    unfold handlesOf in
-    let n = length (liveHandles t) in
-    tested (ofListing t) _ (λ a. listing (count a (pick (eqb a 9) n 0)) out) refl (at-nine zero-position t (outputs out [] []) n) _ refl
+step t (handles out) = subst (listedBy t out) (as-many t out) (listed t out)
 step t (query ll ur hs ps) = unfold queryOf in search t (positionInDomain ll && positionInDomain ur) ll ur Any hs ps
 step t (queryAround c r hs ps) =
     unfold aroundOf in search t (positionInDomain c && radiusInDomain r) (cornerBelow c r) (cornerAbove c r) (Circle c r) hs ps
