@@ -65,7 +65,7 @@ ofReply o = left (o .result .answer) (theData zero-aabb (o .result .obj)) (o .af
 abbrev pub ofWritten : Outcome Written → Leaves
 ofWritten o = let w = o .result in left (w .returned .answer) (theCount zero-aabb (w .returned .count)) (o .after) (outputs [] (w .boxes) (w .objs))
 
--- the calls that only read
+-- the calls that only read: the tables are lent to them by `&`
 abbrev pub ofGot : Tables → Got → Leaves
 ofGot t g = left (g .answer) (theObject (g .aabb) (g .obj)) t none
 
@@ -119,5 +119,6 @@ numberFound t (handles out) = length (liveSlots t)
 numberFound t (queryBroad q hs) = length (broad t q)
 numberFound t (query q hs bs os) = length (narrow t q)
 
+-- what a call leaves if it is refused with number n
 abbrev pub refusedWith : Tables → BoxCall → ℕ → Leaves
 refusedWith t c n = refused zero-aabb (numberFound t c) t (lentTo c) n

@@ -84,7 +84,7 @@ abbrev pub ofWritten : Outcome Written → Leaves
 ofWritten o =
     let w = o .result in left (w .returned .answer) (theCount zero-position (w .returned .count)) (o .after) (outputs [] (w .places) (w .objs))
 
--- the calls that only read
+-- the calls that only read: the tables are lent to them by `&`
 abbrev pub ofGot : Tables → Got → Leaves
 ofGot t g = left (g .answer) (theObject (g .position) (g .obj)) t none
 
@@ -147,6 +147,7 @@ numberFound t (query ll ur hs ps) = length (queryFinds t ll ur)
 numberFound t (queryAround c r hs ps) = length (aroundFinds t c r)
 numberFound t (queryAabb a b hs ps) = length (aabbFinds t a b)
 
+-- what a call leaves if it is refused with number n
 abbrev pub refusedWith : Tables → PointCall → ℕ → Leaves
 refusedWith t c n = refused zero-position (numberFound t c) t (lentTo c) n
 
