@@ -1,0 +1,2 @@
+-- What the calls take, made of its numbers.
+pub mod Made

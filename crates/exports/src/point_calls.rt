@@ -1,0 +1,432 @@
+// The calls of the point grid for C and Rust: each is the call of `points` with its numbers taken apart, and has its promise.
+ghost use mathlib.Core.Path.{_≡_};
+ghost use Rattle.point_tables.specs.Lent.{after, before};
+ghost use Rattle.point_tables.specs.Outcome.{outcome};
+ghost use Rattle.inserts.specs.New.{newOf};
+ghost use Rattle.inserts.specs.Insert.{insertOf};
+ghost use Rattle.moves.specs.Moves.{setPositionOf, removeOf};
+ghost use Rattle.moves.specs.Batch.{batched, batchOf};
+ghost use Rattle.removals.specs.Meaning.RemoveMaintain.{removeMaintainOf};
+ghost use Rattle.removals.specs.Meaning.Clear.{wrote, clearOf};
+ghost use Rattle.reads.specs.Meaning.{got, getOf, lenOf, handlesOf, listing};
+ghost use Rattle.queries.specs.Queries.{findings, queryOf, aroundOf, aabbOf};
+ghost use Rattle.maintain.specs.Maintain.{maintainedCounts, maintainOf};
+ghost use Rattle.replies.specs.Replies.{reply, count, inserted};
+ghost use Rattle.exports.specs.Made.{handle, position};
+use crate::BatchReply;
+use crate::Count;
+use crate::Inserted;
+use crate::Maintained;
+use crate::PointGot;
+use crate::Reply;
+use geometry::Position;
+use slots::Handle;
+
+// `new`. 3, 2.
+#[no_mangle]
+pub extern "C" fn chavrupas_points_new(
+    nums: &mut [[u32; 4]],
+    reals: &[[f32; 4]],
+    ints: &[[i32; 4]],
+    map: &mut [u64],
+    pool: &[[u64; 2]],
+    spots: &[[f32; 2]],
+    cells: &[[u64; 2]],
+    size: u32,
+) -> u32
+    ensures { λ r. ⌜ outcome r (after nums reals ints map pool spots cells) ≡ newOf (before nums reals ints map pool spots cells) size ⌝ }
+{
+    points::new(nums, reals, ints, map, pool, spots, cells, size)
+}
+
+// `insert`. 3, 6, 4.
+#[no_mangle]
+pub extern "C" fn chavrupas_points_insert(
+    nums: &mut [[u32; 4]],
+    reals: &mut [[f32; 4]],
+    ints: &mut [[i32; 4]],
+    map: &mut [u64],
+    pool: &mut [[u64; 2]],
+    spots: &mut [[f32; 2]],
+    cells: &mut [[u64; 2]],
+    x: f32,
+    y: f32,
+    obj: u32,
+) -> Inserted
+    ensures { λ r. ⌜ outcome (inserted (r .answer) (r .slot) (r .version)) (after nums reals ints map pool spots cells) ≡ insertOf (before nums reals ints map pool spots cells) (position x y) obj ⌝ }
+{
+    let r = points::insert(
+        nums,
+        reals,
+        ints,
+        map,
+        pool,
+        spots,
+        cells,
+        Position { x, y },
+        obj,
+    );
+    Inserted {
+        answer: r.answer,
+        slot: r.handle.slot,
+        version: r.handle.version,
+    }
+}
+
+// `set_position`. 3, 6, 5, 1.
+#[no_mangle]
+pub extern "C" fn chavrupas_points_set_position(
+    nums: &mut [[u32; 4]],
+    reals: &mut [[f32; 4]],
+    ints: &mut [[i32; 4]],
+    map: &[u64],
+    pool: &[[u64; 2]],
+    spots: &[[f32; 2]],
+    cells: &mut [[u64; 2]],
+    slot: u32,
+    version: u32,
+    x: f32,
+    y: f32,
+) -> u32
+    ensures { λ r. ⌜ outcome (reply r 0) (after nums reals ints map pool spots cells) ≡ setPositionOf (before nums reals ints map pool spots cells) (handle slot version) (position x y) ⌝ }
+{
+    points::set_position(
+        nums,
+        reals,
+        ints,
+        map,
+        pool,
+        spots,
+        cells,
+        Handle { slot, version },
+        Position { x, y },
+    )
+}
+
+// `remove`. 3, 5.
+#[no_mangle]
+pub extern "C" fn chavrupas_points_remove(
+    nums: &mut [[u32; 4]],
+    reals: &mut [[f32; 4]],
+    ints: &mut [[i32; 4]],
+    map: &[u64],
+    pool: &[[u64; 2]],
+    spots: &[[f32; 2]],
+    cells: &mut [[u64; 2]],
+    slot: u32,
+    version: u32,
+) -> Reply
+    ensures { λ r. ⌜ outcome (reply (r .answer) (r .obj)) (after nums reals ints map pool spots cells) ≡ removeOf (before nums reals ints map pool spots cells) (handle slot version) ⌝ }
+{
+    let r = points::remove(
+        nums,
+        reals,
+        ints,
+        map,
+        pool,
+        spots,
+        cells,
+        Handle { slot, version },
+    );
+    Reply {
+        answer: r.answer,
+        obj: r.obj,
+    }
+}
+
+// `batch`. 3, 9 with the number of calls.
+#[no_mangle]
+pub extern "C" fn chavrupas_points_batch(
+    nums: &mut [[u32; 4]],
+    reals: &mut [[f32; 4]],
+    ints: &mut [[i32; 4]],
+    map: &[u64],
+    pool: &[[u64; 2]],
+    spots: &[[f32; 2]],
+    cells: &mut [[u64; 2]],
+    kinds: &[u32],
+    handles: &[[u32; 2]],
+    positions: &[[f32; 2]],
+    out: &mut [[u32; 2]],
+) -> BatchReply
+    ensures { λ r. ⌜ outcome (batched (r .answer) (r .count) (now (out .exit))) (after nums reals ints map pool spots cells) ≡ batchOf (before nums reals ints map pool spots cells) (now (kinds .entry)) (now (handles .entry)) (now (positions .entry)) (now (out .entry)) ⌝ }
+{
+    let r = points::batch(
+        nums,
+        reals,
+        ints,
+        map,
+        pool,
+        spots,
+        cells,
+        kinds,
+        handles,
+        positions,
+        out,
+    );
+    BatchReply {
+        answer: r.answer,
+        count: r.count,
+    }
+}
+
+// `maintain`. 3.
+#[no_mangle]
+pub extern "C" fn chavrupas_points_maintain(
+    nums: &mut [[u32; 4]],
+    reals: &mut [[f32; 4]],
+    ints: &mut [[i32; 4]],
+    map: &mut [u64],
+    pool: &mut [[u64; 2]],
+    spots: &mut [[f32; 2]],
+    cells: &mut [[u64; 2]],
+) -> Maintained
+    ensures { λ r. ⌜ outcome (maintainedCounts (r .answer) (r .moved) (r .removed)) (after nums reals ints map pool spots cells) ≡ maintainOf (before nums reals ints map pool spots cells) ⌝ }
+{
+    let r = points::maintain(nums, reals, ints, map, pool, spots, cells);
+    Maintained {
+        answer: r.answer,
+        moved: r.moved,
+        removed: r.removed,
+    }
+}
+
+// `remove_maintain`. 3, 5.
+#[no_mangle]
+pub extern "C" fn chavrupas_points_remove_maintain(
+    nums: &mut [[u32; 4]],
+    reals: &[[f32; 4]],
+    ints: &[[i32; 4]],
+    map: &mut [u64],
+    pool: &mut [[u64; 2]],
+    spots: &mut [[f32; 2]],
+    cells: &mut [[u64; 2]],
+    slot: u32,
+    version: u32,
+) -> Reply
+    ensures { λ r. ⌜ outcome (reply (r .answer) (r .obj)) (after nums reals ints map pool spots cells) ≡ removeMaintainOf (before nums reals ints map pool spots cells) (handle slot version) ⌝ }
+{
+    let r = points::remove_maintain(
+        nums,
+        reals,
+        ints,
+        map,
+        pool,
+        spots,
+        cells,
+        Handle { slot, version },
+    );
+    Reply {
+        answer: r.answer,
+        obj: r.obj,
+    }
+}
+
+// `clear`. 3, 9 with the number of objects.
+#[no_mangle]
+pub extern "C" fn chavrupas_points_clear(
+    nums: &mut [[u32; 4]],
+    reals: &[[f32; 4]],
+    ints: &[[i32; 4]],
+    map: &mut [u64],
+    pool: &[[u64; 2]],
+    spots: &[[f32; 2]],
+    cells: &[[u64; 2]],
+    places: &mut [[f32; 2]],
+    objs: &mut [u32],
+) -> Count
+    ensures { λ r. ⌜ outcome (wrote (count (r .answer) (r .count)) (now (places .exit)) (now (objs .exit))) (after nums reals ints map pool spots cells) ≡ clearOf (before nums reals ints map pool spots cells) (now (places .entry)) (now (objs .entry)) ⌝ }
+{
+    let r = points::clear(nums, reals, ints, map, pool, spots, cells, places, objs);
+    Count {
+        answer: r.answer,
+        count: r.count,
+    }
+}
+
+// `get`. 3, 5.
+#[no_mangle]
+pub extern "C" fn chavrupas_points_get(
+    nums: &[[u32; 4]],
+    reals: &[[f32; 4]],
+    ints: &[[i32; 4]],
+    map: &[u64],
+    pool: &[[u64; 2]],
+    spots: &[[f32; 2]],
+    cells: &[[u64; 2]],
+    slot: u32,
+    version: u32,
+) -> PointGot
+    ensures { λ r. ⌜ got (r .answer) (position (r .x) (r .y)) (r .obj) ≡ getOf (before nums reals ints map pool spots cells) (handle slot version) ⌝ }
+{
+    let r = points::get(
+        nums,
+        reals,
+        ints,
+        map,
+        pool,
+        spots,
+        cells,
+        Handle { slot, version },
+    );
+    PointGot {
+        answer: r.answer,
+        x: r.position.x,
+        y: r.position.y,
+        obj: r.obj,
+    }
+}
+
+// `len`. 3.
+#[no_mangle]
+pub extern "C" fn chavrupas_points_len(
+    nums: &[[u32; 4]],
+    reals: &[[f32; 4]],
+    ints: &[[i32; 4]],
+    map: &[u64],
+    pool: &[[u64; 2]],
+    spots: &[[f32; 2]],
+    cells: &[[u64; 2]],
+) -> Count
+    ensures { λ r. ⌜ count (r .answer) (r .count) ≡ lenOf (before nums reals ints map pool spots cells) ⌝ }
+{
+    let r = points::len(nums, reals, ints, map, pool, spots, cells);
+    Count {
+        answer: r.answer,
+        count: r.count,
+    }
+}
+
+// `handles`. 3, 9 with the number of objects.
+#[no_mangle]
+pub extern "C" fn chavrupas_points_handles(
+    nums: &[[u32; 4]],
+    reals: &[[f32; 4]],
+    ints: &[[i32; 4]],
+    map: &[u64],
+    pool: &[[u64; 2]],
+    spots: &[[f32; 2]],
+    cells: &[[u64; 2]],
+    out: &mut [[u32; 2]],
+) -> Count
+    ensures { λ r. ⌜ listing (count (r .answer) (r .count)) (now (out .exit)) ≡ handlesOf (before nums reals ints map pool spots cells) (now (out .entry)) ⌝ }
+{
+    let r = points::handles(nums, reals, ints, map, pool, spots, cells, out);
+    Count {
+        answer: r.answer,
+        count: r.count,
+    }
+}
+
+// `query`. 3, 6, 7, 9 with the number found.
+#[no_mangle]
+pub extern "C" fn chavrupas_points_query(
+    nums: &[[u32; 4]],
+    reals: &[[f32; 4]],
+    ints: &[[i32; 4]],
+    map: &[u64],
+    pool: &[[u64; 2]],
+    spots: &[[f32; 2]],
+    cells: &[[u64; 2]],
+    left: f32,
+    low: f32,
+    right: f32,
+    high: f32,
+    found: &mut [[u32; 2]],
+    places: &mut [[f32; 2]],
+) -> Count
+    ensures { λ r. ⌜ findings (count (r .answer) (r .count)) (now (found .exit)) (now (places .exit)) ≡ queryOf (before nums reals ints map pool spots cells) (position left low) (position right high) (now (found .entry)) (now (places .entry)) ⌝ }
+{
+    let r = points::query(
+        nums,
+        reals,
+        ints,
+        map,
+        pool,
+        spots,
+        cells,
+        Position { x: left, y: low },
+        Position { x: right, y: high },
+        found,
+        places,
+    );
+    Count {
+        answer: r.answer,
+        count: r.count,
+    }
+}
+
+// `query_around`. 3, 6, 7, 9 with the number found.
+#[no_mangle]
+pub extern "C" fn chavrupas_points_query_around(
+    nums: &[[u32; 4]],
+    reals: &[[f32; 4]],
+    ints: &[[i32; 4]],
+    map: &[u64],
+    pool: &[[u64; 2]],
+    spots: &[[f32; 2]],
+    cells: &[[u64; 2]],
+    x: f32,
+    y: f32,
+    radius: f32,
+    found: &mut [[u32; 2]],
+    places: &mut [[f32; 2]],
+) -> Count
+    ensures { λ r. ⌜ findings (count (r .answer) (r .count)) (now (found .exit)) (now (places .exit)) ≡ aroundOf (before nums reals ints map pool spots cells) (position x y) radius (now (found .entry)) (now (places .entry)) ⌝ }
+{
+    let r = points::query_around(
+        nums,
+        reals,
+        ints,
+        map,
+        pool,
+        spots,
+        cells,
+        Position { x, y },
+        radius,
+        found,
+        places,
+    );
+    Count {
+        answer: r.answer,
+        count: r.count,
+    }
+}
+
+// `query_aabb`: the corners may come in any order. 3, 6, 7, 9 with the number found.
+#[no_mangle]
+pub extern "C" fn chavrupas_points_query_aabb(
+    nums: &[[u32; 4]],
+    reals: &[[f32; 4]],
+    ints: &[[i32; 4]],
+    map: &[u64],
+    pool: &[[u64; 2]],
+    spots: &[[f32; 2]],
+    cells: &[[u64; 2]],
+    left: f32,
+    low: f32,
+    right: f32,
+    high: f32,
+    found: &mut [[u32; 2]],
+    places: &mut [[f32; 2]],
+) -> Count
+    ensures { λ r. ⌜ findings (count (r .answer) (r .count)) (now (found .exit)) (now (places .exit)) ≡ aabbOf (before nums reals ints map pool spots cells) (position left low) (position right high) (now (found .entry)) (now (places .entry)) ⌝ }
+{
+    let r = points::query_aabb(
+        nums,
+        reals,
+        ints,
+        map,
+        pool,
+        spots,
+        cells,
+        Position { x: left, y: low },
+        Position { x: right, y: high },
+        found,
+        places,
+    );
+    Count {
+        answer: r.answer,
+        count: r.count,
+    }
+}
