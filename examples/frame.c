@@ -1,0 +1,68 @@
+/* A frame at a desk, from C: points come in, trackers move them in one batch, maintain ends the frame, a circle finds what is near a wrist.
+   ./examples/run compiles and runs it, and compares what it prints with frame.out. */
+#include <stdio.h>
+#include <stdlib.h>
+
+#include "chavrupas.h"
+
+enum { SLOTS = 4, CELL = 64 };
+
+static CHAVRUPAS_POINT_GRID(SLOTS) desk;
+
+/* Every answer is looked at: one that is not 0 has changed nothing. */
+static void done(uint32_t answer, const char *call)
+{
+    if (answer == 0) return;
+    fprintf(stderr, "%s: answer %u\n", call, (unsigned)answer);
+    exit(1);
+}
+
+static chavrupas_handle enter(float x, float y, uint32_t obj)
+{
+    chavrupas_inserted r = chavrupas_points_insert(CHAVRUPAS_POINTS(desk), x, y, obj);
+    done(r.answer, "insert");
+    return (chavrupas_handle){r.slot, r.version};
+}
+
+/* The trackers' calls of one frame, with one check of the tables: two moves and a removal. */
+static void track(chavrupas_handle hand, chavrupas_handle finger, chavrupas_handle lamp)
+{
+    const uint32_t kinds[] = {0, 0, 1};
+    const chavrupas_handle handles[] = {hand, finger, lamp};
+    const chavrupas_position positions[] = {{2100, 500}, {2112, 508}, {0, 0}};
+    chavrupas_reply out[3];
+    chavrupas_batch_reply r = chavrupas_points_batch(CHAVRUPAS_POINTS(desk), CHAVRUPAS_ALL(kinds), CHAVRUPAS_ALL(handles),
+        CHAVRUPAS_ALL(positions), CHAVRUPAS_ALL(out));
+    done(r.answer, "batch");
+    for (uint64_t i = 0; i < r.count; i++) done(out[i].answer, "a call of the batch");
+    printf("batch of %u; the last call removed data %u\n", (unsigned)r.count, (unsigned)out[2].obj);
+}
+
+static void circle(float x, float y, float radius)
+{
+    chavrupas_handle found[SLOTS];
+    chavrupas_position places[SLOTS];
+    chavrupas_count r = chavrupas_points_query_around(CHAVRUPAS_POINTS(desk), x, y, radius, CHAVRUPAS_ALL(found), CHAVRUPAS_ALL(places));
+    done(r.answer, "query_around");
+    printf("within %g of (%g, %g): %u\n", radius, x, y, (unsigned)r.count);
+    for (uint32_t i = 0; i < r.count; i++)
+        printf("  slot %u version %u at (%g, %g)\n", (unsigned)found[i].slot, (unsigned)found[i].version, places[i].x, places[i].y);
+}
+
+int main(void)
+{
+    done(chavrupas_points_new(CHAVRUPAS_POINTS(desk), CELL), "new");
+    chavrupas_handle hand = enter(100, 500, 1), finger = enter(112, 508, 2), lamp = enter(2090, 520, 3);
+
+    track(hand, finger, lamp);
+    circle(100, 500, 30); /* what is pending is not seen before maintain */
+    chavrupas_maintained m = chavrupas_points_maintain(CHAVRUPAS_POINTS(desk));
+    done(m.answer, "maintain");
+    printf("maintain: %u moved, %u removed\n", (unsigned)m.moved, (unsigned)m.removed);
+    circle(100, 500, 30);
+    circle(2100, 500, 30); /* 2,000 pixels in a frame, and not lost */
+
+    chavrupas_point_got g = chavrupas_points_get(CHAVRUPAS_POINTS(desk), lamp.slot, lamp.version);
+    printf("the lamp's handle: answer %u\n", (unsigned)g.answer);
+    return 0;
+}
