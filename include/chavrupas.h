@@ -25,10 +25,10 @@
    A call that answers 0 writes only the places of an output that it fills.
 
    What the library refuses, and what it cannot. Any length (0 too), any number, NaN and infinities, any handle and any damage to the tables get an
-   answer, and never a trap. It cannot see where a pointer points. A pointer that is null or misaligned, that reaches less memory than its length
-   says, or a table or output that the call writes (no const) and that overlaps another one, is the caller's fault, and undefined as in all of C.
-   Align rows as their numbers: 8 bytes for uint64_t, 4 for the others. With length 0 the pointer is not read. So are two calls at once of which
-   one writes what the other reads or writes. A call takes up to 140 KB of stack.
+   answer, and never a trap. It cannot see where a pointer points. These are the caller's fault, and undefined as in all of C: a pointer that is null
+   or misaligned (rows are aligned as their numbers: 8 bytes for uint64_t, 4 for the others) or that reaches less memory than its length says; a table
+   or output that the call writes (no const) and that overlaps another; two calls at once of which one writes what the other reads or writes.
+   Where the length is 0 the pointer is not read, and may be null. A call takes up to 140 KB of stack.
 
    Domain. Coordinates are finite, from -1,048,576 to 1,048,576. Data is one 32-bit number for an object. */
 

@@ -1,0 +1,39 @@
+//! The frame of examples/frame.c, from Rust: it prints the same. `cargo run --example frame`.
+use chavrupas::{Grid, Handle, Kind, Refusal, Reply};
+
+/// The trackers' calls of one frame, with one check of the tables: two moves and a removal.
+fn track(desk: &mut Grid, handles: [Handle; 3]) -> Result<(), Refusal> {
+    let kinds = [Kind::SetPosition, Kind::SetPosition, Kind::Remove];
+    let mut out = [Reply::default(); 3];
+    let calls = desk.batch(&kinds, &handles, &[[2100.0, 500.0], [2112.0, 508.0], [0.0, 0.0]], &mut out)?;
+    for reply in out {
+        reply.result()?;
+    }
+    println!("batch of {calls}; the last call removed data {}", out[2].obj);
+    Ok(())
+}
+
+fn circle(desk: &mut Grid, [x, y]: [f32; 2], radius: f32) -> Result<(), Refusal> {
+    let found = desk.query_around([x, y], radius)?;
+    println!("within {radius} of ({x}, {y}): {}", found.len());
+    for f in found {
+        println!("  slot {} version {} at ({}, {})", f.handle.slot, f.handle.version, f.position[0], f.position[1]);
+    }
+    Ok(())
+}
+
+fn main() -> Result<(), Refusal> {
+    let mut desk = Grid::new(64, 4)?;
+    let (hand, finger) = (desk.insert([100.0, 500.0], 1)?, desk.insert([112.0, 508.0], 2)?);
+    let lamp = desk.insert([2090.0, 520.0], 3)?;
+
+    track(&mut desk, [hand, finger, lamp])?;
+    circle(&mut desk, [100.0, 500.0], 30.0)?; // what is pending is not seen before maintain
+    let m = desk.maintain();
+    println!("maintain: {} moved, {} removed", m.moved, m.removed);
+    circle(&mut desk, [100.0, 500.0], 30.0)?;
+    circle(&mut desk, [2100.0, 500.0], 30.0)?; // 2,000 pixels in a frame, and not lost
+
+    println!("the lamp's handle: answer {}", desk.get(lamp).map_or_else(Refusal::number, |_| 0));
+    Ok(())
+}

@@ -1,0 +1,71 @@
+use std::fmt;
+
+/// Why a call was refused: the answer numbers 1 to 9. A refused call has changed nothing.
+#[derive(Clone, Copy, Debug, PartialEq, Eq, Hash)]
+#[repr(u32)]
+pub enum Refusal {
+    /// 1: `set_position` on an object that is marked removed.
+    Removed = 1,
+    /// 2: a cell size that is not from 1 to 1,048,576.
+    CellSize = 2,
+    /// 3: a number of slots or entries outside the limits (in `new`), or lists of unequal length (in `batch`).
+    Tables = 3,
+    /// 4: every slot is occupied or retired.
+    NoUsableSlot = 4,
+    /// 5: no object has this handle, or none has it any more.
+    BadHandle = 5,
+    /// 6: a coordinate or radius that is NaN or too large, a negative radius, a reversed box.
+    OutsideDomain = 6,
+    /// 7: more than 4,096 cells.
+    TooManyCells = 7,
+    /// 8: a box for which the pool has no room.
+    PoolFull = 8,
+    /// 9: fewer places for the replies than calls (in `batch`).
+    OutputTooShort = 9,
+}
+
+impl Refusal {
+    /// The answer number, from 1 to 9.
+    pub fn number(self) -> u32 {
+        self as u32
+    }
+
+    /// What an answer number says: nothing for 0, which is "done", and for numbers that are no answers.
+    pub fn of(answer: u32) -> Option<Refusal> {
+        use Refusal::*;
+        let all = [Removed, CellSize, Tables, NoUsableSlot, BadHandle, OutsideDomain, TooManyCells, PoolFull, OutputTooShort];
+        all.into_iter().find(|r| r.number() == answer)
+    }
+}
+
+impl fmt::Display for Refusal {
+    fn fmt(&self, f: &mut fmt::Formatter<'_>) -> fmt::Result {
+        f.write_str(match self {
+            Refusal::Removed => "set_position on an object marked removed",
+            Refusal::CellSize => "cell size outside its limits",
+            Refusal::Tables => "tables of wrong length or not holding a grid",
+            Refusal::NoUsableSlot => "no usable slot",
+            Refusal::BadHandle => "handle not good",
+            Refusal::OutsideDomain => "coordinate or radius outside the domain, box reversed",
+            Refusal::TooManyCells => "range or box over 4,096 cells",
+            Refusal::PoolFull => "entries in use, less the box's old ones, plus its new ones, exceed the pool",
+            Refusal::OutputTooShort => "output shorter than the findings",
+        })
+    }
+}
+
+impl std::error::Error for Refusal {}
+
+/// What a call gives, if it answers 0.
+pub(crate) fn answered<T>(answer: u32, given: T) -> Result<T, Refusal> {
+    match Refusal::of(answer) {
+        Some(refusal) => Err(refusal),
+        None => Ok(given),
+    }
+}
+
+/// For calls that nothing can refuse on tables that only these calls have changed.
+pub(crate) fn done<T>(answer: u32, given: T) -> T {
+    assert_eq!(answer, 0, "the tables of the grid were overwritten");
+    given
+}
