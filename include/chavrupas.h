@@ -1,4 +1,4 @@
-/* Chavrupas: a grid of points and a grid of boxes, for C. Every call has a machine-checked proof that it does what is said here.
+/* Chavrupas: a grid of points and a grid of boxes, for C. Every call has a machine-checked proof of what it answers, writes and leaves alone.
 
    Build      rt staticlib exports       writes target/staticlib/libexports.a; for x86-64 Linux only
    Link       cc -I include yours.c target/staticlib/libexports.a
