@@ -95,14 +95,6 @@ pub fn item_of(s: usize, single: bool) -> u64
     i
 }
 
-pub fn item_for(size: u64, s: usize, b: Aabb) -> u64
-    requires { ⌜ (s < 256) × SizeInDomain size × T (aabbInDomain b) ⌝ }
-    ensures { λ r. ⌜ r ≡ itemFor size s b ⌝ }
-{
-    let n = covers(size, b);
-    item_of(s, n == 1)
-}
-
 // Whether the cell size is in its limits and the entries in use are within the pool.
 fn counts_ok(size: u64, used: usize, pool: usize) -> bool
     ensures { λ b. ⌜ Says b (Counts size used pool) ⌝ }

@@ -265,24 +265,6 @@ pub fn cells_in(a: Cell, b: Cell) -> u64
     columns * rows
 }
 
-fn between(a: i32, b: i32, n: i32) -> bool
-    ensures { λ r. ⌜ r ≡ (leZ a n && leZ n b) ⌝ }
-{
-    if a <= n {
-        return n <= b;
-    }
-    false
-}
-
-pub fn in_range(a: Cell, b: Cell, c: Cell) -> bool
-    ensures { λ r. ⌜ r ≡ inRange a b c ⌝ }
-{
-    if between(a.x, b.x, c.x) {
-        return between(a.y, b.y, c.y);
-    }
-    false
-}
-
 pub fn key_of(c: Cell) -> u64
     ensures { λ r. ⌜ r ≡ keyOf c ⌝ }
 {

@@ -196,44 +196,6 @@ pub fn pending_ok(size: u64, c: Cell, x: Span, y: Span, tag: u32, q: [f32; 4], z
     )
 }
 
-pub fn is_removed(s: State) -> bool
-    ensures { λ r. ⌜ r ≡ isRemoved s ⌝ }
-{
-    match s {
-        State::Unchanged => false,
-        State::NewPos(_) => false,
-        State::Relocate(_, _) => false,
-        State::Removed => true,
-    }
-}
-
-// What a new position makes pending for an object of cell c.
-pub fn aim(size: u64, c: Cell, at: Position) -> State
-    requires { ⌜ SizeInDomain size × InDomain at ⌝ }
-    ensures { λ r. ⌜ r ≡ aimed size c at ⌝ }
-{
-    let d = cells::cell_at(size, at);
-    if cells::same_cell(d, c) {
-        return State::NewPos(at);
-    }
-    State::Relocate(at, d)
-}
-
-pub fn with_state(r: Record, s: State) -> Record
-    ensures { λ q. ⌜ q ≡ withState r s ⌝ }
-{
-    let p = r.position;
-    let c = r.cell;
-    Record {
-        version: r.version,
-        phase: r.phase,
-        obj: r.obj,
-        position: p,
-        cell: c,
-        state: s,
-    }
-}
-
 // The key of the recorded cell.
 pub fn key_of(r: Record) -> u64
     ensures { λ k. ⌜ k ≡ keyOf (r .cell) ⌝ }

@@ -208,31 +208,3 @@ pub fn past_ok(map: &[u64], n: usize) -> bool
     }
     false
 }
-
-// Whether each slot holds.
-fn each_ok(nums: &[[u32; 4]], map: &[u64]) -> bool
-    requires { ⌜ length (now map) ≡ 3 + wordsFor (length (now nums)) ⌝ }
-    ensures { λ r. ⌜ Says r ((s : ℕ) → s < length (now (nums .entry)) → SlotHolds (versionAt (now (nums .entry)) s) (phaseAt (now (nums .entry)) s) (usable (now (map .entry)) s)) ⌝ }
-{
-    let mut i = 0;
-    while i < nums.len() {
-        let row = nums[i];
-        let mapped = is_usable(map, i);
-        if !slot_ok(row[0], row[1], mapped) {
-            return false;
-        }
-        i += 1;
-    }
-    true
-}
-
-// Whether the slots hold, and the map past them.
-pub fn slots_ok(nums: &[[u32; 4]], map: &[u64]) -> bool
-    requires { ⌜ length (now map) ≡ 3 + wordsFor (length (now nums)) ⌝ }
-    ensures { λ r. ⌜ Says r (SlotsHold (now (nums .entry)) (now (map .entry))) ⌝ }
-{
-    if !each_ok(nums, map) {
-        return false;
-    }
-    past_ok(map, nums.len())
-}

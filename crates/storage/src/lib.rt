@@ -1,12 +1,10 @@
 // The cell storage: find, append, take out, mark, walk. The pool is kept sorted by cell key.
-mod check;
 mod find;
 mod gap;
 mod pool;
 mod table;
 mod walk;
 
-pub use check::packed_ok;
 pub use find::key_at;
 pub use find::lower_bound;
 pub use find::lower_bound_from;
@@ -14,7 +12,6 @@ pub use find::upper_bound;
 pub use pool::append_entry;
 pub use pool::append_row;
 pub use pool::take_entry;
-pub use pool::take_row;
 pub use table::drop_cell;
 pub use table::enter_cell;
 pub use table::has_key;
