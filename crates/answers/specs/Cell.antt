@@ -1,7 +1,7 @@
 -- `cell` builds both grids anew. Assumes nothing.
 use Prim.Native.Nat.{ℕ}
-use mathlib.Core.Path.{_≡_, refl}
-use mathlib.Core.Bool.{Bool, true, false}
+use mathlib.Core.Path.{_≡_}
+use mathlib.Core.Bool.{true, false}
 use Rattle.blank.specs.Blank.{sizeOk}
 use Rattle.point_tables.specs.Tables as point
 use Rattle.point_tables.specs.Decide as point-decide
@@ -10,7 +10,7 @@ use Rattle.box_tables.specs.Decide as box-decide
 use Rattle.inserts.specs.New as point-new
 use Rattle.box_inserts.specs.New as box-new
 use Rattle.printing.specs.declared.Said.{Said}
-use Rattle.printing.specs.declared.Said.the-variants.{Refused, Done}
+use Rattle.printing.specs.declared.Said.the-variants.{Refused}
 use Rattle.telling.specs.Tells.{tells, doneOr}
 
 -- what is said, and both grids after it
@@ -34,7 +34,3 @@ module _ (p : point.Tables) (b : box.Tables) (size : ℕ) (right : point-decide.
   pub cell-refused : sizeOk size ≡ false → cellOf p b size ≡ built (Refused 2) p b
   unfolding cellOf point-new.newOf point-new.newAnswer box-new.newOf box-new.newAnswer
   cell-refused h = simp (right, right′, h)
-
-  pub cell-done : sizeOk size ≡ true → cellOf p b size ≡ built Done (point-new.built p size) (box-new.built b size)
-  unfolding cellOf point-new.newOf point-new.newAnswer box-new.newOf box-new.newAnswer
-  cell-done h = simp (right, right′, h)

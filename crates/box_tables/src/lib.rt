@@ -10,7 +10,7 @@ ghost use Rattle.cells.specs.Size.{SizeInDomain};
 ghost use Rattle.slots.specs.Map.{head};
 ghost use Rattle.box_tables.specs.Lent.{before};
 ghost use Rattle.box_tables.specs.Tables as Tables;
-ghost use Rattle.box_tables.specs.Tables.{Lengths, aabbAt, itemOf, itemFor};
+ghost use Rattle.box_tables.specs.Tables.{Lengths, aabbAt, itemOf};
 ghost use Rattle.box_tables.specs.Decide.{holds};
 ghost use Rattle.box_tables.specs.Way.{nextIn, lastIn, stepped, Bounded, spanOf, wayOf, wayAt};
 ghost use Rattle.box_tables.specs.Check.{Counts, BoxOk, SlotOk, SlotsOk, Room, Ways, Given, IsNext, Met, Passes, Ready};

@@ -3,8 +3,7 @@ ghost use mathlib.Core.Path.{_≡_};
 ghost use Prim.Native.Nat.{_<_, _≤_, _^_};
 ghost use lib.Dec.{T};
 ghost use lib.IntN.{pos};
-ghost use mathlib.Core.Bool.{_&&_};
-ghost use lib.Signed.{mag, _<ℤ_, leZ};
+ghost use lib.Signed.{mag, _<ℤ_};
 ghost use lib.Ieee.{binary32, ofInt};
 ghost use Rattle.basics.specs.Says.{Says};
 ghost use Rattle.geometry.specs.Domain.{within, inDomain};
@@ -13,7 +12,7 @@ ghost use Rattle.cells.specs.Size.{SizeInDomain};
 ghost use Rattle.cells.specs.CellRule.{wholeOf, cellOf, cellAt, Reached};
 ghost use Rattle.cells.specs.Span.{inSpan, Spans, LastBelow, FirstFrom};
 ghost use Rattle.cells.specs.Numbers.{Near};
-ghost use Rattle.cells.specs.Range.{countFrom, cellsIn, inRange};
+ghost use Rattle.cells.specs.Range.{countFrom, cellsIn};
 ghost use Rattle.cells.specs.Key.{upward, downward, keyOf, columnOf, rowOf, cellOfKey};
 use geometry::Position;
 

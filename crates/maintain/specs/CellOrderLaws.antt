@@ -86,9 +86,6 @@ module _ (t : Tables) (h : Holds t) where
   pub table-order : Order (cellKeys t) t
   table-order = record { distinct = keys-distinct; covers = λ k e. dirty-among k (cellRows t) e }
 
-  pub same-order : (ks : List ℕ) → Distinct ks → ((k : ℕ) → among k ks ≡ among k (cellKeys t)) → Order ks t
-  same-order ks d e = record { distinct = d; covers = λ k q. e k ∙ dirty-among k (cellRows t) q }
-
   -- a cell that is not in use has no list
   pub no-list : (k : ℕ) → among k (cellKeys t) ≡ false → listUnder t k ≡ []
   no-list k n =

@@ -32,10 +32,6 @@ pub kept-step : (f : Entry → Fate) (e : Entry) (es : List Entry) → kept f (e
 unfolding kept
 kept-step f e es = ap (λ (n : ℕ). staying (f e) ++ keptIn f n (rest (f e) es)) (sym (rest-length (f e) es))
 
-pub moving-step : (f : Entry → Fate) (e : Entry) (es : List Entry) → moving f (e ∷ es) ≡ leaving (f e) ++ moving f (rest (f e) es)
-unfolding moving
-moving-step f e es = ap (λ (n : ℕ). leaving (f e) ++ movingIn f n (rest (f e) es)) (sym (rest-length (f e) es))
-
 -- ---- what holds of all
 module _ (f : Entry → Fate) (P Q : Entry → Type 0) where
   kept-in-all : ((e : Entry) → P e → All Q (staying (f e))) → (n : ℕ) (es : List Entry) → length es ≤ n → All P es → All Q (keptIn f n es)

@@ -24,13 +24,13 @@ use Rattle.point_tables.specs.Tables.{Tables, counting, sizeOf, usedOf, rowsOf,
 use Rattle.point_tables.specs.Holds.{Counted, RecordHolds, Pending, ListsHold, Holds}
 use Rattle.point_tables.specs.CountLaws.{isLive}
 use Rattle.maintain.specs.Walk.{slotOf}
-use Rattle.maintain.specs.Maintain.{maintainedBy, maintained}
+use Rattle.maintain.specs.Maintain.{maintained}
 use Rattle.maintain.specs.Totals.{times}
 use Rattle.maintain.specs.Settle.{settledAll}
 use Rattle.maintain.specs.EntryLaws.{written-entries}
 use Rattle.maintain.specs.ListedLaws.{Named, Listing, from-listing}
-use Rattle.maintain.specs.Closed.{Order, settledEntries, settledTables}
-use Rattle.maintain.specs.SettledForm.{maintained-settled, maintained-is}
+use Rattle.maintain.specs.Closed.{settledEntries, settledTables}
+use Rattle.maintain.specs.SettledForm.{maintained-is}
 use Rattle.maintain.specs.RecordsAfterLaws.{all-slots, all-shaped, all-size, slots-hold, occupied-after, calm-after, tag-after}
 use Rattle.maintain.specs.ListsAfterLaws.{after-listing}
 use Rattle.maintain.specs.SpaceLaws.{after-most, after-rows-most, after-tabled}
@@ -190,8 +190,5 @@ module _ (t : Tables) (h : Holds t) where
           ∙ all-at (λ x. rowItem x ≡ 0) [] (fresh (map rowOf (settledEntries t))) r m unmarked
 
 -- ---- maintain, in any order and in the table's own
-pub maintained-by-keeps : (t : Tables) → Holds t → (ks : List ℕ) → Order ks t → Holds (maintainedBy ks t)
-maintained-by-keeps t h ks o = rw (maintained-settled t h ks o) (settled-keeps t h)
-
 pub maintained-keeps : (t : Tables) → Holds t → Holds (maintained t)
 maintained-keeps t h = rw (maintained-is t h) (settled-keeps t h)

@@ -1,7 +1,6 @@
--- The outcome of `maintain`: its answers, its counts, and that tables that hold a grid are followed by tables that do. Assumes nothing.
+-- The outcome of `maintain`: its counts, and that tables that hold a grid are followed by tables that do. Assumes nothing.
 use Prim.Native.Nat.{_+_}
 use mathlib.Core.Path.{_≡_, sym, _∙_, ap}
-use mathlib.Core.Logic.{_⊎_, inl, inr}
 use native.Mathlib.Omega.{arith}
 use Rattle.basics.specs.Says.{apart}
 use Rattle.storage.specs.FilterLaws.{by-test}
@@ -25,13 +24,6 @@ module _ (t : Tables) where
   pub maintain-refused : (Holds t → ⊥) → maintainOf t ≡ outcome (maintainedCounts 3 0 0) t
   unfolding maintainOf
   maintain-refused n = by-test (holds t) (λ e. absurd (n (holds-says t .yes e))) (λ e. rw e)
-
-  -- 0 exactly when the tables hold a grid, and else 3
-  pub maintain-answers : (maintainOf t .result .answer ≡ 0) ⊎ (maintainOf t .result .answer ≡ 3)
-  maintain-answers =
-      by-test (holds t)
-      (λ e. inl (ap (λ (o : Outcome Maintained). o .result .answer) (maintain-done (holds-says t .yes e))))
-      (λ e. inr (ap (λ (o : Outcome Maintained). o .result .answer) (maintain-refused (λ h. apart (sym e ∙ holds-says t .no h)))))
 
   pub maintain-accepted : maintainOf t .result .answer ≡ 0 → Holds t
   maintain-accepted a =

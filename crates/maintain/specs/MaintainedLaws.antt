@@ -1,32 +1,27 @@
--- What maintain leaves: of each slot, of the lists, and of the marks. Assumes nothing.
+-- What maintain leaves: of each slot, and of the marks. Assumes nothing.
 use Prim.Native.Nat.{ℕ, _<_}
 use mathlib.Core.Path.{_≡_, refl, sym, _∙_, ap}
 use mathlib.Core.Bool.{false, not}
-use mathlib.Core.List.{List, _++_}
 use lib.Dec.{eqb}
-use borrow.Author.Tests.{eq-eqb, ne-eqb}
+use borrow.Author.Tests.{eq-eqb}
 use Rattle.basics.specs.Refusals.{pick}
 use Rattle.basics.specs.Says.{apart}
-use Rattle.slots.specs.Slot.{live, nextVersion, nextPhase, phaseAt}
-use Rattle.storage.specs.Keyed.{under}
-use Rattle.storage.specs.Entries.{Entry, entryKey}
+use Rattle.slots.specs.Slot.{live, phaseAt}
 use Rattle.storage.specs.Packed.{second}
-use Rattle.storage.specs.AppendLaws.{under-appendAll}
 use Rattle.objects.specs.declared.State.{State}
 use Rattle.objects.specs.declared.State.the-variants.{Unchanged, NewPos, Relocate, Removed}
 use Rattle.objects.specs.declared.Record.{Record}
 use Rattle.objects.specs.Columns.{pendingOf, targetOf}
 use Rattle.objects.specs.States.{isRemoved}
-use Rattle.point_tables.specs.Tables.{Tables, sizeOf, rowsOf, slotsOf, recordOn, entriesIn}
+use Rattle.point_tables.specs.Tables.{Tables, rowsOf, slotsOf, recordOn}
 use Rattle.point_tables.specs.Holds.{Holds}
 use Rattle.point_tables.specs.CountLaws.{isLive}
 use Rattle.maintain.specs.Walk.{placed}
 use Rattle.maintain.specs.Maintain.{maintained}
 use Rattle.maintain.specs.SettleForm.{settledAs, settledRecord}
-use Rattle.maintain.specs.Closed.{keptUnder, keptEntries, relocatedBelow, settledEntries}
-use Rattle.maintain.specs.SettledForm.{kept-lists, maintained-is}
+use Rattle.maintain.specs.SettledForm.{maintained-is}
 use Rattle.maintain.specs.RecordsAfterLaws.{all-records, all-live}
-use Rattle.maintain.specs.MaintainKeeps.{after-size, after-slots, after-record, after-calm, after-marks, after-entries}
+use Rattle.maintain.specs.MaintainKeeps.{after-slots, after-record, after-calm, after-marks}
 
 -- an object that is not removed: at its pending position if it had one, else where it was, and nothing is pending any more
 pub settled-is : (r : Record) → isRemoved (r .state) ≡ false → settledRecord r ≡ placed r (pendingOf (r .state) (r .position)) (targetOf (r .state) (r .cell))
@@ -42,9 +37,6 @@ module _ (t : Tables) (h : Holds t) where
   pub maintained-slots : slotsOf (maintained t) ≡ slotsOf t
   maintained-slots = rw (maintained-is t h) (after-slots t h)
 
-  pub maintained-size : sizeOf (maintained t) ≡ sizeOf t
-  maintained-size = rw (maintained-is t h) (after-size t h)
-
   -- ---- slot by slot
   module _ (i : ℕ) (l : i < slotsOf t) where
     pub maintained-record : recordOn (maintained t) i ≡ pick (isLive t i) (settledRecord (recordOn t i)) (recordOn t i)
@@ -59,30 +51,9 @@ module _ (t : Tables) (h : Holds t) where
         → recordOn (maintained t) i ≡ placed (recordOn t i) (pendingOf (recordOn t i .state) (recordOn t i .position)) (targetOf (recordOn t i .state) (recordOn t i .cell))
     maintained-object p n = maintained-record ∙ rw (eq-eqb (phaseAt (t .nums) i) live p) (settled-is (recordOn t i) n)
 
-    -- a removed object's slot is emptied
-    pub maintained-gone : phaseAt (t .nums) i ≡ live → recordOn t i .state ≡ Removed
-        → (recordOn (maintained t) i .version ≡ nextVersion (recordOn t i .version)) × (recordOn (maintained t) i .phase ≡ nextPhase (recordOn t i .version))
-    maintained-gone p e =
-        let q : recordOn (maintained t) i ≡ settledAs (recordOn t i) Removed = maintained-record ∙ rw (eq-eqb (phaseAt (t .nums) i) live p) (ap (settledAs (recordOn t i)) e) in
-        (ap (λ (r : Record). r .version) q, ap (λ (r : Record). r .phase) q)
-
-    -- and a slot with no object is as it was
-    pub maintained-empty : (phaseAt (t .nums) i ≡ live → ⊥) → recordOn (maintained t) i ≡ recordOn t i
-    maintained-empty n = maintained-record ∙ rw (ne-eqb (phaseAt (t .nums) i) live n)
-
   -- nothing is left to be done
   pub all-calm : (i : ℕ) → i < slotsOf t → phaseAt (maintained t .nums) i ≡ live → recordOn (maintained t) i .state ≡ Unchanged
   all-calm i l = rw (maintained-is t h) (λ p. after-calm t h i (rw (after-slots t h) l) p)
 
   pub no-marks : (r : ℕ) → r < rowsOf (maintained t) → second (maintained t .cells) r ≡ 0
   no-marks = rw (maintained-is t h) (after-marks t h)
-
-  -- ---- the lists: what each list's own walk leaves, and behind it those that come to the cell, in ascending order of their slots
-  pub maintained-entries : entriesIn (maintained t) ≡ settledEntries t
-  maintained-entries = rw (maintained-is t h) (after-entries t h)
-
-  pub maintained-list : (k : ℕ) → under entryKey k (entriesIn (maintained t)) ≡ keptUnder t k ++ under entryKey k (relocatedBelow (slotsOf t) t)
-  maintained-list k = ap (under entryKey k) maintained-entries ∙ settled-list
-    where
-      settled-list : under entryKey k (settledEntries t) ≡ keptUnder t k ++ under entryKey k (relocatedBelow (slotsOf t) t)
-      settled-list = unfold settledEntries in under-appendAll entryKey k (keptEntries t) (relocatedBelow (slotsOf t) t) ∙ ap (λ (l : List Entry). l ++ under entryKey k (relocatedBelow (slotsOf t) t)) (kept-lists t h k)

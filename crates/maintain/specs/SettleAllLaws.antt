@@ -18,7 +18,7 @@ use Rattle.objects.specs.declared.State.the-variants.{Unchanged}
 use Rattle.point_tables.specs.Tables.{Tables, slotsOf, recordOn}
 use Rattle.maintain.specs.Walk.{settled}
 use Rattle.maintain.specs.SettleForm.{Rows, rowsAt, recordIn, rowsAfter}
-use Rattle.maintain.specs.SettleLaws.{Shaped, settled-slots, settled-shaped, settled-head, settled-pool, settled-spots, settled-cells, settled-rows-other, settled-rows-same, settled-calm, settled-swap}
+use Rattle.maintain.specs.SettleLaws.{Shaped, settled-slots, settled-shaped, settled-head, settled-rows-other, settled-rows-same, settled-calm, settled-swap}
 use Rattle.maintain.specs.Settle.{among, Distinct, settledOver, settledIn}
 
 module _ (test : ℕ → Bool) (t : Tables) where
@@ -40,15 +40,6 @@ module _ (test : ℕ → Bool) (t : Tables) where
 
     pub in-head : (k : ℕ) → k < head → getD (settledIn test n t .map) k 0 ≡ getD (t .map) k 0
     in-head k h = in-keeps (λ w. getD (w .map) k 0 ≡ getD (t .map) k 0) (λ w s e. settled-head w s k h ∙ e) refl n
-
-    pub in-pool : settledIn test n t .pool ≡ t .pool
-    in-pool = in-keeps (λ w. w .pool ≡ t .pool) (λ w s e. settled-pool w s ∙ e) refl n
-
-    pub in-spots : settledIn test n t .spots ≡ t .spots
-    in-spots = in-keeps (λ w. w .spots ≡ t .spots) (λ w s e. settled-spots w s ∙ e) refl n
-
-    pub in-cells : settledIn test n t .cells ≡ t .cells
-    in-cells = in-keeps (λ w. w .cells ≡ t .cells) (λ w s e. settled-cells w s ∙ e) refl n
 
   -- ---- a slot's rows
   pub in-rows-past : (n j : ℕ) → n ≤ j → rowsAt (settledIn test n t) j ≡ rowsAt t j

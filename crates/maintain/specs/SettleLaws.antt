@@ -1,25 +1,20 @@
 -- Laws of settling a slot: it reads and writes its own rows and its own bit, so that different slots may be settled in any order.
 -- Assumes nothing.
-use Prim.Native.Nat.{ℕ, _+_, _/_, _<_}
+use Prim.Native.Nat.{ℕ, _+_, _<_}
 use mathlib.Core.Path.{_≡_, refl, sym, _∙_, ap}
 use mathlib.Core.Bool.{Bool, true, false}
 use mathlib.Core.List.{List, []}
-use mathlib.Core.Logic.{_⊎_, inl, inr}
 use native.Mathlib.Omega.{arith}
-use lib.Dec.{eqb}
 use lib.ListN.{length, getD, length-set}
 use lib.Seq.{getD-set-same, getD-set-other, set-comm}
 use Rattle.basics.specs.Refusals.{pick}
-use Rattle.slots.specs.Map.{head, wordsFor, usable, givenBack}
-use Rattle.slots.proofs.laws.MapLaws.{given-back-length, given-back-head, given-back-other}
-use Rattle.slots.specs.Slot.{live, lastVersion}
-use Rattle.objects.specs.declared.State.{State}
-use Rattle.objects.specs.declared.State.the-variants.{Unchanged, NewPos, Relocate, Removed}
-use Rattle.objects.specs.declared.Record.{Record}
+use Rattle.slots.specs.Map.{head, wordsFor, givenBack}
+use Rattle.slots.proofs.laws.MapLaws.{given-back-length, given-back-head}
+use Rattle.objects.specs.declared.State.the-variants.{Unchanged}
 use Rattle.point_tables.specs.Tables.{Tables, sizeOf, slotsOf, recordOn, Sized}
 use Rattle.maintain.specs.Walk.{settled}
 use Rattle.maintain.specs.GivenBackLaws.{given-back-swap}
-use Rattle.maintain.specs.SettleForm.{Rows, rowsAt, recordIn, rowsAfter, comesBack, settledAs, settledRecord, placedRows, settled-form, rows-record}
+use Rattle.maintain.specs.SettleForm.{Rows, rowsAt, recordIn, rowsAfter, comesBack, placedRows, settled-form}
 
 -- a row of each kind for each slot, and a bit
 pub record Shaped (t : Tables) : Type 0 where
@@ -66,15 +61,6 @@ module _ (t : Tables) (s : ℕ) where
   pub settled-size : sizeOf (settled t s) ≡ sizeOf t
   settled-size = settled-head 0 (omega arith)
 
-  pub settled-pool : settled t s .pool ≡ t .pool
-  settled-pool = ap (λ (w : Tables). w .pool) (settled-form t s)
-
-  pub settled-spots : settled t s .spots ≡ t .spots
-  settled-spots = ap (λ (w : Tables). w .spots) (settled-form t s)
-
-  pub settled-cells : settled t s .cells ≡ t .cells
-  settled-cells = ap (λ (w : Tables). w .cells) (settled-form t s)
-
   -- ---- every other slot
   pub settled-rows-other : (j : ℕ) → (j ≡ s → ⊥) → rowsAt (settled t s) j ≡ rowsAt t j
   settled-rows-other j n =
@@ -84,9 +70,6 @@ module _ (t : Tables) (s : ℕ) where
   pub settled-other : (j : ℕ) → (j ≡ s → ⊥) → recordOn (settled t s) j ≡ recordOn t j
   settled-other j n = ap recordIn (settled-rows-other j n)
 
-  pub settled-bit-other : head + s / 64 < length (t .map) → (j : ℕ) → (s ≡ j → ⊥) → usable (settled t s .map) j ≡ usable (t .map) j
-  settled-bit-other h j n = either (λ m. usable m j ≡ usable (t .map) j) refl (given-back-other (t .map) s h j n)
-
   -- ---- the slot itself
   module _ (shape : Shaped t) (inside : s < slotsOf t) where
     pub settled-rows-same : rowsAt (settled t s) s ≡ rowsAfter (rowsAt t s)
@@ -94,27 +77,10 @@ module _ (t : Tables) (s : ℕ) where
         let w = rowsAfter (rowsAt t s) in
         rw (settled-form t s, getD-set-same (t .nums) s (w .nums) [] inside, getD-set-same (t .reals) s (w .reals) [] (rw (shape .of-reals) inside), getD-set-same (t .ints) s (w .ints) [] (rw (shape .of-ints) inside))
 
-    pub settled-same : recordOn (settled t s) s ≡ settledRecord (recordOn t s)
-    settled-same = ap recordIn settled-rows-same ∙ rows-record (rowsAt t s)
-
   -- nothing is pending: nothing changes
   pub settled-calm : recordOn t s .state ≡ Unchanged → settled t s ≡ t
   unfolding settled
   settled-calm e = rw e
-
--- once settled, an object has nothing pending, or it is gone
-pub settled-done : (r : Record) → (settledRecord r .state ≡ Unchanged) ⊎ ((r .state ≡ Removed) × (settledRecord r .phase ≡ live → ⊥))
-settled-done r = go (r .state) refl
-  where
-    not-live : (b : Bool) → pick b 2 0 ≡ live → ⊥
-    not-live true e = omega arith
-    not-live false e = omega arith
-
-    go : (st : State) → r .state ≡ st → (settledAs r st .state ≡ Unchanged) ⊎ ((r .state ≡ Removed) × (settledAs r st .phase ≡ live → ⊥))
-    go Unchanged e = inl e
-    go (NewPos p) e = inl refl
-    go (Relocate p c) e = inl refl
-    go Removed e = inr (e, not-live (eqb (r .version) lastVersion))
 
 -- ---- two slots, in either order
 placed-swap : (t : Tables) (a b : ℕ) → (a ≡ b → ⊥) → (u v : Rows) (x y : Bool) → placedRows (placedRows t a u x) b v y ≡ placedRows (placedRows t b v y) a u x

@@ -34,10 +34,6 @@ module _ {A : Type 0} where
   total-none m [] a = refl
   total-none m (x ∷ l) a = omega (arith, a .0, total-none m l (a .1))
 
-  pub none-total : (m : A → ℕ) (l : List A) → total m l ≡ 0 → All (λ x. m x ≡ 0) l
-  none-total m [] e = tt
-  none-total m (x ∷ l) e = (omega arith, none-total m l (omega arith))
-
   pub total-plus : (m n : A → ℕ) (l : List A) → total (λ x. m x + n x) l ≡ total m l + total n l
   total-plus m n [] = refl
   total-plus m n (x ∷ l) = omega (arith, total-plus m n l)

@@ -1,6 +1,6 @@
 -- What the proofs of objects share. Assumes nothing.
 use Prim.Native.Nat.{ℕ, _<_, _^_}
-use mathlib.Core.Path.{_≡_, refl, sym, ap, _∙_}
+use mathlib.Core.Path.{_≡_, refl, ap}
 use lib.Dec.{T}
 use lib.Ieee.{Float}
 use lib.Ieee.Fits.{and-i}
@@ -11,37 +11,18 @@ use mir.Syntax.{w32}
 use mir.Val.{toZ, ofZ, hbits}
 use mir.Facts.{toZ-ofZ}
 use borrow.Author.Needs.{sfits-of}
-use Rattle.basics.specs.Says.{Says, apart, said-says, says-via}
-use Rattle.basics.specs.Refusals.{pick}
+use Rattle.basics.specs.Says.{Says, apart, says-via}
 use Rattle.geometry.specs.declared.Position.{Position}
 use Rattle.cells.specs.declared.Cell.{Cell}
 use Rattle.geometry.specs.Domain.{inDomain}
 use Rattle.geometry.proofs.laws.DomainLaws.{position-parts}
 use Rattle.cells.specs.CellRule.{cellOf, cellAt}
 use Rattle.cells.specs.Numbers.{cell-ext}
-use Rattle.objects.specs.declared.State.the-variants.{NewPos, Relocate}
-use Rattle.objects.specs.Decide.{d-cell}
-use Rattle.objects.specs.States.{aimed}
 use Rattle.objects.specs.Occupied.{InDomain}
 
 -- a signed number that was read is what it was
 pub back : {z : ℤ} → mag z < 2 ^ hbits w32 → toZ w32 (ofZ w32 z) ≡ z
 back p = toZ-ofZ (sfits-of p)
-
-false-of : {P : Type 0} (b : Bool) → Says b P → (P → ⊥) → b ≡ false
-false-of true s h = absurd (h (s .yes refl))
-false-of false s h = refl
-
-module _ (size : ℕ) (c d : Cell) (p : Position) (e : d ≡ cellAt size p) where
-  pub aimed-same : d ≡ c → NewPos p ≡ aimed size c p
-  unfolding aimed
-  aimed-same q = ap (λ (b : Bool). pick b (NewPos p) (Relocate p (cellAt size p))) (sym (said-says (d-cell (cellAt size p) c) .no (sym e ∙ q)))
-
-  pub aimed-other : (d ≡ c → ⊥) → Relocate p d ≡ aimed size c p
-  unfolding aimed
-  aimed-other h =
-      ap (Relocate p) e
-      ∙ ap (λ (b : Bool). pick b (NewPos p) (Relocate p (cellAt size p))) (sym (false-of _ (said-says (d-cell (cellAt size p) c)) (λ q. h (e ∙ q))))
 
 -- ---- a position by the spans of a cell
 says-and : {P Q : Type 0} (a b : Bool) → Says a P → Says b Q → Says (a && b) (P × Q)

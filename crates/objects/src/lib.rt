@@ -1,14 +1,13 @@
 // The object records of the point grid, and the columns that they stand in. The Rust's StoreObject and ObjectState.
 ghost use mathlib.Core.Path.{_≡_};
-ghost use Prim.Native.Nat.{ℕ, _+_, _≤_, _<_};
-ghost use lib.ListN.{length, getD, set};
+ghost use Prim.Native.Nat.{_≤_, _<_};
+ghost use lib.ListN.{length, set};
 ghost use Rattle.basics.specs.Says.{Says};
 ghost use Rattle.cells.specs.Size.{SizeInDomain};
 ghost use Rattle.cells.specs.CellRule.{cellAt};
 ghost use Rattle.cells.specs.Span.{Spans};
 ghost use Rattle.cells.specs.Key.{keyOf};
 ghost use Rattle.objects.specs.Occupied.{InDomain, Agrees, InCell};
-ghost use Rattle.objects.specs.States.{isRemoved, aimed, withState};
 ghost use Rattle.objects.specs.Columns.{tagOf, pendingOf, targetOf, stateOf, recordAt, numsOf, realsOf, intsOf, pendingIn};
 use cells::Cell;
 use cells::Span;

@@ -3,6 +3,5 @@ pub mod Spots
 pub mod SpotLaws
 pub mod PutLaws
 pub mod BareLaws
-pub mod PassedLaws
 pub mod CountsLaws
 pub mod PassLaws

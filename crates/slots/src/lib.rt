@@ -1,12 +1,12 @@
 // Handles, versions and the slot map: what the Rust's SlotMap becomes.
 ghost use mathlib.Core.Path.{_≡_};
-ghost use Prim.Native.Nat.{ℕ, _+_, _*_, _/_, _%_, _^_, _≤_, _<_};
+ghost use Prim.Native.Nat.{_+_, _*_, _/_, _%_, _^_, _≤_, _<_};
 ghost use lib.Dec.{eqb};
 ghost use lib.ListN.{length};
 ghost use Rattle.basics.specs.Says.{Says};
 ghost use Rattle.basics.specs.Refusals.{pick};
 ghost use Rattle.slots.specs.Map.{wordsFor, usable, taken, givenBack, lowestUsable, usableBelow, NonePast};
-ghost use Rattle.slots.specs.Slot.{lastVersion, good, nextVersion, nextPhase, versionAt, phaseAt, emptiedRow, emptiedNums, emptiedMap, SlotHolds, SlotsHold};
+ghost use Rattle.slots.specs.Slot.{lastVersion, good, nextVersion, nextPhase, emptiedRow, emptiedNums, emptiedMap, SlotHolds};
 
 pub struct Handle {
     pub slot: u32,

@@ -13,7 +13,6 @@ pub mod MergeLaws
 pub mod RunStepLaws
 pub mod RowLaws
 pub mod PackedDecide
-pub mod CheckLaws
 pub mod KeepsLaws
 pub mod CellTableLaws
 pub mod StoreLaws

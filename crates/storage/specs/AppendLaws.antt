@@ -49,15 +49,6 @@ module _ {A : Type 0} (key : A → ℕ) where
       (λ h. append1-before x e l s (ltb-true (key e) (key x) h) ∙ sym (insert1-before x e l (ltb-true (key e) (key x) h)))
       (λ h. append1-after x e l s (ltb-false (key e) (key x) h) ∙ ap (λ m. x ∷ m) (append1-is l e (s .1)) ∙ sym (insert1-after x e l (ltb-false (key e) (key x) h)))
 
-  -- where it comes to stand
-  insert1-at : (a b : List A) (e : A) → All (λ x. key x ≤ key e) a → All (λ x. key e < key x) b → insert1 key (a ++ b) e ≡ a ++ (e ∷ b)
-  insert1-at [] [] e p q = refl
-  insert1-at [] (y ∷ b) e p q = insert1-before y e b (q .0)
-  insert1-at (x ∷ a) b e p q = insert1-after x e (a ++ b) (p .0) ∙ ap (λ m. x ∷ m) (insert1-at a b e (p .1) q)
-
-  pub append1-at : (a b : List A) (e : A) → Sorted key (a ++ b) → All (λ x. key x ≤ key e) a → All (λ x. key e < key x) b → append1 key (a ++ b) e ≡ a ++ (e ∷ b)
-  append1-at a b e s p q = append1-is (a ++ b) e s ∙ insert1-at a b e p q
-
   -- ---- one element
   own : (l : List A) (e : A) → All (λ x. key x ≡ key e) (under key (key e) l ++ (e ∷ []))
   own l e = all-append (λ x. key x ≡ key e) (under key (key e) l) (e ∷ []) (all-under key (key e) l) (refl, tt)
@@ -109,8 +100,3 @@ module _ {A : Type 0} (key : A → ℕ) where
   unfolding appendAll
   all-appendAll P l [] a b = a
   all-appendAll P l (e ∷ es) a b = all-appendAll P (append1 key l e) es (all-append1 P l e a (b .0)) (b .1)
-
-  pub appendAll-append : (l a b : List A) → appendAll key l (a ++ b) ≡ appendAll key (appendAll key l a) b
-  unfolding appendAll
-  appendAll-append l [] b = refl
-  appendAll-append l (e ∷ a) b = appendAll-append (append1 key l e) a b

@@ -137,14 +137,6 @@ module _ {A : Type 0} (key : A → ℕ) where
     unfolding onList
     under-onList = joined-under k (below key k l) (f (under key k l)) (above key k l) (all-below k l) own (all-above k l)
 
-    pub below-onList : below key k (onList key k f l) ≡ below key k l
-    unfolding onList
-    below-onList = joined-below k (below key k l) (f (under key k l)) (above key k l) (all-below k l) own (all-above k l)
-
-    pub above-onList : above key k (onList key k f l) ≡ above key k l
-    unfolding onList
-    above-onList = joined-above k (below key k l) (f (under key k l)) (above key k l) (all-below k l) own (all-above k l)
-
     pub under-other : (j : ℕ) → (j ≡ k → ⊥) → under key j (onList key k f l) ≡ under key j l
     unfolding onList
     under-other j n =
@@ -169,11 +161,6 @@ module _ {A : Type 0} (key : A → ℕ) where
       where
         up : All (λ x. k ≤ key x) (above key k l)
         up = all-map (λ x. k < key x) (λ x. k ≤ key x) (λ x e. omega arith) (above key k l) (all-above k l)
-
-    -- and changed again
-    pub onList-twice : (g : List A → List A) → onList key k g (onList key k f l) ≡ onList key k (λ r. g (f r)) l
-    unfolding onList
-    onList-twice g = ap₂ {C = List A} (λ (a b : List A). a ++ b) below-onList (ap₂ {C = List A} (λ (a b : List A). g a ++ b) under-onList above-onList)
 
   -- nothing changed
   pub onList-same : (k : ℕ) (f : List A → List A) (l : List A) → Sorted key l → f (under key k l) ≡ under key k l → onList key k f l ≡ l

@@ -3,13 +3,8 @@ use Prim.Native.Nat.{ℕ}
 use mathlib.Core.Path.{_≡_}
 use mathlib.Core.List.{List, map}
 use lib.Ieee.{Float}
-use lib.ListN.{take}
 use Rattle.storage.specs.Keyed.{written, onList, append1, takeOut}
-use Rattle.storage.specs.Entries.{Entry, entry, rowKey, isItem, rowOf, spotOf, entryKey, entriesOf}
-
--- the rows, with the item's first row in the key's list taken out
-abbrev pub rowsWithout : ℕ → ℕ → ℕ → List (List ℕ) → List (List ℕ)
-rowsWithout used key item pool = onList rowKey key (takeOut (isItem item)) (take used pool)
+use Rattle.storage.specs.Entries.{Entry, entry, isItem, rowOf, spotOf, entryKey, entriesOf}
 
 -- the entries, with one more at the end of its key's list
 abbrev pub entriesWith : ℕ → List ℕ → List Float → List (List ℕ) → List (List Float) → List Entry

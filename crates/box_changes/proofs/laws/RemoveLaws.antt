@@ -9,15 +9,15 @@ use borrow.Author.Tests.{ne-eqb}
 use Rattle.basics.specs.Refusals.{pick, orElse}
 use Rattle.slots.specs.declared.Handle.{Handle}
 use Rattle.slots.specs.Slot.{live, phaseAt, versionAt, good}
-use Rattle.slots.proofs.laws.HandleLaws.{good-says, emptied-not-good, emptied-good-other}
-use Rattle.box_tables.specs.Tables.{Tables, sizeOf, usedOf, slotsOf, aabbOn, objOn, covers}
+use Rattle.slots.proofs.laws.HandleLaws.{good-says, emptied-not-good}
+use Rattle.box_tables.specs.Tables.{Tables, slotsOf, objOn}
 use Rattle.box_tables.specs.Holds.{Holds}
 use Rattle.box_tables.specs.Decide.{holds, holds-says}
 use Rattle.box_tables.specs.Outcome.{Outcome, outcome}
 use Rattle.box_inserts.proofs.laws.LiveLaws.{liveCount, live-less}
 use Rattle.replies.specs.declared.Reply.{Reply}
 use Rattle.box_changes.specs.Remove.{takenOut, removeAnswer, removeOf}
-use Rattle.box_changes.proofs.laws.RemoveKeeps.{taken-row, taken-count, taken-keeps}
+use Rattle.box_changes.proofs.laws.RemoveKeeps.{taken-row, taken-keeps}
 use Rattle.replies.specs.Replies.{reply}
 
 -- the handle is that of an object
@@ -45,12 +45,6 @@ module _ (t : Tables) (h : Handle) where
   by-tests = refl
 
   -- ---- exactly when each answer is given
-  pub remove-unheld : holds t ≡ false → removeOf t h ≡ outcome (reply 3 0) t
-  remove-unheld e = by-tests ∙ rw e
-
-  pub remove-lost : holds t ≡ true → isGood t h ≡ false → removeOf t h ≡ outcome (reply 5 0) t
-  remove-lost e f = by-tests ∙ rw (e, f)
-
   pub remove-done : holds t ≡ true → isGood t h ≡ true → removeOf t h ≡ outcome (reply 0 (objOn t (h .slot))) (takenOut t (h .slot))
   remove-done e f = by-tests ∙ rw (e, f)
 
@@ -63,10 +57,6 @@ module _ (t : Tables) (h : Handle) where
       go true false g = refuse 5 (λ e. omega arith)
       go true true g = accept (g refl)
 
-  -- a refusal leaves the tables and returns zeros
-  pub remove-refused : (removeOf t h .result .answer ≡ 0 → ⊥) → removeOf t h ≡ outcome (reply (removeOf t h .result .answer) 0) t
-  remove-refused = remove-cases (λ o. (o .result .answer ≡ 0 → ⊥) → o ≡ outcome (reply (o .result .answer) 0) t) (λ g n. absurd (n refl)) (λ a z n. refl)
-
   -- tables that hold a grid still do
   pub remove-holds : Holds t → Holds (removeOf t h .after)
   remove-holds k = remove-cases (λ o. Holds (o .after)) (λ g. taken-keeps t k (h .slot) (g .inside) (g .occupied)) (λ a z. k)
@@ -78,19 +68,12 @@ module _ (t : Tables) (h : Handle) where
       (λ g. let r = taken-row t (h .slot) in live-less t (h .slot) (g .inside) (g .occupied) (r .0) (r .1) (takenOut t (h .slot)) (r .2))
       (λ a z. rw (ne-eqb a 0 z) (omega arith))
 
-  -- ---- accepted: the entries of the box go, the handle is good no more, and every other is as before
+  -- ---- accepted: the handle is good no more
   module _ (k : Holds t) (g : isGood t h ≡ true) where
     accepted : removeOf t h .after ≡ takenOut t (h .slot)
     accepted = ap (λ (o : Outcome Reply). o .after) (remove-done (holds-says t .no k) g)
-
-    pub remove-count : usedOf (removeOf t h .after) + covers (sizeOf t) (aabbOn t (h .slot)) ≡ usedOf t
-    remove-count = let n = names t h g in rw accepted (taken-count t k (h .slot) (n .inside) (n .occupied))
 
     -- good at no version
     pub remove-not-good : (v : ℕ) → good (removeOf t h .after .nums) (h .slot) v ≡ false
     unfolding takenOut
     remove-not-good v = rw accepted (emptied-not-good (t .nums) (h .slot) v)
-
-    pub remove-good-other : (i v : ℕ) → (i ≡ h .slot → ⊥) → good (removeOf t h .after .nums) i v ≡ good (t .nums) i v
-    unfolding takenOut
-    remove-good-other i v n = rw accepted (emptied-good-other (t .nums) (h .slot) i v n)

@@ -1,6 +1,6 @@
 -- `set_aabb`: exactly when each answer is given, what it then leaves, that every handle stays as good as it was, and that tables that hold a
 -- grid still do after it. Assumes nothing.
-use Prim.Native.Nat.{ℕ, _+_, _<_, _≤_}
+use Prim.Native.Nat.{ℕ, _+_, _≤_}
 use mathlib.Core.Path.{_≡_, refl, _∙_, ap}
 use mathlib.Core.Bool.{Bool, true, false}
 use native.Mathlib.Omega.{arith}
@@ -19,7 +19,6 @@ use Rattle.box_tables.specs.Decide.{holds, holds-says}
 use Rattle.box_tables.specs.Outcome.{Outcome, outcome}
 use Rattle.box_inserts.specs.Insert.{fewCells}
 use Rattle.box_inserts.proofs.laws.InsertLaws.{Few, few-says}
-use Rattle.box_inserts.proofs.laws.ChangeLaws.{stored-box}
 use Rattle.box_inserts.proofs.laws.LiveLaws.{liveCount}
 use Rattle.box_changes.specs.SetAabb.{cellsStay, recorded, moved, placed, hasRoomFor, setAabbAnswer, setAabbOf}
 use Rattle.box_changes.proofs.laws.RemoveLaws.{isGood, Names, names}
@@ -46,15 +45,6 @@ module _ (t : Tables) (s : ℕ) (b : Aabb) where
       go true = refl
       go false = refl
 
-  -- the slot has box b
-  pub placed-box : s < length (t .reals) → aabbOn (placed t s b) s ≡ b
-  unfolding placed recorded moved
-  placed-box l = go (cellsStay (sizeOf t) (aabbOn t s) b)
-    where
-      go : (p : Bool) → aabbOn (pick p (recorded t s b) (moved t s b)) s ≡ b
-      go true = stored-box (t .reals) s b l
-      go false = stored-box (t .reals) s b l
-
 module _ (t : Tables) (h : Handle) (b : Aabb) where
   -- the outcome by the tests
   abbrev setBy : Bool → Bool → Bool → Bool → Bool → Outcome ℕ
@@ -67,18 +57,6 @@ module _ (t : Tables) (h : Handle) (b : Aabb) where
   -- ---- exactly when each answer is given
   pub set-done : Holds t → T (aabbInDomain b) → isGood t h ≡ true → Few t b → RoomFor t (h .slot) b → setAabbOf t h b ≡ outcome 0 (placed t (h .slot) b)
   set-done k i g f r = by-tests ∙ rw (holds-says t .no k, says-t (aabbInDomain b) .no i, g, few-says t b .no f, room-for-says t (h .slot) b .no r)
-
-  pub set-unheld : (Holds t → ⊥) → setAabbOf t h b ≡ outcome 3 t
-  set-unheld k = by-tests ∙ rw (not-said (holds-says t) k)
-
-  pub set-outside : Holds t → (T (aabbInDomain b) → ⊥) → setAabbOf t h b ≡ outcome 6 t
-  set-outside k i = by-tests ∙ rw (holds-says t .no k, not-said (says-t (aabbInDomain b)) i)
-
-  pub set-lost : Holds t → T (aabbInDomain b) → isGood t h ≡ false → setAabbOf t h b ≡ outcome 5 t
-  set-lost k i g = by-tests ∙ rw (holds-says t .no k, says-t (aabbInDomain b) .no i, g)
-
-  pub set-wide : Holds t → T (aabbInDomain b) → isGood t h ≡ true → (Few t b → ⊥) → setAabbOf t h b ≡ outcome 7 t
-  set-wide k i g f = by-tests ∙ rw (holds-says t .no k, says-t (aabbInDomain b) .no i, g, not-said (few-says t b) f)
 
   -- entries in use, less the box's old ones, plus its new ones, exceed the pool
   pub set-crowded : Holds t → T (aabbInDomain b) → isGood t h ≡ true → Few t b → (RoomFor t (h .slot) b → ⊥) → setAabbOf t h b ≡ outcome 8 t
@@ -97,10 +75,6 @@ module _ (t : Tables) (h : Handle) (b : Aabb) where
       go true true true true false ei eg ef er = refuse 8 (λ e. omega arith)
       go true true true true true ei eg ef er = accept (ei refl) (eg refl) (ef refl) (er refl)
 
-  -- a refusal leaves the tables
-  pub set-refused : (setAabbOf t h b .result ≡ 0 → ⊥) → setAabbOf t h b ≡ outcome (setAabbOf t h b .result) t
-  set-refused = set-cases (λ o. (o .result ≡ 0 → ⊥) → o ≡ outcome (o .result) t) (λ i g f r n. absurd (n refl)) (λ a z n. refl)
-
   -- tables that hold a grid still do
   pub set-aabb-holds : Holds t → Holds (setAabbOf t h b .after)
   set-aabb-holds k = set-cases (λ o. Holds (o .after)) (λ i g f r. placed-keeps t k (h .slot) (g .inside) (g .occupied) b i f r) (λ a z. k)
@@ -112,10 +86,6 @@ module _ (t : Tables) (h : Handle) (b : Aabb) where
   pub set-live : liveCount (setAabbOf t h b .after) ≡ liveCount t
   unfolding liveCount
   set-live = rw set-nums
-
-  -- accepted: the object has box b
-  pub set-box : Holds t → T (aabbInDomain b) → isGood t h ≡ true → Few t b → RoomFor t (h .slot) b → aabbOn (setAabbOf t h b .after) (h .slot) ≡ b
-  set-box k i g f r = rw (ap (λ (o : Outcome ℕ). o .after) (set-done k i g f r)) (placed-box t (h .slot) b (rw (k .sized .of-reals) (names t h g .inside)))
 
   -- entries in use, less the box's old ones, plus its new ones
   pub set-count : (k : Holds t) → T (aabbInDomain b) → (g : isGood t h ≡ true) → Few t b → RoomFor t (h .slot) b → usedOf (setAabbOf t h b .after) + covers (sizeOf t) (aabbOn t (h .slot)) ≡ usedOf t + covers (sizeOf t) b

@@ -4,22 +4,15 @@ use Prim.Native.Nat.{ℕ, _<_}
 use mathlib.Core.Path.{_≡_, sym, _∙_}
 use mathlib.Core.List.{List, []}
 use mathlib.Core.Logic.{_⊎_, inl, inr, ⊎-elim}
-use lib.Ieee.{Float}
-use lib.ListN.{length, getD, set}
-use lib.Seq.{getD-set-same}
+use lib.ListN.{getD}
 use Rattle.basics.specs.Says.{d-eq}
-use Rattle.geometry.specs.declared.Aabb.{Aabb}
 use Rattle.slots.specs.Slot.{live, phaseAt, SlotsHold}
 use Rattle.storage.specs.Keyed.{All, Sorted}
 use Rattle.storage.specs.Entries.{rowKey, rowItem}
 use Rattle.storage.specs.FilterLaws.{all-map}
-use Rattle.box_tables.specs.Tables.{Tables, cornersOf, aabbAt, sizeOf, slotsOf, entriesIn, itemOn, Sized}
+use Rattle.box_tables.specs.Tables.{Tables, sizeOf, slotsOf, entriesIn, itemOn, Sized}
 use Rattle.box_tables.specs.Holds.{Counted, BoxHolds, Holds}
 use Rattle.box_tables.proofs.laws.HoldsLaws.{Named, StandsOn, Listing, holds-of}
-
--- the box of a row that was stored
-pub stored-box : (reals : List (List Float)) (s : ℕ) (b : Aabb) → s < length reals → aabbAt (set reals s (cornersOf b)) s ≡ b
-stored-box reals s b h = rw (getD-set-same reals s (cornersOf b) [] h)
 
 -- t and u have the same cell size and the same slots, and besides slot s the same phases and boxes
 pub record Others (t u : Tables) (s : ℕ) : Type 0 where

@@ -1,12 +1,11 @@
 -- `insert`: exactly when each answer is given, what it then leaves, and that tables that hold a grid still do after it. Assumes nothing.
 use Prim.Native.Nat.{ℕ, _+_, _≤_}
-use mathlib.Core.Path.{_≡_, refl, _∙_, ap}
+use mathlib.Core.Path.{_≡_, refl, _∙_}
 use mathlib.Core.Bool.{Bool, true, false}
 use mathlib.Core.List.{[], _∷_}
 use native.Mathlib.Omega.{arith}
 use lib.Dec.{T, eqb}
 use lib.ListN.{length}
-use lib.Seq.{getD-set-same}
 use borrow.Author.Tests.{leb-true, le-leb, ne-eqb}
 use Rattle.basics.specs.Says.{Says, says-t}
 use Rattle.basics.specs.Refusals.{pick}
@@ -15,18 +14,16 @@ use Rattle.geometry.specs.declared.Aabb.{Aabb}
 use Rattle.slots.specs.declared.Usable.{Usable}
 use Rattle.slots.specs.declared.Usable.the-variants.{At, Nothing}
 use Rattle.slots.specs.Map.{slotIn}
-use Rattle.slots.specs.Slot.{live, versionAt, good}
-use Rattle.slots.proofs.laws.HandleLaws.{set-good-same, set-good-other}
+use Rattle.slots.specs.Slot.{live, versionAt}
 use Rattle.slots.proofs.laws.SlotLaws.{lowest-free}
 use Rattle.blank.proofs.laws.BlankLaws.{not-said}
-use Rattle.box_tables.specs.Tables.{Tables, sizeOf, usedOf, aabbOn, objOn, covers, mostCells}
+use Rattle.box_tables.specs.Tables.{Tables, sizeOf, usedOf, covers, mostCells}
 use Rattle.box_tables.specs.Holds.{Holds}
 use Rattle.box_tables.specs.Decide.{holds, holds-says}
 use Rattle.box_tables.specs.Outcome.{Outcome, outcome}
 use Rattle.replies.specs.declared.Inserted.{Inserted}
 use Rattle.box_inserts.specs.Insert.{usableSlot, put, fewCells, hasRoom, insertAnswer, insertOf}
 use Rattle.box_inserts.specs.Fresh.{answerBy}
-use Rattle.box_inserts.proofs.laws.ChangeLaws.{stored-box}
 use Rattle.box_inserts.proofs.laws.LiveLaws.{liveCount, live-more}
 use Rattle.box_inserts.proofs.laws.InsertKeeps.{put-keeps}
 use Rattle.replies.specs.Replies.{inserted}
@@ -61,18 +58,6 @@ module _ (t : Tables) (b : Aabb) (d : ℕ) where
   pub insert-done : (s : ℕ) → Holds t → T (aabbInDomain b) → Few t b → usableSlot t ≡ At s → Room t b → insertOf t b d ≡ outcome (inserted 0 s (versionAt (t .nums) s)) (put t s b d)
   insert-done s h i f e r = by-tests ∙ rw (holds-says t .no h, says-t (aabbInDomain b) .no i, few-says t b .no f, e, room-says t b .no r)
 
-  pub insert-unheld : (Holds t → ⊥) → insertOf t b d ≡ outcome (inserted 3 0 0) t
-  insert-unheld h = by-tests ∙ rw (not-said (holds-says t) h)
-
-  pub insert-outside : Holds t → (T (aabbInDomain b) → ⊥) → insertOf t b d ≡ outcome (inserted 6 0 0) t
-  insert-outside h i = by-tests ∙ rw (holds-says t .no h, not-said (says-t (aabbInDomain b)) i)
-
-  pub insert-wide : Holds t → T (aabbInDomain b) → (Few t b → ⊥) → insertOf t b d ≡ outcome (inserted 7 0 0) t
-  insert-wide h i f = by-tests ∙ rw (holds-says t .no h, says-t (aabbInDomain b) .no i, not-said (few-says t b) f)
-
-  pub insert-full : Holds t → T (aabbInDomain b) → Few t b → usableSlot t ≡ Nothing → insertOf t b d ≡ outcome (inserted 4 0 0) t
-  insert-full h i f e = by-tests ∙ rw (holds-says t .no h, says-t (aabbInDomain b) .no i, few-says t b .no f, e)
-
   -- entries in use plus the box's exceed the pool
   pub insert-crowded : (s : ℕ) → Holds t → T (aabbInDomain b) → Few t b → usableSlot t ≡ At s → (Room t b → ⊥) → insertOf t b d ≡ outcome (inserted 8 0 0) t
   insert-crowded s h i f e r = by-tests ∙ rw (holds-says t .no h, says-t (aabbInDomain b) .no i, few-says t b .no f, e, not-said (room-says t b) r)
@@ -91,10 +76,6 @@ module _ (t : Tables) (b : Aabb) (d : ℕ) where
       go true true true (At s) false eh ei ef eu er = refuse 8 (λ e. omega arith)
       go true true true (At s) true eh ei ef eu er = accept s eh (ei refl) (ef refl) eu (er refl)
 
-  -- a refusal leaves the tables and returns zeros
-  pub insert-refused : (insertOf t b d .result .answer ≡ 0 → ⊥) → insertOf t b d ≡ outcome (inserted (insertOf t b d .result .answer) 0 0) t
-  insert-refused = insert-cases (λ o. (o .result .answer ≡ 0 → ⊥) → o ≡ outcome (inserted (o .result .answer) 0 0) t) (λ s h i f e r n. absurd (n refl)) (λ a z n. refl)
-
   -- tables that hold a grid still do
   pub insert-holds : Holds t → Holds (insertOf t b d .after)
   insert-holds h =
@@ -108,23 +89,3 @@ module _ (t : Tables) (b : Aabb) (d : ℕ) where
       insert-cases (λ o. liveCount (o .after) ≡ liveCount t + pick (eqb (o .result .answer) 0) 1 0)
       (λ s eh i f e r. let p = lowest-free (t .nums) (t .map) (h .slots) s e in live-more t s (p .0) (λ q. omega (arith, p .1)) (versionAt (t .nums) s ∷ live ∷ d ∷ 0 ∷ []) refl (put t s b d) (unfold put in refl))
       (λ a z. rw (ne-eqb a 0 z) (omega arith))
-
-  -- ---- accepted: the handle is good, and every other as before
-  module _ (s : ℕ) (h : Holds t) (i : T (aabbInDomain b)) (f : Few t b) (e : usableSlot t ≡ At s) (r : Room t b) where
-    accepted : insertOf t b d .after ≡ put t s b d
-    accepted = ap (λ (o : Outcome Inserted). o .after) (insert-done s h i f e r)
-
-    -- it holds the box and the data
-    pub insert-box : (aabbOn (insertOf t b d .after) s ≡ b) × (objOn (insertOf t b d .after) s ≡ d)
-    unfolding put
-    insert-box =
-        let l = lowest-free (t .nums) (t .map) (h .slots) s e .0 in
-        rw accepted (stored-box (t .reals) s b (rw (h .sized .of-reals) l), rw (getD-set-same (t .nums) s (versionAt (t .nums) s ∷ live ∷ d ∷ 0 ∷ []) [] l))
-
-    pub insert-good : (v : ℕ) → good (insertOf t b d .after .nums) s v ≡ eqb (versionAt (t .nums) s) v
-    unfolding put
-    insert-good v = rw accepted (set-good-same (t .nums) s (versionAt (t .nums) s ∷ live ∷ d ∷ 0 ∷ []) v (lowest-free (t .nums) (t .map) (h .slots) s e .0) refl)
-
-    pub insert-good-other : (j v : ℕ) → (j ≡ s → ⊥) → good (insertOf t b d .after .nums) j v ≡ good (t .nums) j v
-    unfolding put
-    insert-good-other j v n = rw accepted (set-good-other (t .nums) s (versionAt (t .nums) s ∷ live ∷ d ∷ 0 ∷ []) j v n)

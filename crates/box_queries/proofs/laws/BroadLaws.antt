@@ -1,22 +1,19 @@
 -- What `query_broad` finds in tables that hold a grid: a slot is found exactly when it is occupied and its box shares a cell with the
 -- query box, and no slot is found twice. `query` finds those of them that the query box intersects: it is not said that these are all
 -- boxes that it intersects. Assumes nothing.
-use Prim.Native.Nat.{ℕ, _/_, _<_, _≤_}
+use Prim.Native.Nat.{ℕ, _/_, _<_}
 use mathlib.Core.Path.{_≡_, refl, sym, ap, _∙_, subst}
 use mathlib.Core.Bool.{Bool, true}
 use mathlib.Core.List.{List, map, List·Memᴰ, Memᴰ·cast, Memᴰ·map, Memᴰ·of-map}
 use lib.Dec.{T, eqb}
-use lib.ListN.{length}
-use borrow.Author.Tests.{lt-ltb, eq-eqb}
 use Rattle.geometry.specs.declared.Aabb.{Aabb}
 use Rattle.geometry.specs.Domain.{aabbInDomain}
 use Rattle.geometry.specs.Intersects.{intersects}
 use Rattle.cells.specs.declared.Cell.{Cell}
 use Rattle.cells.specs.Range.{inRange}
-use Rattle.slots.specs.Slot.{live, phaseAt, versionAt, good}
 use Rattle.storage.specs.Keyed.{All, filter}
 use Rattle.storage.specs.Entries.{rowKey}
-use Rattle.storage.specs.FilterLaws.{all-over, filter-all, filter-length}
+use Rattle.storage.specs.FilterLaws.{filter-all}
 use Rattle.storage.specs.WindowLaws.{windowOf, range-fits, window-cell}
 use Rattle.box_tables.specs.Tables.{Tables, sizeOf, slotsOf, entriesIn, aabbOn, lowCell, highCell, covers, itemOn, slotOf}
 use Rattle.box_tables.specs.Holds.{Holds}
@@ -24,8 +21,7 @@ use Rattle.box_tables.proofs.laws.BoxLaws.{item-slot}
 use Rattle.box_tables.proofs.laws.HoldsLaws.{named-slot}
 use Rattle.box_queries.specs.Queries.{walk, broad, narrow}
 use Rattle.box_queries.proofs.laws.Shared.{Met}
-use Rattle.box_queries.proofs.laws.FirstsLaws.{filter-member, member-filter, Once, once-filter, firsts-once, firsts-of, of-firsts}
-use Rattle.box_queries.proofs.laws.MarksLaws.{firsts-few}
+use Rattle.box_queries.proofs.laws.FirstsLaws.{filter-member, member-filter, Once, firsts-once, firsts-of, of-firsts}
 use Rattle.box_queries.proofs.laws.StandsLaws.{member-all, cell-stands}
 use Rattle.box_queries.proofs.laws.WalkLaws.{entry-named, entry-cell, entry-fits, a-fits, b-fits, walk-window}
 
@@ -39,14 +35,6 @@ module _ (t : Tables) (q : Aabb) where
   pub broad-once : Once (broad t q)
   unfolding broad
   broad-once = firsts-once (map slotOf (walk t q))
-
-  pub query-once : Once (narrow t q)
-  unfolding narrow
-  query-once = once-filter (λ s. intersects q (aabbOn t s)) (broad t q) broad-once
-
-  pub query-few : length (narrow t q) ≤ length (broad t q)
-  unfolding narrow
-  query-few = filter-length (λ s. intersects q (aabbOn t s)) (broad t q)
 
 module _ (t : Tables) (h : Holds t) (q : Aabb) (d : T (aabbInDomain q)) where
   abbrev a : Cell
@@ -97,17 +85,7 @@ module _ (t : Tables) (h : Holds t) (q : Aabb) (d : T (aabbInDomain q)) where
     λ m i. filter-member (λ s. intersects q (aabbOn t s)) s (broad t q) (met-broad s m) i,
   )
 
-  -- ---- the handles that are found are good, and they are at most as many as the slots
-  pub broad-good : All (λ s. good (t .nums) s (versionAt (t .nums) s) ≡ true) (broad t q)
-  unfolding good
-  broad-good =
-      member-all (λ s. good (t .nums) s (versionAt (t .nums) s) ≡ true) (broad t q)
-      (λ s m. let w = broad-met s m in rw (lt-ltb s (slotsOf t) (w .inside), eq-eqb (phaseAt (t .nums) s) live (w .occupied), eq-eqb (versionAt (t .nums) s) (versionAt (t .nums) s) refl))
-
-  pub broad-few : length (broad t q) ≤ slotsOf t
-  unfolding broad
-  broad-few = firsts-few (slotsOf t) (map slotOf (walk t q)) (all-over (λ s. s < slotsOf t) slotOf (walk t q) (member-all (λ r. slotOf r < slotsOf t) (walk t q) (λ r m. walk-met r m .inside)))
-
+  -- ---- only slots of the tables are found
   pub broad-all : All (λ s. s < slotsOf t) (broad t q)
   broad-all = member-all (λ s. s < slotsOf t) (broad t q) (λ s m. broad-met s m .inside)
 

@@ -90,9 +90,3 @@ unmarked-none (suc n) = omega (arith, unmarked-none n)
 -- a slot that has no mark leaves room
 pub unmarked-some : (m : List Bool) (s : ℕ) → s < length m → getD m s false ≡ false → 1 ≤ unmarked m
 unmarked-some m s h e = omega (arith, rw e at (unmarked-set m s h))
-
--- numbers below n, each once, are at most n
-pub firsts-few : (n : ℕ) (l : List ℕ) → All (λ s. s < n) l → length (firsts l) ≤ n
-firsts-few n l a =
-    let m = replicate n false in
-    omega (arith, ap length (fresh-firsts n l a), fresh-room m l (rw (length-replicate n false) a), unmarked-none n)

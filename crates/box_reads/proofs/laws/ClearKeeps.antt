@@ -3,18 +3,13 @@ use Prim.Native.Nat.{ℕ, _<_, _≤_}
 use mathlib.Core.Path.{_≡_, _∙_}
 use native.Mathlib.Omega.{arith}
 use lib.ListN.{length, length-map}
-use borrow.Author.Tests.{eqb-true}
-use Rattle.basics.specs.Counting.{named-count}
 use Rattle.slots.specs.Map.{head}
 use Rattle.slots.specs.Slot.{live, phaseAt, SlotsHold}
-use Rattle.slot_walks.specs.Live.{liveAt}
 use Rattle.slot_walks.specs.Cleared.{clearedRow, clearedRows, clearedMap}
 use Rattle.slot_walks.proofs.laws.ClearedLaws as Slots
 use Rattle.slot_walks.proofs.laws.ClearedLaws.{cleared-map-length, cleared-map-head, cleared-slots}
-use Rattle.box_tables.specs.Tables.{Tables, sizeOf, usedOf, slotsOf, Sized}
+use Rattle.box_tables.specs.Tables.{Tables, sizeOf, usedOf, Sized}
 use Rattle.box_tables.specs.Holds.{Holds}
-use Rattle.box_reads.specs.Live.{liveSlots}
-use Rattle.box_reads.proofs.laws.LiveLaws.{live-count}
 use Rattle.box_reads.specs.Clear.{cleared}
 use Rattle.box_tables.proofs.laws.HeadLaws.{counted-used, counted-size, counted-length, counted-slots}
 
@@ -22,18 +17,6 @@ module _ (t : Tables) where
   pub cleared-none : (s : ℕ) → phaseAt (cleared t .nums) s ≡ live → ⊥
   unfolding cleared
   cleared-none = Slots.cleared-none (t .nums)
-
-  -- so there is no object
-  pub cleared-no-object : length (liveSlots (cleared t)) ≡ 0
-  cleared-no-object =
-      live-count (cleared t)
-      ∙ named-count 0 (liveAt (cleared t .nums)) (slotsOf (cleared t)) (λ j. j)
-      (record {
-        inside = λ j l. absurd (omega arith);
-        passes = λ j l. absurd (omega arith);
-        once = λ i j l. absurd (omega arith);
-        every = λ s l e. absurd (cleared-none s (eqb-true (phaseAt (cleared t .nums) s) live e));
-      })
 
   pub cleared-size : sizeOf (cleared t) ≡ sizeOf t
   unfolding cleared

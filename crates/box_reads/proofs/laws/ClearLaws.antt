@@ -12,16 +12,13 @@ use Rattle.basics.specs.Counting.{countBelow}
 use Rattle.slots.specs.Slot.{live, phaseAt}
 use Rattle.storage.specs.Keyed.{written}
 use Rattle.slot_walks.specs.Live.{liveAt, objAt}
-use Rattle.box_tables.specs.Tables.{Tables, usedOf, slotsOf}
+use Rattle.box_tables.specs.Tables.{Tables, slotsOf}
 use Rattle.box_tables.specs.Holds.{Holds}
-use Rattle.box_tables.specs.Decide.{holds-says}
 use Rattle.box_tables.specs.Outcome.{Outcome, outcome}
 use Rattle.box_reads.specs.Live.{liveSlots, listAnswer, listCount}
 use Rattle.box_reads.proofs.laws.LiveLaws.{answer-of, live-count, list-counts}
-use Rattle.box_reads.specs.Reads.{lenOf}
-use Rattle.box_reads.proofs.laws.ReadsLaws.{len-0}
 use Rattle.box_reads.specs.Clear.{cleared, boxAt, Written, wrote, clearOf}
-use Rattle.box_reads.proofs.laws.ClearKeeps.{cleared-none, cleared-no-object, cleared-used, cleared-keeps}
+use Rattle.box_reads.proofs.laws.ClearKeeps.{cleared-none, cleared-keeps}
 use Rattle.replies.specs.Replies.{count}
 
 module _ (t : Tables) (boxes : List (List Float)) (objs : List ℕ) where
@@ -79,12 +76,3 @@ module _ (t : Tables) (boxes : List (List Float)) (objs : List ℕ) where
     -- the number returned with 0 and 9 is that of the live slots
     pub clear-counts : clearOf t boxes objs .result .returned .count ≡ countBelow (liveAt (t .nums)) (slotsOf t)
     clear-counts = ap (λ c. c .count) clear-returned ∙ list-counts t room h ∙ live-count t
-
-    -- after 0 no entry is in use, and `len` gives 0
-    pub clear-used : clearOf t boxes objs .result .returned .answer ≡ 0 → usedOf (clearOf t boxes objs .after) ≡ 0
-    clear-used e = ap (λ o. usedOf (o .after)) (accepted e) ∙ cleared-used t h
-
-    pub clear-len : clearOf t boxes objs .result .returned .answer ≡ 0 → lenOf (clearOf t boxes objs .after) ≡ count 0 0
-    clear-len e =
-        ap (λ o. lenOf (o .after)) (accepted e)
-        ∙ sym (len-0 (cleared t) (holds-says (cleared t) .no (cleared-keeps t h))) ∙ ap (count 0) (cleared-no-object t)

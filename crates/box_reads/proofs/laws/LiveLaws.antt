@@ -39,18 +39,6 @@ module _ (t : Tables) (room : ℕ) where
   answer-of = refl
 
   -- ---- exactly when each answer is given
-  pub list-unheld : holds t ≡ false → listCount t room ≡ count 3 0
-  unfolding listCount
-  list-unheld e = sym (by-unheld (holds t) (length (liveSlots t)) room e)
-
-  pub list-short : holds t ≡ true → room < length (liveSlots t) → listCount t room ≡ count 9 (length (liveSlots t))
-  unfolding listCount
-  list-short e l = sym (by-short (holds t) (length (liveSlots t)) room e l)
-
-  pub list-done : holds t ≡ true → length (liveSlots t) ≤ room → listCount t room ≡ count 0 (length (liveSlots t))
-  unfolding listCount
-  list-done e l = sym (by-done (holds t) (length (liveSlots t)) room e l)
-
   -- 0 says that the tables hold a grid, and that there is room for every object
   pub list-passed : listAnswer t room ≡ 0 → (holds t ≡ true) × (length (liveSlots t) ≤ room)
   unfolding listAnswer

@@ -1,5 +1,5 @@
 -- A box of the domain: its corner cells are near, and they are not reversed; and the item of a slot tells the slot. Assumes nothing.
-use Prim.Native.Nat.{ℕ, _/_, _%_, _≤_}
+use Prim.Native.Nat.{ℕ, _/_, _≤_}
 use mathlib.Core.Path.{_≡_}
 use mathlib.Core.Bool.{Bool, true, false, _&&_}
 use native.Mathlib.Omega.{arith}
@@ -47,9 +47,6 @@ mark-most false = omega arith
 
 pub item-slot : (s : ℕ) (m : Bool) → itemOf s m / 2 ≡ s
 item-slot s m = omega (arith, mark-most m)
-
-pub item-mark : (s : ℕ) (m : Bool) → itemOf s m % 2 ≡ pick m 1 0
-item-mark s m = omega (arith, mark-most m)
 
 pub item-same : (s k : ℕ) (m n : Bool) → itemOf s m ≡ itemOf k n → s ≡ k
 item-same s k m n e = omega (arith, mark-most m, mark-most n)

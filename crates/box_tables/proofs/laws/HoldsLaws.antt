@@ -6,15 +6,12 @@ use mathlib.Core.Bool.{Bool, false}
 use mathlib.Core.List.{List, []}
 use native.Mathlib.Omega.{arith}
 use lib.Dec.{eqb}
-use lib.ListN.{length, length-map}
+use lib.ListN.{length}
 use lib.Seq.{length-take-le}
 use mathlib.Core.Logic.{inl, inr}
 use borrow.Author.Tests.{eqb-true, eq-eqb, ne-eqb}
 use Rattle.basics.specs.Says.{Says, says-same, says-via, d-lt}
 use Rattle.cells.specs.Numbers.{Near}
-use Rattle.cells.specs.Key.{keyOf}
-use Rattle.cells.specs.Range.{rangeCells}
-use Rattle.cells.proofs.laws.RangeLaws.{range-length}
 use Rattle.slots.specs.Slot.{live, phaseAt, SlotsHold}
 use Rattle.storage.specs.Keyed.{All, Sorted, filter}
 use Rattle.storage.specs.Entries.{rowKey, rowItem, isItem}
@@ -95,9 +92,6 @@ module _ (t : Tables) (h : Holds t) where
   pub entries-named : All (Named t) (entriesIn t)
   entries-named = all-first (usedOf t) (t .pool) used-in-pool (Named t) (λ j l. let e = h .each j l in record { slot = e .slot; inside = e .inside; occupied = e .occupied; item = e .item })
 
-  pub listing : Listing t (entriesIn t)
-  listing = record { ordered = entries-sorted; each = entries-named; every = h .every }
-
   -- a slot that is not occupied has no entry, with either mark
   pub unnamed : (s : ℕ) → (phaseAt (t .nums) s ≡ live → ⊥) → (m : Bool) → filter (isItem (itemOf s m)) (entriesIn t) ≡ []
   unnamed = not-named t (entriesIn t) entries-named
@@ -109,13 +103,6 @@ module _ (t : Tables) (h : Holds t) where
 
     pub high-near : Near (highCell (sizeOf t) (aabbOn t s))
     high-near = Box.high-near (aabbOn t s) (h .boxes s l p .in-domain) (sizeOf t)
-
-    -- a box has as many entries as it covers cells
-    pub entry-count : length (filter (isItem (itemOn t s)) (entriesIn t)) ≡ covers (sizeOf t) (aabbOn t s)
-    entry-count =
-        let a = lowCell (sizeOf t) (aabbOn t s) in
-        let b = highCell (sizeOf t) (aabbOn t s) in
-        sym (length-map (filter (isItem (itemOn t s)) (entriesIn t)) rowKey) ∙ ap length (h .every s l p) ∙ length-map (rangeCells a b) keyOf ∙ range-length a b
 
 -- ---- tables hold a grid if their parts do, and the list of their entries
 pub holds-of : (t : Tables) (rows : List (List ℕ)) → Sized t → Counted t → SlotsHold (t .nums) (t .map) → ((s : ℕ) → s < slotsOf t → phaseAt (t .nums) s ≡ live → BoxHolds t s) → entriesIn t ≡ rows → Listing t rows → Holds t

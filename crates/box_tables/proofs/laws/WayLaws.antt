@@ -3,16 +3,15 @@ use Prim.Native.Nat.{ℕ, zero, suc, _+_, _-_, _*_, _<_, _≤_}
 use mathlib.Core.Path.{_≡_, refl, sym, ap₂, _∙_, subst}
 use mathlib.Core.List.{List, [], _∷_, _++_, map}
 use native.Mathlib.Numerals.{add-one}
-use native.Mathlib.Nat.{mul-pos}
 use native.Mathlib.Omega.{arith}
-use lib.Dec.{T, leb, leb→le}
+use lib.Dec.{T, leb→le}
 use lib.IntN.{ℤ, pos, negsuc}
 use lib.Signed.{mag, leZ}
 use lib.Ieee.{Float}
 use borrow.Author.Tests.{eq-eqb, ne-eqb}
 use Rattle.cells.specs.declared.Cell.{Cell}
 use Rattle.cells.specs.Numbers.{Near, Fits, near-fits}
-use Rattle.cells.specs.Range.{cellsIn, rangeCells}
+use Rattle.cells.specs.Range.{rangeCells}
 use Rattle.cells.specs.Key.{upward, keyOf, columnOf}
 use Rattle.cells.proofs.laws.KeyLaws.{upward-lt, key-column}
 use Rattle.cells.proofs.laws.RangeKeyLaws.{range-keys, count-up, upward-order}
@@ -20,7 +19,7 @@ use Rattle.cells.specs.Rising.{run, runs}
 use Rattle.slots.specs.Slot.{live, phaseAt}
 use Rattle.geometry.specs.declared.Aabb.{Aabb}
 use Rattle.geometry.specs.Domain.{aabbInDomain}
-use Rattle.box_tables.specs.Tables.{aabbAt, lowCell, highCell, covers}
+use Rattle.box_tables.specs.Tables.{aabbAt, lowCell, highCell}
 use Rattle.box_tables.proofs.laws.BoxLaws.{low-near, high-near, corners-x, corners-y}
 use Rattle.box_tables.specs.Way.{behind, ToCome, OnWay, Bounded, spanOf, wayOf, noWay, wayAt}
 
@@ -84,14 +83,6 @@ module _ (size : ℕ) (hs : 1 ≤ size) (b : Aabb) (h : T (aabbInDomain b)) wher
 
   rises-y : upward (lowCell size b .y) ≤ upward (highCell size b .y)
   rises-y = not-reversed (lowCell size b .y) (highCell size b .y) (fits-low .y) (fits-high .y) (corners-y b h size hs)
-
-  -- a box of the domain covers a cell
-  pub covers-some : 1 ≤ covers size b
-  unfolding cellsIn
-  covers-some = mul-pos (some _ _ (count-up (lowCell size b .x) (highCell size b .x) (fits-low .x) (fits-high .x) rises-x)) (some _ _ (count-up (lowCell size b .y) (highCell size b .y) (fits-low .y) (fits-high .y) rises-y))
-    where
-      some : (n d : ℕ) → n ≡ d + 1 → 0 < n
-      some n d e = omega arith
 
   -- the way of a box: what is to come is the keys of its range
   pub way-of-box : (s : ℕ) → OnWay (wayOf s (spanOf size b)) (map keyOf (rangeCells (lowCell size b) (highCell size b)))

@@ -1,6 +1,5 @@
--- The nine rows of the table of cells, as one computed test: at each size, the coordinate with these bits has this cell. Assumes nothing.
-use mathlib.Core.Path.{_≡_, refl}
-use mathlib.Core.Bool.{Bool, true, _&&_}
+-- The nine rows of the table of cells: at each size, the coordinate with these bits has this cell. Assumes nothing.
+use mathlib.Core.Bool.{Bool, _&&_}
 use mathlib.Core.List.{List, [], _∷_}
 use Prim.Native.Nat.{ℕ}
 use lib.IntN.{ℤ, pos, negsuc}
@@ -20,11 +19,6 @@ unfoldable pub right : Row → Bool
 unfolding ofBits cellOf
 right r = let z = cellOf (pos (r .size)) (ofBits binary32 (r .bits)) in leZ z (r .cell) && leZ (r .cell) z
 
-unfoldable pub all : List Row → Bool
-unfolding right
-all [] = true
-all (r ∷ rs) = right r && all rs
-
 -- -10.0, -9.5, -0.5, -0.0, 9.5, 10.0, -1.0, 1279.0, 1048576.0
 unfoldable pub table : List Row
 table =
@@ -38,7 +32,3 @@ table =
     ∷ row 16 0x449fe000 (pos 79)
     ∷ row 1 0x49800000 (pos 1048576)
     ∷ []
-
-pub rows-hold : all table ≡ true
-unfolding all table
-rows-hold = refl

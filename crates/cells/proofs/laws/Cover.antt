@@ -1,10 +1,8 @@
 -- No found point lies outside the searched range: the cell of a point that the circle test finds, or that a rectangle holds, is a cell
 -- of the range that is searched, for every cell size. Assumes nothing.
-use Prim.Native.Nat.{ℕ, _≤_, _<_}
-use mathlib.Core.Path.{_≡_, refl, sym, ap, _∙_, subst}
+use Prim.Native.Nat.{ℕ, _≤_}
+use mathlib.Core.Path.{_≡_, refl, sym, subst}
 use mathlib.Core.Bool.{Bool, true, false, _&&_}
-use native.Mathlib.Nat.{mul-pos}
-use native.Mathlib.Omega.{arith}
 use lib.Dec.{T}
 use lib.IntN.{pos}
 use lib.Signed.{leZ}
@@ -17,8 +15,7 @@ use Rattle.geometry.specs.Rectangle.{lowerCorner, upperCorner, inRectangle}
 use Rattle.geometry.proofs.laws.RectangleLaws.{rectangle-between}
 use Rattle.cells.specs.CellRule.{cellOf, cellAt}
 use Rattle.cells.specs.CellRuleLaws.{mono}
-use Rattle.cells.specs.Range.{countFrom, cellsIn, inRange}
-use Rattle.cells.proofs.laws.StepLaws.{reached, count-step}
+use Rattle.cells.specs.Range.{inRange}
 use Rattle.cells.proofs.laws.RangeLaws.{and-made}
 use Rattle.cells.specs.CircleRange.{circleLow, circleHigh}
 
@@ -57,14 +54,3 @@ module _ (size : ℕ) (some : 1 ≤ size) where
   circle-cover p centre r fp fc fr hp hc hr e =
       let (x, y) = found-in-range p centre r fp fc fr hp hc hr (true-t e) in
       corners p (circleLow centre r) (circleHigh centre r) (x .0) (x .1) (y .0) (y .1)
-
-  -- corners that are not reversed have a cell between them
-  some-count : (lo hi : Float) → T (le lo hi) → 0 < countFrom (cellOf (pos size) lo) (cellOf (pos size) hi)
-  some-count lo hi h =
-      let c = cellOf (pos size) in
-      let (k, e) = reached (c lo) (c hi) (t-true (leZ (c lo) (c hi)) (mono size some lo hi h)) in
-      omega (arith, ap (countFrom (c lo)) e ∙ count-step (c lo) k)
-
-  pub some-cells : (ll ur : Position) → T (le (ll .x) (ur .x)) → T (le (ll .y) (ur .y)) → 0 < cellsIn (cellAt size ll) (cellAt size ur)
-  unfolding cellsIn
-  some-cells ll ur h k = mul-pos (some-count (ll .x) (ur .x) h) (some-count (ll .y) (ur .y) k)

@@ -1,14 +1,12 @@
--- Cells whose numbers fit 32 bits have keys of their own, below 2 ^ 64, in the order of the rows and, in a row, of x. Assumes nothing.
+-- Cells whose numbers fit 32 bits have keys below 2 ^ 64, and each comes back from its key. Assumes nothing.
 use Prim.Native.Nat.{ℕ, suc, _-_, _<_}
 use mathlib.Core.Path.{_≡_, refl, ap, _∙_}
-use mathlib.Core.Logic.{_⊎_, inl, inr}
 use mathlib.Core.Bool.{Bool, true, false, cond}
 use native.Mathlib.Omega.{arith}
-use lib.Dec.{ltb, ltb→lt, lt→ltb}
+use lib.Dec.{ltb}
 use lib.IntN.{ℤ, pos, negsuc}
-use lib.Signed.{mag, _<ℤ_}
+use lib.Signed.{mag}
 use borrow.Author.Tests.{ltb-true, ltb-false}
-use Rattle.basics.specs.Says.{d-lt}
 use Rattle.cells.specs.declared.Cell.{Cell}
 use Rattle.cells.specs.Numbers.{cell-ext, Fits}
 use Rattle.cells.specs.Key.{upward, downward, keyOf, columnOf, rowOf, cellOfKey}
@@ -24,52 +22,10 @@ upward-injective (pos a) (negsuc b) ha hb e = absurd (omega arith)
 upward-injective (negsuc a) (pos b) ha hb e = absurd (omega arith)
 upward-injective (negsuc a) (negsuc b) ha hb e = ap negsuc (omega arith)
 
-pub upward-rises : (a b : ℤ) → mag a < 2147483648 → mag b < 2147483648 → a <ℤ b → upward a < upward b
-upward-rises (pos a) (pos b) ha hb h = omega (arith, ltb→lt a b (h .lt))
-upward-rises (pos a) (negsuc b) ha hb h = absurd (h .lt)
-upward-rises (negsuc a) (pos b) ha hb h = omega arith
-upward-rises (negsuc a) (negsuc b) ha hb h = omega (arith, ltb→lt b a (h .lt))
-
-pub upward-falls : (a b : ℤ) → mag a < 2147483648 → mag b < 2147483648 → upward a < upward b → a <ℤ b
-upward-falls (pos a) (pos b) ha hb h = record { lt = lt→ltb a b (omega arith) }
-upward-falls (pos a) (negsuc b) ha hb h = absurd (omega arith)
-upward-falls (negsuc a) (pos b) ha hb h = record { lt = tt }
-upward-falls (negsuc a) (negsuc b) ha hb h = record { lt = lt→ltb b a (omega arith) }
-
 -- ---- keys
 pub key-lt : (c : Cell) → Fits c → keyOf c < 18446744073709551616
 unfolding keyOf
 key-lt c f = omega (arith, upward-lt (c .x) (f .x), upward-lt (c .y) (f .y))
-
-pub key-injective : (a b : Cell) → Fits a → Fits b → keyOf a ≡ keyOf b → a ≡ b
-unfolding keyOf
-key-injective a b fa fb e =
-    let xa = upward-lt (a .x) (fa .x) in
-    let xb = upward-lt (b .x) (fb .x) in
-    cell-ext (upward-injective (a .x) (b .x) (fa .x) (fb .x) (omega arith)) (upward-injective (a .y) (b .y) (fa .y) (fb .y) (omega arith))
-
--- a lower row, or the same row and further left
-abbrev pub Before : Cell → Cell → Type 0
-Before a b = (a .y <ℤ b .y) ⊎ ((a .y ≡ b .y) × (a .x <ℤ b .x))
-
-pub key-rises : (a b : Cell) → Fits a → Fits b → Before a b → keyOf a < keyOf b
-unfolding keyOf
-key-rises a b fa fb (inl h) = omega (arith, upward-lt (a .x) (fa .x), upward-rises (a .y) (b .y) (fa .y) (fb .y) h)
-key-rises a b fa fb (inr h) = omega (arith, ap upward (h .0), upward-rises (a .x) (b .x) (fa .x) (fb .x) (h .1))
-
-pub key-falls : (a b : Cell) → Fits a → Fits b → keyOf a < keyOf b → Before a b
-unfolding keyOf
-key-falls a b fa fb h =
-    let xa = upward-lt (a .x) (fa .x) in
-    let xb = upward-lt (b .x) (fb .x) in
-    elim (d-lt (upward (a .y)) (upward (b .y))) [
-      | inl l ↦ inl (upward-falls (a .y) (b .y) (fa .y) (fb .y) l)
-      | inr n ↦
-          inr (
-            upward-injective (a .y) (b .y) (fa .y) (fb .y) (omega (arith, n)),
-            upward-falls (a .x) (b .x) (fa .x) (fb .x) (omega (arith, n)),
-          )
-    ]
 
 -- ---- back from a key
 pub upward-downward : (n : ℕ) → upward (downward n) ≡ n

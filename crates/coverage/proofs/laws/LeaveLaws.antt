@@ -25,7 +25,7 @@ use Rattle.storage.specs.TakeOutLaws.{has, has-at, all-takeOut, takeOut-none}
 use Rattle.coverage.specs.Coverage.{leftFrom, left, Stands}
 use Rattle.coverage.specs.Taken.{takenFrom}
 use Rattle.coverage.proofs.laws.TakenLaws.{taken-all, taken-sorted, taken-under, taken-length}
-use Rattle.coverage.proofs.laws.ListLaws.{filter-swap, filter-empty, has-filter, has-map, filter-taken, length-filter-taken, alike, rising-once}
+use Rattle.coverage.proofs.laws.ListLaws.{filter-swap, has-filter, has-map, filter-taken, length-filter-taken, alike, rising-once}
 
 from-keys : (cs : List Cell) (i : ℕ) (rows : List (List ℕ)) → leftFrom cs i rows ≡ takenFrom (map keyOf cs) i rows
 from-keys [] i rows = refl
@@ -92,9 +92,6 @@ module _ (a b : Cell) (na : Near a) (nb : Near b) (i : ℕ) (rows : List (List �
         filter-swap (λ r. eqb (rowKey r) k) (isItem i) (left a b i rows)
         ∙ ap (filter (isItem i)) (left-under k)
         ∙ filter-taken (isItem i) (under rowKey k rows) (stands-once k))
-
-    pub left-gone : All (λ r. isItem i r ≡ false) (left a b i rows)
-    left-gone = filter-empty (isItem i) (left a b i rows) (rw left-none (omega arith))
 
     -- the keys of another item's entries
     module _ (j : ℕ) (n : j ≡ i → ⊥) where

@@ -158,7 +158,3 @@ number-read l n h = ap (upTo largest) (h .0) ∙ up-to-read largest n (h .1)
 
 pub no-number : (l : List ℕ) → numberOf l ≡ Unreadable → (n : ℕ) → n ≤ 4294967295 → l ≡ decimal n → ⊥
 no-number l e n h t = unread (sym e ∙ number-read l n (t, h))
-
--- two numbers of one text are one
-pub same-text : (m n : ℕ) → decimal m ≡ decimal n → m ≡ n
-same-text m n e = same-number (sym (up-to-read (m + n) m (omega arith)) ∙ ap (upTo (m + n)) e ∙ up-to-read (m + n) n (omega arith))

@@ -1,14 +1,13 @@
 -- The text of a number by its last digit, and how long it is. Assumes nothing.
 use Prim.Native.Nat.{ℕ, zero, suc, _+_, _*_, _/_, _%_, _^_, _≤_, _<_}
-use mathlib.Core.Path.{_≡_, refl, sym, ap, _∙_, subst}
+use mathlib.Core.Path.{_≡_, refl, ap, _∙_}
 use mathlib.Core.List.{List, [], _∷_, _++_}
 use mathlib.Core.Logic.{⊎-elim}
 use native.Mathlib.Nat.{pow-suc}
 use native.Mathlib.Omega.{arith}
-use lib.IntN.{ℤ, pos, negsuc, natAbs}
 use lib.ListN.{length, length-append, getD}
 use Rattle.basics.specs.Says.{d-lt}
-use Rattle.decimals.specs.Text.{leading, decimal, signedText}
+use Rattle.decimals.specs.Text.{leading, decimal}
 
 -- how many digits there may be is no matter where they are enough
 leading-same : (f g n : ℕ) → n ≤ f → n ≤ g → leading f n ≡ leading g n
@@ -74,11 +73,6 @@ text-length (suc k) n h =
 pub number-length : (n : ℕ) → n ≤ 4294967295 → length (decimal n) ≤ 10
 number-length n h = text-length 9 n (omega arith)
 
-pub count-length : (k : ℤ) → natAbs k ≤ 1048576 → length (signedText k) ≤ 8
-unfolding signedText
-count-length (pos n) h = omega (arith, text-length 6 n (omega arith))
-count-length (negsuc n) h = omega (arith, text-length 6 (suc n) (omega arith))
-
 -- the first byte of a number above 0 is no 0
 pub no-leading-zero : (n : ℕ) → 0 < n → 48 < getD (decimal n) 0 0
 no-leading-zero = by-digits one more
@@ -92,22 +86,3 @@ no-leading-zero = by-digits one more
 
     more : (n : ℕ) → 10 ≤ n → (0 < n / 10 → 48 < getD (decimal (n / 10)) 0 0) → 0 < n → 48 < getD (decimal n) 0 0
     more n l ih h = rw (last-digit n l) (keeps (decimal (n / 10)) ((48 + n % 10) ∷ []) (ih (omega arith)))
-
--- every byte of a number's text is a digit: none is a comma, a minus or a line end
-abbrev pub Digits : List ℕ → Type 0
-Digits t = (i : ℕ) → i < length t → (48 ≤ getD t i 0) × (getD t i 0 ≤ 57)
-
-joined : (s t : List ℕ) → Digits s → Digits t → Digits (s ++ t)
-joined [] t a b i h = b i h
-joined (c ∷ s) t a b zero h = a zero (omega arith)
-joined (c ∷ s) t a b (suc i) h = joined s t (λ j l. a (suc j) (omega arith)) b i (omega arith)
-
-one-only : (d : ℕ) → d < 10 → Digits ((48 + d) ∷ [])
-one-only d h zero l = (omega arith, omega arith)
-one-only d h (suc i) l = absurd (omega arith)
-
-pub text-digits : (n : ℕ) → Digits (decimal n)
-text-digits =
-    by-digits {P = λ (n : ℕ). Digits (decimal n)}
-    (λ n l. subst Digits (sym (one-digit n l)) (one-only n l))
-    (λ n l ih. subst Digits (sym (last-digit n l)) (joined (decimal (n / 10)) ((48 + n % 10) ∷ []) ih (one-only (n % 10) (omega arith))))

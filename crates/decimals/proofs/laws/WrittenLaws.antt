@@ -5,7 +5,7 @@ use mathlib.Core.List.{List, [], _∷_, _++_, append-assoc}
 use native.Mathlib.Numerals.{add-one}
 use native.Mathlib.Omega.{arith}
 use lib.ListN.{length, take, drop, set, length-append, length-drop}
-use lib.Seq.{slice, length-take-le, take-at, drop-at, take-append-le, take-take, drop-append-add, drop-drop, set-split}
+use lib.Seq.{length-take-le, take-at, drop-append-add, drop-drop, set-split}
 use Rattle.decimals.specs.Written.{Written, written, put, putAt}
 
 pub one-byte : (l : List ℕ) (at c : ℕ) → at < length l → written (set l at c) (at + 1) ≡ put (written l at) (c ∷ [])
@@ -28,13 +28,6 @@ module _ (l : List ℕ) (at : ℕ) (s : List ℕ) (room : at + length s ≤ leng
 
   pub put-length : length (putAt l at s) ≡ length l
   put-length = simp (length-append, length-drop, length-take-le at l (omega arith)) (omega arith)
-
-  -- the text is there, and what stood before it
-  pub put-part : slice at (at + length s) (putAt l at s) ≡ s
-  put-part = ap (drop at) put-front ∙ drop-at (take at l) s at (length-take-le at l (omega arith))
-
-  pub put-before : (k : ℕ) → k ≤ at → take k (putAt l at s) ≡ take k l
-  put-before k h = take-append-le k (take at l) (s ++ drop (at + length s) l) (omega (arith, length-take-le at l (omega arith))) ∙ take-take k at l h
 
   putAt-putAt : (t : List ℕ) → putAt (putAt l at s) (at + length s) t ≡ putAt l at (s ++ t)
   putAt-putAt t =
@@ -63,10 +56,3 @@ module _ (l : List ℕ) (at : ℕ) (s : List ℕ) {m : List ℕ} {n : ℕ} (e : 
 
   pub length-is : at + length s ≤ length l → length m ≡ length l
   length-is h = ap length bytes-are ∙ put-length l at s h
-
--- what is written from the start on
-pub put-text : (l s : List ℕ) → length s ≤ length l → take (length s) (put (written l 0) s .bytes) ≡ s
-unfolding put
-put-text l s h =
-    let e : length s ≡ 0 + length s = omega arith in
-    ap (λ (k : ℕ). take k (putAt l 0 s)) e ∙ put-front l 0 s (omega arith)

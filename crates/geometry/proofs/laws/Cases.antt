@@ -1,10 +1,9 @@
--- Document 01's cases C1 to C5 and its box that passes by rounding, with a miss beside each hit and the edges of the domain, as one computed test.
+-- Document 01's cases C1 to C5 and its box that passes by rounding, with a miss beside each hit and the edges of the domain.
 -- Numbers are bit patterns. Assumes nothing.
 use Prim.Native.Nat.{ℕ}
-use mathlib.Core.Path.{_≡_, refl}
-use mathlib.Core.Bool.{Bool, true, false, _&&_, Bool·beq}
+use mathlib.Core.Bool.{Bool, true, false, Bool·beq}
 use mathlib.Core.List.{List, [], _∷_}
-use lib.Ieee.{binary32, ofBits, lt, le, eq, add, sub, mul, neg, fits}
+use lib.Ieee.{binary32, ofBits, lt, le, eq, add, sub, mul, neg}
 use Rattle.geometry.specs.declared.Position.{Position}
 use Rattle.geometry.specs.declared.Aabb.{Aabb}
 use Rattle.geometry.specs.Domain.{inDomain, radiusInDomain}
@@ -44,11 +43,6 @@ right (circle p c r w) = Bool·beq (inCircle (position p) (position c) (ofBits b
 right (rectangle a b p w) = Bool·beq (inRectangle (position p) (lowerCorner (position a) (position b)) (upperCorner (position a) (position b))) w
 right (boxes a b c d w) = Bool·beq (intersects (box a b) (box c d)) w
 
-unfoldable pub all : List Row → Bool
-unfolding right
-all [] = true
-all (r ∷ rs) = right r && all rs
-
 unfoldable pub table : List Row
 table =
     -- C1: (3, 4) from (0, 0) with radius 5
@@ -78,7 +72,3 @@ table =
     ∷ radius 0x49800000 true
     ∷ radius 0x49800001 false
     ∷ []
-
-pub cases-hold : all table ≡ true
-unfolding all table fits
-cases-hold = refl

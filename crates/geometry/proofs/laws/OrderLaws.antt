@@ -1,15 +1,13 @@
--- The order of finite floats: each is at most itself, of two one is at most the other, and what lies below passes through. Assumes nothing.
+-- The order of finite floats: each is at most itself, and of two one is at most the other. Assumes nothing.
 use mathlib.Core.Path.{_≡_, refl, subst}
-use Prim.Native.Nat.{ℕ, _+_, _*_, _≤_, _<_}
+use Prim.Native.Nat.{ℕ, _*_, _≤_, _<_}
 use native.Mathlib.Nat.{le-of-eq}
 use native.Mathlib.Omega.{arith}
 use mathlib.Core.Bool.{Bool, true, false, not}
 use lib.Dec.{T, leb, leb→le, nleb→lt}
-use lib.Ieee.{Float, nan, inf, fin, Format, up, down, lt, eq, le, fits}
+use lib.Ieee.{Float, nan, inf, fin, up, down, lt, eq, le}
 use lib.Ieee.Scale.{finite}
-use Rattle.geometry.specs.Value.{le-num}
-use Rattle.geometry.proofs.laws.Rounding.{number}
-use Rattle.geometry.proofs.laws.Back.{le-ff, le-tt, le-tf, num-le}
+use Rattle.geometry.proofs.laws.Back.{le-ff, le-tt, le-tf}
 
 pub le-refl : (x : Float) → T (finite x) → T (le x x)
 unfolding le lt eq
@@ -48,13 +46,3 @@ le-total (fin true m e) (fin true n d) g h i =
     either-way b a (λ k. absurd (not-both _ i (le-tt a b k))) (λ k. le-tt b a k)
 le-total (fin true m e) (fin false n d) g h i = absurd (not-both _ i (le-tf (m * up e * down d) (n * up d * down e)))
 le-total (fin false m e) (fin true n d) g h i = le-tf (n * up d * down e) (m * up e * down d)
-
-pub le-through : (f : Format) (x y z : Float) → T (fits f x) → T (fits f y) → T (fits f z) → T (finite x) → T (finite y) → T (finite z) → T (le x y) → T (le y z) → T (le x z)
-le-through f x y z a b c i j k g h =
-    let (p, n, u) = number f x a i in
-    let (q, o, v) = number f y b j in
-    let (r, t, w) = number f z c k in
-    num-le f x z p n r t u w (go p n q o r t (le-num f x y p n q o u v g) (le-num f y z q o r t v w h))
-  where
-    go : (p n q o r t : ℕ) → p + o ≤ q + n → q + t ≤ r + o → p + t ≤ r + n
-    go p n q o r t g h = omega arith

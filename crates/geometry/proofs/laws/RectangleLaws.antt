@@ -8,8 +8,7 @@ use lib.Ieee.Fits.{and-i, and-l, and-r}
 use lib.Ieee.Scale.{finite}
 use Rattle.basics.specs.Refusals.{pick}
 use Rattle.geometry.specs.declared.Position.{Position}
-use Rattle.geometry.specs.declared.Aabb.{Aabb}
-use Rattle.geometry.specs.Domain.{inDomain, positionInDomain, aabbInDomain}
+use Rattle.geometry.specs.Domain.{inDomain, positionInDomain}
 use Rattle.geometry.specs.Rectangle.{lesser, greater, lowerCorner, upperCorner, inRectangle}
 use Rattle.geometry.proofs.laws.OrderLaws.{le-refl, le-total}
 use Rattle.geometry.proofs.laws.DomainLaws.{domain-finite, position-parts}
@@ -103,29 +102,3 @@ rectangle-between p ll ur h =
     let x = and-l (a && b) (c && d) h in
     let y = and-r (a && b) (c && d) h in
     ((and-l a b x, and-l c d y), (and-r a b x, and-r c d y))
-
-pub between-rectangle : (p ll ur : Position) → Below ll p → Below p ur → T (inRectangle p ll ur)
-between-rectangle p ll ur g h =
-    let a = le (ll .x) (p .x) in
-    let b = le (p .x) (ur .x) in
-    let c = le (ll .y) (p .y) in
-    let d = le (p .y) (ur .y) in
-    and-i (a && b) (c && d) (and-i a b (g .0) (h .0)) (and-i c d (g .1) (h .1))
-
--- each of the corners that were given is in the rectangle: edges are included
-pub corner-inside : (a b : Position) → T (positionInDomain a) → T (positionInDomain b) → T (inRectangle a (lowerCorner a b) (upperCorner a b)) × T (inRectangle b (lowerCorner a b) (upperCorner a b))
-corner-inside a b ha hb = (
-  between-rectangle a (lowerCorner a b) (upperCorner a b) (lower-first a b ha hb) (upper-first a b ha hb),
-  between-rectangle b (lowerCorner a b) (upperCorner a b) (lower-second a b ha hb) (upper-second a b ha hb),
-)
-
--- ---- a box of the domain
-pub box-parts : (b : Aabb) → T (aabbInDomain b) → (T (positionInDomain (b .ll)) × T (positionInDomain (b .ur))) × Below (b .ll) (b .ur)
-box-parts b h =
-    let p = positionInDomain (b .ll) in
-    let q = positionInDomain (b .ur) in
-    let x = le (b .ll .x) (b .ur .x) in
-    let y = le (b .ll .y) (b .ur .y) in
-    let c = and-l (p && q) (x && y) h in
-    let d = and-r (p && q) (x && y) h in
-    ((and-l p q c, and-r p q c), (and-l x y d, and-r x y d))

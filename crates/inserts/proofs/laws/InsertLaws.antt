@@ -2,7 +2,6 @@
 use Prim.Native.Nat.{ℕ}
 use mathlib.Core.Path.{_≡_, refl, _∙_}
 use mathlib.Core.Bool.{Bool, true, false}
-use mathlib.Core.Logic.{_⊎_, inl, inr}
 use lib.Dec.{eqb}
 use Rattle.basics.specs.Says.{says-t}
 use Rattle.basics.specs.Refusals.{pick}
@@ -46,34 +45,11 @@ module _ (t : Tables) (p : Position) (d : ℕ) where
   pub insert-done : (s : ℕ) → Holds t → InDomain p → usableSlot t ≡ At s → insertOf t p d ≡ outcome (inserted 0 s (versionAt (t .nums) s)) (put t s p d)
   insert-done s h i e = by-tests ∙ rw (holds-says t .no h, says-t (positionInDomain p) .no i, e)
 
-  pub insert-unheld : (Holds t → ⊥) → insertOf t p d ≡ outcome (inserted 3 0 0) t
-  insert-unheld h = by-tests ∙ rw (not-said (holds-says t) h)
-
   pub insert-outside : Holds t → (InDomain p → ⊥) → insertOf t p d ≡ outcome (inserted 6 0 0) t
   insert-outside h i = by-tests ∙ rw (holds-says t .no h, not-said (says-t (positionInDomain p)) i)
 
   pub insert-full : Holds t → InDomain p → usableSlot t ≡ Nothing → insertOf t p d ≡ outcome (inserted 4 0 0) t
   insert-full h i e = by-tests ∙ rw (holds-says t .no h, says-t (positionInDomain p) .no i, e)
-
-  -- ---- 0, 3, 4 or 6
-  pub insert-answers : (insertOf t p d .result .answer ≡ 0) ⊎ ((insertOf t p d .result .answer ≡ 3) ⊎ ((insertOf t p d .result .answer ≡ 4) ⊎ (insertOf t p d .result .answer ≡ 6)))
-  insert-answers = rw by-tests (go (holds t) (positionInDomain p) (usableSlot t))
-    where
-      go : (a b : Bool) (u : Usable) → (insertBy a b u .result .answer ≡ 0) ⊎ ((insertBy a b u .result .answer ≡ 3) ⊎ ((insertBy a b u .result .answer ≡ 4) ⊎ (insertBy a b u .result .answer ≡ 6)))
-      go false b u = inr (inl refl)
-      go true false u = inr (inr (inr refl))
-      go true true Nothing = inr (inr (inl refl))
-      go true true (At s) = inl refl
-
-  -- a refusal leaves the tables and returns zeros
-  pub insert-refused : (insertOf t p d .result .answer ≡ 0 → ⊥) → insertOf t p d ≡ outcome (inserted (insertOf t p d .result .answer) 0 0) t
-  insert-refused = rw by-tests (go (holds t) (positionInDomain p) (usableSlot t))
-    where
-      go : (a b : Bool) (u : Usable) → (insertBy a b u .result .answer ≡ 0 → ⊥) → insertBy a b u ≡ outcome (inserted (insertBy a b u .result .answer) 0 0) t
-      go false b u n = refl
-      go true false u n = refl
-      go true true Nothing n = refl
-      go true true (At s) n = absurd (n refl)
 
   -- tables that hold a grid still do
   pub insert-holds : Holds t → Holds (insertOf t p d .after)

@@ -1,8 +1,7 @@
--- Freshly built tables hold a grid; building answers 0, 2 or 3, and one that is refused leaves the tables. Assumes nothing.
+-- Freshly built tables hold a grid; building that is refused leaves the tables. Assumes nothing.
 use Prim.Native.Nat.{ℕ, _<_}
-use mathlib.Core.Path.{_≡_, refl, _∙_}
+use mathlib.Core.Path.{_≡_, refl}
 use mathlib.Core.Bool.{Bool, true, false}
-use mathlib.Core.Logic.{_⊎_, inl, inr}
 use native.Mathlib.Omega.{arith}
 use lib.Dec.{eqb}
 use lib.ListN.{length-replicate}
@@ -11,7 +10,7 @@ use Rattle.cells.specs.Size.{SizeInDomain}
 use Rattle.slots.specs.Slot.{live, phaseAt, SlotsHold}
 use Rattle.storage.specs.Packed.{Packed}
 use Rattle.blank.specs.Blank.{sizeOk}
-use Rattle.blank.proofs.laws.BlankLaws.{blank-length, blank-holds, blank-not-live, not-said, size-says}
+use Rattle.blank.proofs.laws.BlankLaws.{blank-length, blank-holds, blank-not-live, size-says}
 use Rattle.point_tables.specs.Tables.{Tables, usedOf, rowsOf, slotsOf, Sized}
 use Rattle.point_tables.specs.Holds.{Counted, ListsHold, Holds}
 use Rattle.point_tables.specs.Decide.{sized, sized-says}
@@ -79,25 +78,6 @@ module _ (t : Tables) (size : ℕ) where
   by-tests : newOf t size ≡ newBy (sized t) (sizeOk size)
   unfolding newOf newAnswer built
   by-tests = refl
-
-  -- exactly when each answer is given
-  pub new-done : Sized t → SizeInDomain size → newOf t size ≡ outcome 0 (built t size)
-  new-done z d = by-tests ∙ rw (sized-says t .no z, size-says size .no d)
-
-  pub new-lengths : (Sized t → ⊥) → newOf t size ≡ outcome 3 t
-  new-lengths z = by-tests ∙ rw (not-said (sized-says t) z)
-
-  pub new-size : Sized t → (SizeInDomain size → ⊥) → newOf t size ≡ outcome 2 t
-  new-size z d = by-tests ∙ rw (sized-says t .no z, not-said (size-says size) d)
-
-  -- 0, 2 or 3
-  pub new-answers : (newOf t size .result ≡ 0) ⊎ ((newOf t size .result ≡ 2) ⊎ (newOf t size .result ≡ 3))
-  new-answers = rw by-tests (go (sized t) (sizeOk size))
-    where
-      go : (a b : Bool) → (newBy a b .result ≡ 0) ⊎ ((newBy a b .result ≡ 2) ⊎ (newBy a b .result ≡ 3))
-      go true true = inl refl
-      go true false = inr (inl refl)
-      go false b = inr (inr refl)
 
   pub new-refused : (newOf t size .result ≡ 0 → ⊥) → newOf t size .after ≡ t
   new-refused = rw by-tests (go (sized t) (sizeOk size))

@@ -20,8 +20,7 @@ use Rattle.point_tables.specs.Outcome.{Outcome}
 use Rattle.replies.specs.declared.Reply.{Reply}
 use Rattle.moves.specs.Moves.{setPositionAnswer, setPositionOf, removeAnswer, removeOf}
 use Rattle.moves.specs.Batch.{Call, callOf}
-use Rattle.moves.proofs.laws.MovesLaws.{set-accepted, remove-accepted, set-refused, set-done, remove-refused, remove-done}
-use Rattle.moves.proofs.laws.MovesKeeps.{set-position-keeps, remove-keeps}
+use Rattle.moves.proofs.laws.MovesLaws.{set-refused, set-done, remove-refused, remove-done}
 
 -- one of the numbers of a list
 abbrev pub Among : List ℕ → ℕ → Type 0
@@ -36,17 +35,6 @@ pub remove-answer-is : (t : Tables) (h : Handle) → removeOf t h .result .answe
 remove-answer-is t h = ⊎-elim (λ e. rw (remove-done t h e) (sym e)) (λ n. rw (remove-refused t h n)) (d-eq (removeAnswer t h) 0)
 
 -- ---- which answers there are
-set-tests : (a b c d : Bool) → Among (0 ∷ 1 ∷ 3 ∷ 5 ∷ 6 ∷ []) (orElse a 3 (orElse b 6 (orElse c 5 (orElse d 1 0))))
-set-tests true true true true = inl refl
-set-tests true true true false = inr (inl refl)
-set-tests false b c d = inr (inr (inl refl))
-set-tests true true false d = inr (inr (inr (inl refl)))
-set-tests true false c d = inr (inr (inr (inr (inl refl))))
-
-pub set-answers : (t : Tables) (h : Handle) (at : Position) → Among (0 ∷ 1 ∷ 3 ∷ 5 ∷ 6 ∷ []) (setPositionOf t h at .result .answer)
-unfolding setPositionAnswer
-set-answers t h at = rw (set-answer-is t h at) (set-tests (holds t) (positionInDomain at) (good (t .nums) (h .slot) (h .version)) (not (isRemoved (recordOn t (h .slot) .state))))
-
 remove-tests : (a b : Bool) → Among (0 ∷ 3 ∷ 5 ∷ []) (orElse a 3 (orElse b 5 0))
 remove-tests true true = inl refl
 remove-tests false b = inr (inl refl)
@@ -77,13 +65,6 @@ pub remove-unheld : (t : Tables) (h : Handle) → Says (not (holds t)) (removeOf
 unfolding removeAnswer
 remove-unheld t h = rw (remove-answer-is t h) (remove-three (holds t) (good (t .nums) (h .slot) (h .version)))
 
--- ---- accepted: the call found a grid, and leaves one
-pub set-done-holds : (t : Tables) (h : Handle) (at : Position) → setPositionOf t h at .result .answer ≡ 0 → Holds t × Holds (setPositionOf t h at .after)
-set-done-holds t h at e = let g = set-accepted t h at (sym (set-answer-is t h at) ∙ e) .held in (g, set-position-keeps t h at g)
-
-pub remove-done-holds : (t : Tables) (h : Handle) → removeOf t h .result .answer ≡ 0 → Holds t × Holds (removeOf t h .after)
-remove-done-holds t h e = let g = remove-accepted t h (sym (remove-answer-is t h) ∙ e) .held in (g, remove-keeps t h g)
-
 -- ---- a call of either kind
 module _ (t : Tables) (c : Call) where
   -- what holds of both kinds holds of the call
@@ -94,11 +75,6 @@ module _ (t : Tables) (c : Call) where
       go : (b : Bool) → P (pick b (setPositionOf t (c .handle) (c .at)) (removeOf t (c .handle)))
       go true = p
       go false = q
-
-  pub call-answers : Among (0 ∷ 1 ∷ 3 ∷ 5 ∷ 6 ∷ []) (callOf t c .result .answer)
-  call-answers =
-      by-kind (λ o. Among (0 ∷ 1 ∷ 3 ∷ 5 ∷ 6 ∷ []) (o .result .answer)) (set-answers t (c .handle) (c .at))
-      (⊎-elim (λ e. inl e) (λ m. ⊎-elim (λ e. inr (inr (inl e))) (λ n. ⊎-elim (λ e. inr (inr (inr (inl e)))) (λ x. absurd x) n) m) (remove-answers t (c .handle)))
 
   pub call-unheld : Says (not (holds t)) (callOf t c .result .answer ≡ 3)
   call-unheld = by-kind (λ o. Says (not (holds t)) (o .result .answer ≡ 3)) (set-unheld t (c .handle) (c .at)) (remove-unheld t (c .handle))
@@ -113,6 +89,3 @@ module _ (t : Tables) (c : Call) where
       by-kind (λ o. (o .result .answer ≡ 0 → ⊥) → (o .after ≡ t) × (o .result .obj ≡ 0))
       (λ n. rw (set-refused t (c .handle) (c .at) (λ e. n (set-answer-is t (c .handle) (c .at) ∙ e))) (refl, refl))
       (λ n. rw (remove-refused t (c .handle) (λ e. n (remove-answer-is t (c .handle) ∙ e))) (refl, refl))
-
-  pub call-accepted : callOf t c .result .answer ≡ 0 → Holds t × Holds (callOf t c .after)
-  call-accepted = by-kind (λ o. o .result .answer ≡ 0 → Holds t × Holds (o .after)) (set-done-holds t (c .handle) (c .at)) (remove-done-holds t (c .handle))

@@ -26,14 +26,6 @@ module _ (t : Tables) (s : ℕ) (state : State) where
   unfolding pended
   map-kept = refl
 
-  pub pool-kept : pended t s state .pool ≡ t .pool
-  unfolding pended
-  pool-kept = refl
-
-  pub spots-kept : pended t s state .spots ≡ t .spots
-  unfolding pended
-  spots-kept = refl
-
   pub nums-long : slotsOf (pended t s state) ≡ slotsOf t
   unfolding pended
   nums-long = simp length-set

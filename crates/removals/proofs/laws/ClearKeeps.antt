@@ -1,17 +1,13 @@
 -- Clearing leaves tables that hold a grid: no slot is live, each that was is at its next version or retired, and no entry is in use.
 -- Assumes nothing.
 use Prim.Native.Nat.{ℕ, _<_, _≤_}
-use mathlib.Core.Path.{_≡_, refl, _∙_}
-use mathlib.Core.Bool.{Bool, true, false}
-use mathlib.Core.Logic.{_⊎_, inl, inr}
+use mathlib.Core.Path.{_≡_, _∙_}
 use native.Mathlib.Omega.{arith}
-use lib.Dec.{eqb}
 use lib.ListN.{length, length-map}
-use borrow.Author.Tests.{eqb-true, eqb-false}
 use Rattle.slots.specs.Map.{head}
-use Rattle.slots.specs.Slot.{free, live, retired, phaseAt, SlotsHold}
+use Rattle.slots.specs.Slot.{live, phaseAt, SlotsHold}
 use Rattle.storage.specs.Packed.{Packed}
-use Rattle.point_tables.specs.Tables.{Tables, sizeOf, usedOf, rowsOf, slotsOf, Sized}
+use Rattle.point_tables.specs.Tables.{Tables, sizeOf, usedOf, rowsOf, Sized}
 use Rattle.point_tables.specs.Holds.{Counted, ListsHold, Holds}
 use Rattle.slot_walks.specs.Cleared.{clearedRow, clearedRows, clearedMap}
 use Rattle.slot_walks.proofs.laws.ClearedLaws as Slots
@@ -93,11 +89,3 @@ module _ (t : Tables) (h : Holds t) where
         lists = keeps-lists;
         dirty = λ s l q r m. no-row r m;
       }
-
-  -- every slot is free or retired
-  pub cleared-phases : (s : ℕ) → s < slotsOf (cleared t) → (phaseAt (cleared t .nums) s ≡ free) ⊎ (phaseAt (cleared t .nums) s ≡ retired)
-  cleared-phases s l = go (eqb (phaseAt (cleared t .nums) s) free) refl
-    where
-      go : (b : Bool) → eqb (phaseAt (cleared t .nums) s) free ≡ b → (phaseAt (cleared t .nums) s ≡ free) ⊎ (phaseAt (cleared t .nums) s ≡ retired)
-      go true e = inl (eqb-true (phaseAt (cleared t .nums) s) free e)
-      go false e = inr (omega (arith, keeps-slots .each s l .phased, eqb-false (phaseAt (cleared t .nums) s) free e, cleared-none t s))

@@ -4,7 +4,6 @@ use Prim.Native.Nat.{ℕ, _<_, _≤_, min}
 use mathlib.Core.Path.{_≡_, refl, _∙_}
 use mathlib.Core.Bool.{Bool, true, false}
 use mathlib.Core.List.{List, map}
-use mathlib.Core.Logic.{_⊎_, inl, inr}
 use native.Mathlib.Omega.{arith}
 use lib.Dec.{eqb, leb}
 use lib.Ieee.{Float}
@@ -53,15 +52,6 @@ module _ (t : Tables) (places : List (List Float)) (objs : List ℕ) where
 
   pub clear-done : holds t ≡ true → found ≤ length places → found ≤ length objs → clearOf t places objs ≡ outcome (wrote (count 0 found) (written (map (placeOn t) (liveSlots t)) places) (written (map (objOn t) (liveSlots t)) objs)) (cleared t)
   clear-done e l m = by-tests ∙ rw (e, le-leb found room (omega arith))
-
-  -- ---- 0, 3 or 9
-  pub clear-answers : (clearOf t places objs .result .returned .answer ≡ 0) ⊎ ((clearOf t places objs .result .returned .answer ≡ 3) ⊎ (clearOf t places objs .result .returned .answer ≡ 9))
-  clear-answers = rw by-tests (go (holds t) (leb found room))
-    where
-      go : (a b : Bool) → (clearBy a b .result .returned .answer ≡ 0) ⊎ ((clearBy a b .result .returned .answer ≡ 3) ⊎ (clearBy a b .result .returned .answer ≡ 9))
-      go false b = inr (inl refl)
-      go true false = inr (inr refl)
-      go true true = inl refl
 
   -- a refusal leaves the tables and both outputs
   pub clear-refused : (clearOf t places objs .result .returned .answer ≡ 0 → ⊥) → clearOf t places objs ≡ outcome (wrote (clearOf t places objs .result .returned) places objs) t

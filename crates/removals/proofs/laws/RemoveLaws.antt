@@ -3,15 +3,11 @@
 use Prim.Native.Nat.{ℕ, _+_, _<_}
 use mathlib.Core.Path.{_≡_, refl, _∙_, ap}
 use mathlib.Core.Bool.{Bool, true, false}
-use mathlib.Core.List.{List}
-use mathlib.Core.Logic.{_⊎_, inl, inr}
 use lib.Dec.{eqb}
-use lib.ListN.{getD}
 use Rattle.basics.specs.Refusals.{pick, orElse}
 use Rattle.slots.specs.declared.Handle.{Handle}
-use Rattle.slots.specs.Slot.{live, phaseAt, versionAt, nextVersion, nextPhase, good}
-use Rattle.slots.proofs.laws.EmptyLaws.{emptied-same}
-use Rattle.slots.proofs.laws.HandleLaws.{good-says, emptied-not-good, emptied-good-other}
+use Rattle.slots.specs.Slot.{live, phaseAt, versionAt, good}
+use Rattle.slots.proofs.laws.HandleLaws.{good-says, emptied-not-good}
 use Rattle.point_tables.specs.Tables.{Tables, usedOf, slotsOf, recordOn}
 use Rattle.point_tables.specs.Holds.{Holds}
 use Rattle.point_tables.specs.Decide.{holds, holds-says}
@@ -48,24 +44,6 @@ module _ (t : Tables) (h : Handle) where
   pub remove-done : holds t ≡ true → isGood t h ≡ true → removeMaintainOf t h ≡ outcome (reply 0 (recordOn t (h .slot) .obj)) (takenOut t (h .slot))
   remove-done e f = by-tests ∙ rw (e, f)
 
-  -- ---- 0, 3 or 5
-  pub remove-answers : (removeMaintainOf t h .result .answer ≡ 0) ⊎ ((removeMaintainOf t h .result .answer ≡ 3) ⊎ (removeMaintainOf t h .result .answer ≡ 5))
-  remove-answers = rw by-tests (go (holds t) (isGood t h))
-    where
-      go : (a b : Bool) → (removeBy a b .result .answer ≡ 0) ⊎ ((removeBy a b .result .answer ≡ 3) ⊎ (removeBy a b .result .answer ≡ 5))
-      go false b = inr (inl refl)
-      go true false = inr (inr refl)
-      go true true = inl refl
-
-  -- a refusal leaves the tables and returns zeros
-  pub remove-refused : (removeMaintainOf t h .result .answer ≡ 0 → ⊥) → removeMaintainOf t h ≡ outcome (reply (removeMaintainOf t h .result .answer) 0) t
-  remove-refused = rw by-tests (go (holds t) (isGood t h))
-    where
-      go : (a b : Bool) → (removeBy a b .result .answer ≡ 0 → ⊥) → removeBy a b ≡ outcome (reply (removeBy a b .result .answer) 0) t
-      go false b n = refl
-      go true false n = refl
-      go true true n = absurd (n refl)
-
   -- tables that hold a grid still do
   pub remove-holds : Holds t → Holds (removeMaintainOf t h .after)
   remove-holds k = rw by-tests (go (holds t) (isGood t h) (good-says (t .nums) (h .slot) (h .version) .yes))
@@ -75,7 +53,7 @@ module _ (t : Tables) (h : Handle) where
       go true false g = k
       go true true g = taken-keeps t k (h .slot) (g refl .0) (g refl .1)
 
-  -- ---- accepted: the handle is good no more, every other is as before, and there is one entry less
+  -- ---- accepted: the handle is good no more, and there is one entry less
   module _ (k : Holds t) (g : isGood t h ≡ true) where
     accepted : removeMaintainOf t h .after ≡ takenOut t (h .slot)
     accepted = ap (λ (o : Outcome Reply). o .after) (remove-done (holds-says t .no k) g)
@@ -85,19 +63,7 @@ module _ (t : Tables) (h : Handle) where
         let n = good-says (t .nums) (h .slot) (h .version) .yes g in
         rw accepted (taken-count t k (h .slot) (n .0) (n .1))
 
-    -- the slot's version rises by one, or the slot is retired at the last
-    pub remove-version : (versionAt (removeMaintainOf t h .after .nums) (h .slot) ≡ nextVersion (h .version)) × (phaseAt (removeMaintainOf t h .after .nums) (h .slot) ≡ nextPhase (h .version))
-    unfolding takenOut
-    remove-version =
-        let n = good-says (t .nums) (h .slot) (h .version) .yes g in
-        let r = emptied-same (t .nums) (h .slot) (n .0) in
-        rw accepted (ap (λ (l : List ℕ). getD l 0 0) r ∙ ap nextVersion (n .2), ap (λ (l : List ℕ). getD l 1 0) r ∙ ap nextPhase (n .2))
-
     -- good at no version
     pub remove-not-good : (v : ℕ) → good (removeMaintainOf t h .after .nums) (h .slot) v ≡ false
     unfolding takenOut
     remove-not-good v = rw accepted (emptied-not-good (t .nums) (h .slot) v)
-
-    pub remove-good-other : (i v : ℕ) → (i ≡ h .slot → ⊥) → good (removeMaintainOf t h .after .nums) i v ≡ good (t .nums) i v
-    unfolding takenOut
-    remove-good-other i v n = rw accepted (emptied-good-other (t .nums) (h .slot) i v n)

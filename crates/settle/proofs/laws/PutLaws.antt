@@ -7,7 +7,6 @@ use native.Mathlib.Nat.{add-zero}
 use native.Mathlib.Numerals.{add-one}
 use lib.ListN.{length, take, drop, set, length-append, length-drop, take-append-drop}
 use lib.Seq.{length-take-le, set-split, take-at, drop-append-add, drop-drop}
-use Rattle.storage.specs.Keyed.{written}
 use Rattle.settle.specs.Pass.{putAt}
 
 module _ {A : Type 0} (w : ℕ) where
@@ -38,9 +37,6 @@ module _ {A : Type 0} (w : ℕ) where
     -- the rows stand behind what stood before them
     pub put-front : take (w + length a) (putAt w a l) ≡ take w l ++ a
     put-front = ap (take (w + length a)) split ∙ take-at (take w l ++ a) (drop (w + length a) l) (w + length a) front-length
-
-    pub put-written : putAt w a l ≡ written (take w l ++ a) l
-    put-written = split ∙ ap (λ (n : ℕ). (take w l ++ a) ++ drop n l) (sym front-length)
 
     pub put-more : (b : List A) → putAt (w + length a) b (putAt w a l) ≡ putAt w (a ++ b) l
     put-more b =

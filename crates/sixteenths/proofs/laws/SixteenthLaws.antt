@@ -1,18 +1,17 @@
--- A count of sixteenths up to 2 ^ 20 is a binary32 number exactly, which lies in the domain, and the count comes back from it. Assumes nothing.
+-- A count of sixteenths up to 2 ^ 20 is a binary32 number exactly, and the count comes back from it. Assumes nothing.
 use Prim.Native.Nat.{ℕ, _+_, _*_, _^_, _≤_, _<_}
 use mathlib.Core.Path.{_≡_, refl, sym, ap, _∙_, subst}
-use mathlib.Core.Bool.{Bool, true, false, _||_}
-use native.Mathlib.Nat.{mul-assoc, mul-comm, mul-one, mul-le-mul-right, lt-of-lt-of-le}
+use mathlib.Core.Bool.{Bool, true, false}
+use native.Mathlib.Nat.{mul-assoc, mul-comm, mul-one, lt-of-lt-of-le}
 use native.Mathlib.Omega.{arith}
 use lib.Dec.{T, lt→ltb, lit<, lit≤, le→leb}
 use lib.Pow.{pow-add, pow-mono, shl-lt}
 use lib.IntN.{ℤ, pos, negsuc, natAbs}
-use lib.Ieee.{Float, nan, inf, fin, binary32, up, down, unlike, round, div, mul, lt, eq, le, fits, ofInt, inFloat, toSigned}
-use lib.Ieee.Fits.{down-pos, round-fits, and-i}
+use lib.Ieee.{Float, nan, inf, fin, binary32, up, down, unlike, round, div, mul, ofInt, inFloat, toSigned}
+use lib.Ieee.Fits.{down-pos}
 use lib.Ieee.Exact.{HasValue, round-exact}
 use lib.Ieee.Scale.{round-same}
 use lib.Ieee.Back.{round-whole, positive-back, negative-back}
-use Rattle.geometry.specs.Domain.{within}
 use Rattle.sixteenths.specs.Sixteenth.{belowZero, sixteenth, sixteenthsOf}
 
 abbrev sixteen : Float
@@ -86,40 +85,3 @@ signed-back (negsuc n) h = negative-back binary32 31 n (in-float (negsuc n) h) (
 pub count-back : (k : ℤ) → natAbs k ≤ 1048576 → sixteenthsOf (sixteenth k) ≡ k
 unfolding sixteenthsOf
 count-back k h = ap (toSigned 31) (back-whole k h) ∙ signed-back k h
-
--- ---- the domain
-pub sixteenth-fits : (k : ℤ) → T (fits binary32 (sixteenth k))
-unfolding sixteenth
-sixteenth-fits k = round-fits binary32 (belowZero k) (natAbs k) 16
-
-or-left : (a b : Bool) → T a → T (a || b)
-or-left true b t = tt
-or-left false b t = absurd t
-
--- u / d is n / 16, and n is at most 2 ^ 20
-module _ (u d n : ℕ) (e : u * 16 ≡ n * d) (h : n ≤ 1048576) (p : 0 < d) where
-  under : u < 1048576 * d
-  under = omega (arith, mul-le-mul-right d h)
-
-lt-le : (x y : Float) → T (lt x y) → T (le x y)
-unfolding le
-lt-le x y t = or-left (lt x y) (eq x y) t
-
-strictly-within : (x : Float) → T (lt (fin true 1 (pos 20)) x) → T (lt x (fin false 1 (pos 20))) → T (within 20 x)
-strictly-within x a b = and-i (le (fin true 1 (pos 20)) x) (le x (fin false 1 (pos 20))) (lt-le (fin true 1 (pos 20)) x a) (lt-le x (fin false 1 (pos 20)) b)
-
-value-within : (s : Bool) (n : ℕ) (x : Float) → n ≤ 1048576 → HasValue x s n 16 → T (within 20 x)
-unfolding lt
-value-within s n nan h v = absurd v
-value-within s n (inf t) h v = absurd v
-value-within s n (fin true m e) h v =
-    let d = down e in
-    let u = under (m * up e) d n (v .1) h (down-pos e) in
-    strictly-within (fin true m e) (lt→ltb (m * up e * 1) (1048576 * d) (omega (arith, u))) (lt→ltb 0 (m * up e * 1 + 1048576 * d) (omega (arith, down-pos e)))
-value-within s n (fin false m e) h v =
-    let d = down e in
-    let u = under (m * up e) d n (v .1) h (down-pos e) in
-    strictly-within (fin false m e) (lt→ltb 0 (1048576 * d + m * up e * 1) (omega (arith, down-pos e))) (lt→ltb (m * up e * 1) (1048576 * d) (omega (arith, u)))
-
-pub sixteenth-within : (k : ℤ) → natAbs k ≤ 1048576 → T (within 20 (sixteenth k))
-sixteenth-within k h = value-within (belowZero k) (natAbs k) (sixteenth k) h (sixteenth-value k h)

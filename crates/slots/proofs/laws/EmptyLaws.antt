@@ -1,5 +1,5 @@
--- What emptying a slot leaves as it was: lengths, the head words, every other row and every other bit. Assumes nothing.
-use Prim.Native.Nat.{ℕ, _+_, _/_, _<_}
+-- What emptying a slot leaves as it was: lengths, the head words and every other row. Assumes nothing.
+use Prim.Native.Nat.{ℕ, _<_}
 use mathlib.Core.Path.{_≡_, refl}
 use mathlib.Core.Bool.{Bool, true, false}
 use mathlib.Core.List.{List, []}
@@ -7,9 +7,9 @@ use lib.Dec.{eqb}
 use lib.ListN.{length, getD, length-set}
 use lib.Seq.{getD-set-same, getD-set-other}
 use Rattle.basics.specs.Refusals.{pick}
-use Rattle.slots.specs.Map.{head, usable, givenBack}
+use Rattle.slots.specs.Map.{head, givenBack}
 use Rattle.slots.specs.Slot.{lastVersion, versionAt, emptiedRow, emptiedNums, emptiedMap}
-use Rattle.slots.proofs.laws.MapLaws.{given-back-other, given-back-length, given-back-head}
+use Rattle.slots.proofs.laws.MapLaws.{given-back-length, given-back-head}
 
 module _ (nums : List (List ℕ)) (s : ℕ) where
   pub emptied-length : length (emptiedNums nums s) ≡ length nums
@@ -39,6 +39,3 @@ module _ (nums : List (List ℕ)) (map : List ℕ) (s : ℕ) where
 
   pub emptied-map-head : (k : ℕ) → k < head → getD (emptiedMap nums map s) k 0 ≡ getD map k 0
   emptied-map-head k h = either (λ m. getD m k 0 ≡ getD map k 0) refl (given-back-head map s k h)
-
-  pub emptied-map-other : head + s / 64 < length map → (t : ℕ) → (s ≡ t → ⊥) → usable (emptiedMap nums map s) t ≡ usable map t
-  emptied-map-other h t n = either (λ m. usable m t ≡ usable map t) refl (given-back-other map s h t n)

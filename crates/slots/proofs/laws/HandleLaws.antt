@@ -6,7 +6,7 @@ use mathlib.Core.List.{List, []}
 use native.Mathlib.Omega.{arith}
 use lib.Dec.{eqb, ltb}
 use lib.ListN.{length, getD, set, length-set}
-use lib.Seq.{getD-set-same, getD-set-other}
+use lib.Seq.{getD-set-same}
 use borrow.Author.Tests.{ltb-true, eqb-true, lt-ltb, eq-eqb}
 use Rattle.basics.specs.Says.{Says, apart}
 use Rattle.basics.specs.Refusals.{pick}
@@ -32,16 +32,6 @@ good-says nums slot version =
     second true b e = e
     second false b e = absurd (apart e)
 
--- the row of another slot does not matter
-pub set-good-other : (nums : List (List ℕ)) (s : ℕ) (row : List ℕ) (t v : ℕ) → (t ≡ s → ⊥) → good (set nums s row) t v ≡ good nums t v
-unfolding good
-set-good-other nums s row t v n = rw (length-set nums s row, getD-set-other nums s t row [] n)
-
--- a slot whose row has it live is good at that row's version, and at no other
-pub set-good-same : (nums : List (List ℕ)) (s : ℕ) (row : List ℕ) (v : ℕ) → s < length nums → getD row 1 0 ≡ live → good (set nums s row) s v ≡ eqb (getD row 0 0) v
-unfolding good
-set-good-same nums s row v i e = rw (length-set nums s row, getD-set-same nums s row [] i, lt-ltb s (length nums) i, eq-eqb (getD row 1 0) live e)
-
 -- ---- emptying
 pub emptied-not-good : (nums : List (List ℕ)) (s v : ℕ) → good (emptiedNums nums s) s v ≡ false
 unfolding good emptiedNums
@@ -55,10 +45,6 @@ emptied-not-good nums s v =
     go : (b : Bool) → ltb s (length nums) ≡ b → (b && (eqb (phaseAt (set nums s (emptiedRow (getD nums s []))) s) live && eqb (versionAt (set nums s (emptiedRow (getD nums s []))) s) v)) ≡ false
     go false e = refl
     go true e = rw (getD-set-same nums s (emptiedRow (getD nums s [])) [] (ltb-true s (length nums) e)) (no-phase (eqb (versionAt nums s) lastVersion) (eqb (nextVersion (versionAt nums s)) v))
-
-pub emptied-good-other : (nums : List (List ℕ)) (s t v : ℕ) → (t ≡ s → ⊥) → good (emptiedNums nums s) t v ≡ good nums t v
-unfolding emptiedNums
-emptied-good-other nums s t v n = set-good-other nums s (emptiedRow (getD nums s [])) t v n
 
 -- an emptied slot that can be used again is at the next version
 pub emptied-version : (nums : List (List ℕ)) (s : ℕ) → s < length nums → phaseAt (emptiedNums nums s) s ≡ free → versionAt (emptiedNums nums s) s ≡ versionAt nums s + 1

@@ -64,12 +64,6 @@ module _ (nums : List (List ℕ)) (map : List ℕ) (h : SlotsHold nums map) wher
       let l = lowest-at map (length nums) s e in
       (l .0, bit-of-free s (l .0) (l .1))
 
-  -- no row before it is free
-  pub lowest-before : (s : ℕ) → lowestUsable map (length nums) ≡ At s → (t : ℕ) → t < s → phaseAt nums t ≡ free → ⊥
-  lowest-before s e t l p =
-      let g = lowest-at map (length nums) s e in
-      omega (arith, g .2 t l, h .each t (omega (arith, g .0)) .in-map, rw (eq-eqb (phaseAt nums t) free p) at (h .each t (omega (arith, g .0)) .in-map))
-
   pub lowest-none-free : lowestUsable map (length nums) ≡ Nothing → (t : ℕ) → t < length nums → phaseAt nums t ≡ free → ⊥
   lowest-none-free e t l p = omega (arith, lowest-none map (length nums) e t l, rw (eq-eqb (phaseAt nums t) free p) at (h .each t l .in-map))
 

@@ -8,9 +8,8 @@ use native.Mathlib.Nat.{not-suc-le-zero, le-of-suc-le-suc}
 use lib.Dec.{ltb, eqb}
 use lib.Ieee.{Float}
 use lib.ListN.{length}
-use Rattle.storage.specs.Keyed.{under, below, above, onList, append1, appendAll, last, front, close, takeOut}
+use Rattle.storage.specs.Keyed.{under, below, above, onList, append1, last, front, close, takeOut}
 use Rattle.storage.specs.Entries.{Entry, rowKey, entryKey, rowOf, spotOf, zipped}
-use Rattle.storage.specs.CellTable.{keysFrom, keysOf}
 use Rattle.storage.specs.FilterLaws.{by-test, all-any, filter-same, filter-map}
 
 module _ {A B : Type 0} (f : A → B) where
@@ -62,20 +61,6 @@ module _ {A B : Type 0} (f : A → B) where
     unfolding append1
     map-append1 l e = rw (keeps e) (map-onList (keyA e) (λ r. r ++ (e ∷ [])) (λ r. r ++ (f e ∷ [])) (λ r. map-append f r (e ∷ [])) l)
 
-    pub map-appendAll : (l es : List A) → map f (appendAll keyA l es) ≡ appendAll keyB (map f l) (map f es)
-    unfolding appendAll
-    map-appendAll l [] = refl
-    map-appendAll l (e ∷ es) = map-appendAll (append1 keyA l e) es ∙ ap (λ m. appendAll keyB m (map f es)) (map-append1 l e)
-
-    keys-from : (k : ℕ) (l : List A) → keysFrom keyB k (map f l) ≡ keysFrom keyA k l
-    keys-from k [] = refl
-    keys-from k (x ∷ l) = rw (keeps x, keys-from k l, keys-from (keyA x) l)
-
-    pub map-keys : (l : List A) → keysOf keyB (map f l) ≡ keysOf keyA l
-    unfolding keysOf
-    map-keys [] = refl
-    map-keys (x ∷ l) = rw (keeps x) (ap (λ m. keyA x ∷ m) (keys-from (keyA x) l))
-
 -- ---- the two columns of the pool
 pub zipped-rows : (rows : List (List ℕ)) (spots : List (List Float)) → length rows ≤ length spots → map rowOf (zipped rows spots) ≡ rows
 zipped-rows [] spots h = refl
@@ -99,9 +84,6 @@ zipped-whole (e ∷ es) = ap (λ (m : List Entry). e ∷ m) (zipped-whole es)
 module _ (l : List Entry) where
   pub rows-append1 : (e : Entry) → map rowOf (append1 entryKey l e) ≡ append1 rowKey (map rowOf l) (rowOf e)
   rows-append1 e = map-append1 rowOf entryKey rowKey (λ x. refl) l e
-
-  pub rows-appendAll : (es : List Entry) → map rowOf (appendAll entryKey l es) ≡ appendAll rowKey (map rowOf l) (map rowOf es)
-  rows-appendAll es = map-appendAll rowOf entryKey rowKey (λ x. refl) l es
 
   pub rows-takeOut : (k : ℕ) (test : List ℕ → Bool) → map rowOf (onList entryKey k (takeOut (λ e. test (rowOf e))) l) ≡ onList rowKey k (takeOut test) (map rowOf l)
   rows-takeOut k test = map-onList-takeOut rowOf entryKey rowKey (λ x. refl) k test l

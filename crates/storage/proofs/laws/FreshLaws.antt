@@ -1,15 +1,12 @@
 -- A map with no mark: its table is made from the pool alone, and every sorted pool has one. Assumes nothing.
 use Prim.Native.Nat.{ℕ, _<_}
 use mathlib.Core.Path.{_≡_, refl, _∙_, ap}
-use mathlib.Core.Bool.{false}
 use mathlib.Core.List.{List, [], _∷_, _++_, map}
-use lib.Dec.{eqb}
 use Rattle.storage.specs.Keyed.{All, Sorted, appendAll}
 use Rattle.storage.specs.Entries.{rowKey}
 use Rattle.storage.specs.CellTable.{fresh}
-use Rattle.storage.specs.Store.{Listed, WellFormed, rowAt, append, poolOf, tableOf}
+use Rattle.storage.specs.Store.{Listed, WellFormed, append, poolOf, tableOf}
 use Rattle.storage.specs.Tables.{Keyed, freshOf, Tabled, cleared}
-use Rattle.storage.specs.FilterLaws.{by-test}
 use Rattle.storage.specs.KeyedLaws.{sorted-determined}
 use Rattle.storage.specs.AppendLaws.{sorted-appendAll, under-appendAll}
 use Rattle.storage.proofs.laws.OperationLaws.{append-formed, append-keyed}
@@ -32,14 +29,6 @@ module _ {A : Type 0} where
   unfolding cleared
   cleared-formed [] f = tt
   cleared-formed (r ∷ rs) f = (f .0, cleared-above (r .key) rs (f .1), cleared-formed rs (f .2))
-
-  pub cleared-at : (s : List (Listed A)) (j : ℕ) → rowAt (cleared s) j ≡ record { dirty = false; entries = rowAt s j .entries }
-  unfolding cleared rowAt
-  cleared-at [] j = refl
-  cleared-at (r ∷ rs) j =
-      by-test (eqb (r .key) j)
-      (λ e. rw e)
-      (λ e. rw e (cleared-at rs j))
 
   pub cleared-pool : (s : List (Listed A)) → poolOf (cleared s) ≡ poolOf s
   unfolding cleared poolOf

@@ -52,9 +52,6 @@ module _ (pool : List (List ℕ)) (spots : List (List Float)) (used : ℕ) (in-p
   pub sorted-entries : Sorted rowKey (take used pool) → Sorted entryKey (entriesOf pool spots used)
   sorted-entries s = sorted-column rowOf rowKey (entriesOf pool spots used) (rw rows-column s)
 
-  pub start-entries : (k : ℕ) → length (below entryKey k (entriesOf pool spots used)) ≡ length (below rowKey k (take used pool))
-  start-entries k = start-column rowOf rowKey k (entriesOf pool spots used) ∙ ap (λ m. length (below rowKey k m)) rows-column
-
   pub end-entries : (k : ℕ) → endOf entryKey k (entriesOf pool spots used) ≡ endOf rowKey k (take used pool)
   end-entries k = end-column rowOf rowKey k (entriesOf pool spots used) ∙ ap (endOf rowKey k) rows-column
 

@@ -79,13 +79,6 @@ module _ (pool : List (List ℕ)) (j : ℕ) (h : j < length pool) where
       (λ p. rw (start p, length-append) (omega arith))
       (λ p. absurd (omega arith))
 
-  fresh-slow : length (fresh (take (j + 1) pool)) ≤ length (fresh (take j pool)) + 1
-  fresh-slow =
-      by-order 0 j
-      (λ p. by-test (eqb (first pool (j - 1)) (first pool j)) (λ e. rw (fresh-same p (eqb-true _ _ e)) (omega arith)) (λ e. rw (fresh-new (λ q. eqb-false _ _ e), length-append) (omega arith)))
-      (λ p. rw (start p, length-append) (omega arith))
-      (λ p. absurd (omega arith))
-
 pub fresh-none : (pool : List (List ℕ)) → fresh (take 0 pool) ≡ []
 unfolding fresh keysOf
 fresh-none pool = refl
@@ -98,11 +91,6 @@ fresh-most pool (suc n) h j q =
     (λ w. omega (arith, fresh-most pool n (omega arith) j (omega arith), rw add-one at (fresh-grows pool n (omega arith))))
     (λ w. rw w (omega arith))
     (λ w. absurd (omega arith))
-
--- and no more than it has entries
-pub fresh-size : (pool : List (List ℕ)) (n : ℕ) → n ≤ length pool → length (fresh (take n pool)) ≤ n
-fresh-size pool zero h = rw (fresh-none pool) (omega arith)
-fresh-size pool (suc n) h = omega (arith, fresh-size pool n (omega arith), rw (add-one n) at (fresh-slow pool n (omega arith)))
 
 -- ---- the table as it stands once the first j entries are passed
 pub record Built (cells₀ pool : List (List ℕ)) (j rows : ℕ) (cells : List (List ℕ)) : Type 0 where

@@ -1,6 +1,6 @@
--- The tables of a well-formed map are packed, packed tables are those of one map, and the map comes back from its tables. Assumes nothing.
+-- The tables of a well-formed map are packed, and packed tables are those of one map. Assumes nothing.
 use Prim.Native.Nat.{ℕ, zero, suc, _≤_, _<_}
-use mathlib.Core.Path.{_≡_, refl, sym, _∙_, ap, ap₂, subst}
+use mathlib.Core.Path.{_≡_, refl, sym, _∙_, ap, subst}
 use mathlib.Core.Bool.{Bool, true, false}
 use mathlib.Core.List.{List, [], _∷_}
 use native.Mathlib.Omega.{arith}
@@ -13,7 +13,6 @@ use Rattle.storage.specs.Store.{Filled, Row, Listed, emptyRow, markOf, W
 use Rattle.storage.specs.Tables.{Rising, rowsBy, Keyed, storageOf, Tabled}
 use Rattle.storage.specs.FilterLaws.{by-test, all-map, all-any}
 use Rattle.storage.specs.KeyedLaws.{all-under, sorted-determined}
-use Rattle.storage.proofs.laws.StoreLaws.{rowAt-empty, map-determined}
 use Rattle.storage.proofs.laws.TableLaws.{table-under, table-all, table-rising, pool-under, pool-sorted}
 
 module _ {A : Type 0} (key : A → ℕ) where
@@ -47,10 +46,6 @@ mark-is : (n : ℕ) → n ≤ 1 → markOf (eqb n 1) ≡ n
 mark-is zero h = refl
 mark-is (suc zero) h = refl
 mark-is (suc (suc n)) h = absurd (omega arith)
-
-mark-of : (b : Bool) → eqb (markOf b) 1 ≡ b
-mark-of true = refl
-mark-of false = refl
 
 mark-small : (b : Bool) → markOf b ≤ 1
 mark-small true = omega arith
@@ -129,16 +124,3 @@ module _ {A : Type 0} (key : A → ℕ) where
 
     pub tabled-table : tableOf (storageOf key t pool) ≡ t
     tabled-table = storage-table t pool (h .pairs) (h .marks)
-
-  -- the map comes back
-  pub storage-of : (s : List (Listed A)) → WellFormed s → Keyed key s → storageOf key (tableOf s) (poolOf s) ≡ s
-  storage-of s f a =
-      map-determined (storageOf key (tableOf s) (poolOf s)) s (tabled-formed (tableOf s) (poolOf s) (tabled-of s f a)) f
-      (λ j.
-      storage-at (tableOf s) (poolOf s) j
-      ∙ rw (table-under s f j) (go j (rowAt s j .entries) refl))
-    where
-      go : (j : ℕ) (es : List A) → rowAt s j .entries ≡ es → byRows (poolOf s) j (rowsBy j (rowAt s j) es) ≡ rowAt s j
-      go j [] e = sym (rowAt-empty s f j e)
-      go j (x ∷ es) e =
-          ap₂ {C = Row A} (λ (d : Bool) (l : List A). record { dirty = d; entries = l }) (mark-of (rowAt s j .dirty)) (pool-under key s f a j)

@@ -75,11 +75,6 @@ module _ {A : Type 0} where
   table-sorted s f = rising-sorted rowKey (tableOf s) (table-rising s f)
 
   -- ---- the pool
-  pub pool-all : (P : A → Type 0) (s : List (Listed A)) → All (λ r. All P (r .row .entries)) s → All P (poolOf s)
-  unfolding poolOf
-  pool-all P [] a = tt
-  pool-all P (r ∷ rs) a = all-append P (r .row .entries) (poolOf rs) (a .0) (pool-all P rs (a .1))
-
   module _ (key : A → ℕ) where
     pub pool-under : (s : List (Listed A)) → WellFormed s → Keyed key s → (j : ℕ) → under key j (poolOf s) ≡ rowAt s j .entries
     unfolding poolOf rowAt

@@ -1,9 +1,9 @@
 -- The walk of a range is the part of the sorted pool whose keys lie in the range's window, in the pool's own order; so a query is a scan
 -- of the pool, if its test passes only in the range. Assumes nothing.
 use Prim.Native.Nat.{ℕ, _≤_, _<_}
-use mathlib.Core.Path.{_≡_, refl, sym, _∙_, ap, ap₂}
+use mathlib.Core.Path.{_≡_, refl, sym, _∙_, ap}
 use mathlib.Core.Bool.{Bool, true, false}
-use mathlib.Core.List.{List, [], _∷_, _++_, append-nil, map}
+use mathlib.Core.List.{List, [], _∷_, append-nil, map}
 use native.Mathlib.Omega.{arith}
 use lib.Dec.{eqb}
 use borrow.Author.Tests.{eqb-true, eqb-false, ne-eqb}
@@ -17,12 +17,9 @@ use Rattle.cells.specs.Key.{keyOf}
 use Rattle.cells.proofs.laws.RangeKeyLaws.{range-rising}
 use Rattle.storage.specs.Keyed.{All, filter, Sorted, under}
 use Rattle.storage.specs.Walk.{listsOf, walked}
-use Rattle.storage.specs.Store.{Listed, WellFormed, rowAt, poolOf}
-use Rattle.storage.specs.Tables.{Keyed}
 use Rattle.storage.specs.FilterLaws.{by-test, all-map, all-any, all-append, filter-append, filter-within, filter-same, filter-passes}
 use Rattle.storage.specs.KeyedLaws.{all-under, whole-under, none-under, sorted-flat, sorted-join, sorted-filter, sorted-determined}
 use Rattle.storage.specs.TakeOutLaws.{has}
-use Rattle.storage.proofs.laws.TableLaws.{pool-under}
 use Rattle.storage.specs.WindowLaws.{windowOf, keyIn, key-window}
 
 -- what is above all the keys is none of them
@@ -90,16 +87,3 @@ module _ {A : Type 0} (key : A → ℕ) where
     pub query-is-scan : All (λ x. key x < 18446744073709551616) pool → (test : A → Bool) → All (λ x. test x ≡ true → windowOf a b (key x) ≡ true) pool
         → filter test (walked key a b pool) ≡ filter test pool
     query-is-scan small test near = ap (filter test) (walked-window small) ∙ filter-within test (λ x. windowOf a b (key x)) pool near
-
-  -- the walk of the lists of a map
-  abbrev pub rowsOf : List Cell → List (Listed A) → List A
-  rowsOf [] m = []
-  rowsOf (c ∷ cs) m = rowAt m (keyOf c) .entries ++ rowsOf cs m
-
-  pub walked-map : (a b : Cell) (m : List (Listed A)) → WellFormed m → Keyed key m → walked key a b (poolOf m) ≡ rowsOf (rangeCells a b) m
-  unfolding walked
-  walked-map a b m f k = go (rangeCells a b)
-    where
-      go : (cs : List Cell) → listsOf key cs (poolOf m) ≡ rowsOf cs m
-      go [] = refl
-      go (c ∷ cs) = ap₂ {C = List A} (λ (x y : List A). x ++ y) (pool-under key m f k (keyOf c)) (go cs)

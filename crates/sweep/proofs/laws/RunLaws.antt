@@ -3,7 +3,6 @@ use Prim.Native.Nat.{ℕ, zero, suc, _+_, _-_, _<_, _≤_}
 use mathlib.Core.Path.{_≡_, refl, sym, ap, _∙_}
 use mathlib.Core.List.{List, _∷_, _++_}
 use native.Mathlib.Omega.{arith}
-use native.Mathlib.Nat.{not-suc-le-zero}
 use lib.Ieee.{Float}
 use lib.ListN.{length, getD, take, drop}
 use lib.Seq.{take-all, drop-cons}
@@ -47,11 +46,6 @@ module _ {A : Type 0} (at : ℕ → A) where
   run-close i (suc n) = (λ z. run-last (suc i) n z ∷ run-front (suc i) n z) ∙ ap (λ (j : ℕ). at j ∷ run at (suc i) n) (omega arith)
 
   -- ---- by places
-  pub run-at : (i n j : ℕ) (d : A) → j < n → getD (run at i n) j d ≡ at (i + j)
-  run-at i zero j d h = absurd (not-suc-le-zero h)
-  run-at i (suc n) zero d h = ap at (omega arith)
-  run-at i (suc n) (suc j) d h = run-at (suc i) n j d (omega arith) ∙ ap at (omega arith)
-
   -- a part of a list, by the places that it has
   pub part-run : (d : A) (l : List A) (i n : ℕ) → i + n ≤ length l → ((j : ℕ) → j < length l → getD l j d ≡ at j) → take n (drop i l) ≡ run at i n
   part-run d l i zero h f = refl
