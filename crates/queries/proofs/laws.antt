@@ -8,4 +8,5 @@ pub mod OnceLaws
 pub mod FoundLaws
 pub mod ScanLaws
 pub mod CornerLaws
+pub mod CaseLaws
 pub mod PlacesLaws

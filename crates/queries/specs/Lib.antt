@@ -2,3 +2,4 @@
 pub mod Queries
 pub mod Places
 pub mod Fill
+pub mod Cases

@@ -1,17 +1,16 @@
--- A reversed range has no cells and nothing is found in it; and the ranges of document 01 that have 4,096 cells and 4,160. Assumes nothing.
+-- A reversed range has no cells and nothing is found in it. Assumes nothing.
 use Prim.Native.Nat.{ℕ}
 use mathlib.Core.Path.{_≡_, refl, sym, ap, _∙_}
 use mathlib.Core.Logic.{_⊎_, ⊎-elim}
 use mathlib.Core.Bool.{true, false}
 use mathlib.Core.List.{List, [], map}
 use native.Mathlib.Omega.{arith}
-use lib.IntN.{pos}
 use lib.Signed.{leZ}
-use lib.Ieee.{Float, fin}
+use lib.Ieee.{Float}
 use lib.ListN.{length}
 use Rattle.geometry.specs.declared.Position.{Position}
 use Rattle.cells.specs.declared.Cell.{Cell}
-use Rattle.cells.specs.CellRule.{cellOf, cellAt}
+use Rattle.cells.specs.CellRule.{cellAt}
 use Rattle.cells.specs.Range.{cellsIn, rangeCells}
 use Rattle.cells.proofs.laws.RangeLaws.{range-length, reversed-x, reversed-y}
 use Rattle.storage.specs.Keyed.{filter, written}
@@ -45,15 +44,3 @@ module _ (t : Tables) (ll ur : Position) (r : Reversed (cellAt (sizeOf t) ll) (c
       let n = reversed-cells (cellAt (sizeOf t) ll) (cellAt (sizeOf t) ur) r in
       ap (λ (es : List Entry). findings (count 0 (length es)) (written (map (handleRow t) es) handles) (written (map placeRow es) places)) (sym reversed-found)
       ∙ search-0 t true ll ur test handles places h refl (omega arith) (omega (arith, ap length reversed-found))
-
--- ---- cell size 1, from (0, 0) on
-abbrev corner : ℕ → ℕ → Position
-corner x y = record { x = fin false x (pos 0); y = fin false y (pos 0) }
-
-pub just-enough : cellsIn (cellAt 1 (corner 0 0)) (cellAt 1 (corner 63 63)) ≡ 4096
-unfolding cellsIn cellOf
-just-enough = refl
-
-pub too-many : cellsIn (cellAt 1 (corner 0 0)) (cellAt 1 (corner 64 63)) ≡ 4160
-unfolding cellsIn cellOf
-too-many = refl
