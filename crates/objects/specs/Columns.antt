@@ -26,6 +26,10 @@ stateOf tag p c = pickState (eqb tag 0) Unchanged (pickState (eqb tag 1) (NewPos
 abbrev pub pendingIn : ℕ → List Float → List ℤ → State
 pendingIn tag q z = stateOf tag (record { x = getD q 2 nan; y = getD q 3 nan }) (record { x = getD z 2 (pos 0); y = getD z 3 (pos 0) })
 
+-- the position that a row begins with
+abbrev pub positionIn : List Float → Position
+positionIn q = record { x = getD q 0 nan; y = getD q 1 nan }
+
 -- the record whose rows are n, q and z
 abbrev pub recordOf : List ℕ → List Float → List ℤ → Record
 recordOf n q z =
@@ -33,7 +37,7 @@ recordOf n q z =
       version = getD n 0 0;
       phase = getD n 1 0;
       obj = getD n 2 0;
-      position = record { x = getD q 0 nan; y = getD q 1 nan };
+      position = positionIn q;
       cell = record { x = getD z 0 (pos 0); y = getD z 1 (pos 0) };
       state = pendingIn (getD n 3 0) q z;
     }

@@ -1,5 +1,6 @@
--- The record of an object, its columns, its states, and when an occupied record holds.
+-- The record of an object, its columns, its states, when an occupied record holds, and the entry of an object in its cell's list.
 pub mod Columns
 pub mod Occupied
 pub mod Decide
 pub mod States
+pub mod Listed

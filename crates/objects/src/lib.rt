@@ -9,8 +9,15 @@ ghost use Rattle.cells.specs.Span.{Spans};
 ghost use Rattle.cells.specs.Key.{keyOf};
 ghost use Rattle.objects.specs.Occupied.{InDomain, Agrees, InCell};
 ghost use Rattle.objects.specs.Columns.{tagOf, pendingOf, targetOf, stateOf, recordAt, numsOf, realsOf, intsOf, pendingIn};
+
+mod entries;
+
 use cells::Cell;
 use cells::Span;
+pub use entries::entry_at;
+pub use entries::entry_row;
+pub use entries::entry_spot;
+pub use entries::spot_at;
 use geometry::Position;
 
 // What maintain has still to do to an object.
@@ -29,6 +36,12 @@ pub struct Record {
     pub position: Position,
     pub cell: Cell,
     pub state: State,
+}
+
+// An entry of a cell's list: the object's slot and its recorded position.
+pub struct Entry {
+    pub slot: usize,
+    pub position: Position,
 }
 
 fn state_of(tag: u32, p: Position, c: Cell) -> State
