@@ -3,27 +3,44 @@
 use Prim.Native.Nat.{ℕ, _<_, _≤_, min}
 use mathlib.Core.List.{List, [], _∷_, map}
 use lib.Dec.{leb}
-use lib.Ieee.{Float, nan}
-use lib.ListN.{length, getD, take}
+use lib.Ieee.{Float}
+use lib.ListN.{length, take}
 use Rattle.basics.specs.Refusals.{pick}
 use Rattle.slots.specs.Slot.{versionAt}
 use Rattle.storage.specs.Keyed.{Sorted, written}
 use Rattle.storage.specs.Entries.{rowKey}
 use Rattle.storage.specs.Packed.{second}
+use Rattle.objects.specs.declared.Entry.{Entry}
+use Rattle.objects.specs.Listed.{listedAt}
+use Rattle.queries.specs.declared.Finding.{Finding}
 use Rattle.queries.specs.Queries.{Findings, findings}
 use Rattle.replies.specs.Replies.{count}
 
--- the rows that the entry at a place gives the outputs: slot and version, and the position
-abbrev pub handleAt : List (List ℕ) → List (List ℕ) → ℕ → List ℕ
-handleAt nums pool j = second pool j ∷ versionAt nums (second pool j) ∷ []
+-- what is reported of an entry: the handle of its slot, and its position
+abbrev pub findingOf : List (List ℕ) → Entry → Finding
+findingOf nums e = record { handle = record { slot = e .slot; version = versionAt nums (e .slot) }; position = e .position }
 
-abbrev pub placeAt : List (List Float) → ℕ → List Float
-placeAt spots j = getD (getD spots j []) 0 nan ∷ getD (getD spots j []) 1 nan ∷ []
+-- the rows of a finding in the outputs: slot and version, and the position
+abbrev pub handleOf : Finding → List ℕ
+handleOf f = f .handle .slot ∷ f .handle .version ∷ []
+
+abbrev pub placeOf : Finding → List Float
+placeOf f = f .position .x ∷ f .position .y ∷ []
+
+-- the same of the entry at a place
+abbrev pub findingAt : List (List ℕ) → List (List ℕ) → List (List Float) → ℕ → Finding
+findingAt nums pool spots j = findingOf nums (listedAt pool spots j)
+
+abbrev pub handleAt : List (List ℕ) → List (List ℕ) → List (List Float) → ℕ → List ℕ
+handleAt nums pool spots j = handleOf (findingAt nums pool spots j)
+
+abbrev pub placeAt : List (List ℕ) → List (List ℕ) → List (List Float) → ℕ → List Float
+placeAt nums pool spots j = placeOf (findingAt nums pool spots j)
 
 unfoldable pub filled : List (List ℕ) → List (List ℕ) → List (List Float) → List ℕ → List (List ℕ) → List (List Float) → Findings
 filled nums pool spots js handles places =
     pick (leb (length js) (min (length handles) (length places)))
-    (findings (count 0 (length js)) (written (map (handleAt nums pool) js) handles) (written (map (placeAt spots) js) places))
+    (findings (count 0 (length js)) (written (map (handleAt nums pool spots) js) handles) (written (map (placeAt nums pool spots) js) places))
     (findings (count 9 (length js)) handles places)
 
 -- what a search asks of the columns: the first `used` rows of the pool are sorted, with a spot beside each

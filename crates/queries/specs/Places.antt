@@ -2,12 +2,12 @@
 use Prim.Native.Nat.{ℕ, zero, suc, _+_}
 use mathlib.Core.Bool.{Bool, _&&_}
 use mathlib.Core.List.{List, [], _∷_, _++_}
-use lib.Ieee.{Float, nan}
-use lib.ListN.{getD}
+use lib.Ieee.{Float}
 use Rattle.basics.specs.Refusals.{pick}
 use Rattle.cells.specs.declared.Cell.{Cell}
 use Rattle.storage.specs.Entries.{Entry, entry, entryKey}
 use Rattle.storage.specs.WindowLaws.{windowOf}
+use Rattle.objects.specs.Listed.{spotAt}
 use Rattle.queries.specs.Queries.{passes, positionOf}
 use Rattle.queries.specs.declared.Test.{Test}
 use Rattle.point_tables.specs.EntryLaws.{entryAt}
@@ -26,7 +26,7 @@ wantedAt a b test pool spots j = wanted a b test (entryAt pool spots j)
 
 -- the spot at place j passes
 abbrev pub spotPasses : Test → List (List Float) → ℕ → Bool
-spotPasses test spots j = passes test (record { x = getD (getD spots j []) 0 nan; y = getD (getD spots j []) 1 nan })
+spotPasses test spots j = passes test (spotAt spots j)
 
 -- the places below `used` of the entries that a search is for
 unfoldable pub placesOf : Cell → Cell → Test → List (List ℕ) → List (List Float) → ℕ → List ℕ

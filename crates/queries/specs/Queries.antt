@@ -4,8 +4,8 @@ use Prim.Native.Nat.{ℕ, min}
 use mathlib.Core.Bool.{Bool, true, _&&_}
 use mathlib.Core.List.{List, [], _∷_, map}
 use lib.Dec.{eqb, leb}
-use lib.Ieee.{Float, nan, binary32, add, sub}
-use lib.ListN.{length, getD}
+use lib.Ieee.{Float, binary32, add, sub}
+use lib.ListN.{length}
 use Rattle.basics.specs.Refusals.{unless, firstOf, pick}
 use Rattle.geometry.specs.declared.Position.{Position}
 use Rattle.geometry.specs.Domain.{positionInDomain, radiusInDomain}
@@ -17,6 +17,7 @@ use Rattle.slots.specs.Slot.{versionAt}
 use Rattle.storage.specs.Keyed.{filter, written}
 use Rattle.storage.specs.Entries.{Entry, rowItem, entryKey}
 use Rattle.storage.specs.Walk.{walked}
+use Rattle.objects.specs.Columns.{positionIn}
 use Rattle.point_tables.specs.Tables.{Tables, sizeOf, entriesIn}
 use Rattle.point_tables.specs.Decide.{holds}
 use Rattle.queries.specs.declared.Test.{Test}
@@ -34,7 +35,7 @@ passes (Circle c r) p = inCircle p c r
 passes (Rectangle ll ur) p = inRectangle p ll ur
 
 abbrev pub positionOf : Entry → Position
-positionOf e = record { x = getD (e .spot) 0 nan; y = getD (e .spot) 1 nan }
+positionOf e = positionIn (e .spot)
 
 -- the entries found in the range of the corners ll and ur: the position that an entry has is the recorded one
 unfoldable pub found : Tables → Position → Position → Test → List Entry

@@ -2,18 +2,49 @@
 ghost use mathlib.Core.Path.{_≡_};
 ghost use mathlib.Core.List.{map};
 ghost use Prim.Native.Nat.{ℕ, _≤_, _<_};
-ghost use lib.ListN.{length, getD, take};
+ghost use lib.ListN.{length, getD, set, take};
 ghost use Rattle.cells.specs.Numbers.{Near};
 ghost use Rattle.storage.specs.Keyed.{written};
 ghost use Rattle.queries.specs.Queries.{findings};
 ghost use Rattle.queries.specs.Places.{placesOf};
-ghost use Rattle.queries.specs.Fill.{handleAt, placeAt, filled, Stocked, Findable};
+ghost use Rattle.queries.specs.Fill.{findingOf, handleOf, placeOf, handleAt, placeAt, filled, Stocked, Findable};
+use crate::Finding;
 use crate::Test;
 use crate::gather::gather;
 use cells::Cell;
+use objects::Entry;
 use replies::Count;
+use slots::Handle;
 
-// Writes the first r places' handles and positions, from place 0 of the outputs on.
+// What is reported of an entry: the handle of its slot, and its position.
+fn finding_of(nums: &[[u32; 4]], e: Entry) -> Finding
+    requires { ⌜ (e .slot < length (now nums)) × (length (now nums) ≤ 4096) ⌝ }
+    ensures { λ r. ⌜ r ≡ findingOf (now (nums .entry)) e ⌝ }
+{
+    let s = e.slot;
+    let n = nums[s];
+    let position = e.position;
+    Finding {
+        handle: Handle {
+            slot: s as u32,
+            version: n[0],
+        },
+        position,
+    }
+}
+
+// A finding goes to place k of the outputs.
+fn put_finding(handles: &mut [[u32; 2]], places: &mut [[f32; 2]], k: usize, f: Finding)
+    requires { ⌜ (k < length (now handles)) × (k < length (now places)) ⌝ }
+    ensures { λ _. ⌜ (now (handles .exit) ≡ set (now (handles .entry)) k (handleOf f)) × (now (places .exit) ≡ set (now (places .entry)) k (placeOf f)) ⌝ }
+{
+    let h = f.handle;
+    let p = f.position;
+    handles[k] = [h.slot, h.version];
+    places[k] = [p.x, p.y];
+}
+
+// Writes what is reported of the entries at the first r places found, from place 0 of the outputs on.
 fn put_findings(
     nums: &[[u32; 4]],
     pool: &[[u64; 2]],
@@ -24,17 +55,14 @@ fn put_findings(
     places: &mut [[f32; 2]],
 )
     requires { ⌜ (r ≤ length (now found)) × (r ≤ length (now handles)) × (r ≤ length (now places)) × (length (now nums) ≤ 4096) × ((k : ℕ) → k < r → Findable (now nums) (now pool) (now spots) (getD (now found) k 0)) ⌝ }
-    ensures { λ _. ⌜ (now (handles .exit) ≡ written (map (handleAt (now (nums .entry)) (now (pool .entry))) (take r (now (found .entry)))) (now (handles .entry))) × (now (places .exit) ≡ written (map (placeAt (now (spots .entry))) (take r (now (found .entry)))) (now (places .entry))) ⌝ }
+    ensures { λ _. ⌜ (now (handles .exit) ≡ written (map (handleAt (now (nums .entry)) (now (pool .entry)) (now (spots .entry))) (take r (now (found .entry)))) (now (handles .entry))) × (now (places .exit) ≡ written (map (placeAt (now (nums .entry)) (now (pool .entry)) (now (spots .entry))) (take r (now (found .entry)))) (now (places .entry))) ⌝ }
 {
     let mut k = 0;
     while k < r {
         let j = basics::wide(found[k]);
-        let row = pool[j];
-        let s = basics::index_of(row[1]);
-        let n = nums[s];
-        let spot = spots[j];
-        handles[k] = [s as u32, n[0]];
-        places[k] = [spot[0], spot[1]];
+        let e = objects::entry_at(pool, spots, j);
+        let f = finding_of(nums, e);
+        put_finding(handles, places, k, f);
         k += 1;
     }
 }

@@ -37,14 +37,8 @@ fn gather_run(
     let mut k = n;
     let mut j = from;
     while j < to {
-        let spot = spots[j];
-        if passes(
-            test,
-            Position {
-                x: spot[0],
-                y: spot[1],
-            },
-        ) {
+        let p = objects::spot_at(spots, j);
+        if passes(test, p) {
             places[k] = j as u32;
             k += 1;
         }

@@ -18,12 +18,19 @@ use geometry::position_in_domain;
 use geometry::radius_in_domain;
 use geometry::upper_corner;
 use replies::Count;
+use slots::Handle;
 
 // What a found position must pass, besides standing in the range: nothing, a circle of a centre and a radius, or a rectangle of two corners.
 pub enum Test {
     Any,
     Circle(Position, f32),
     Rectangle(Position, Position),
+}
+
+// What a query reports of an entry.
+pub struct Finding {
+    pub handle: Handle,
+    pub position: Position,
 }
 
 // What the three queries are: the range from the cell of `ll` to that of `ur`, and a test. `ok` says whether the numbers that were given are in the domain.

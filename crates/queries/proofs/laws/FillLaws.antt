@@ -30,7 +30,7 @@ use Rattle.point_tables.specs.EntryLaws.{entryAt}
 
 module _ (nums pool : List (List ℕ)) (spots : List (List Float)) (js : List ℕ) (handles : List (List ℕ)) (places : List (List Float)) where
   pub filled-0 : length js ≤ min (length handles) (length places)
-      → findings (count 0 (length js)) (written (map (handleAt nums pool) js) handles) (written (map (placeAt spots) js) places) ≡ filled nums pool spots js handles places
+      → findings (count 0 (length js)) (written (map (handleAt nums pool spots) js) handles) (written (map (placeAt nums pool spots) js) places) ≡ filled nums pool spots js handles places
   unfolding filled
   filled-0 l = simp (le-leb (length js) (min (length handles) (length places)) l)
 
@@ -40,11 +40,11 @@ module _ (nums pool : List (List ℕ)) (spots : List (List Float)) (js : List �
 
   -- what was written of the first r places of an array
   pub filled-put : (fs : List ℕ) (r : ℕ) (h : List (List ℕ)) (p : List (List Float)) → r ≡ length js → take r fs ≡ js
-      → h ≡ written (map (handleAt nums pool) (take r fs)) handles → p ≡ written (map (placeAt spots) (take r fs)) places
+      → h ≡ written (map (handleAt nums pool spots) (take r fs)) handles → p ≡ written (map (placeAt nums pool spots) (take r fs)) places
       → r ≤ length handles → r ≤ length places → findings (count 0 r) h p ≡ filled nums pool spots js handles places
   filled-put fs r h p er ef eh ep rh rp =
       (λ z. findings (count 0 (er z)) (eh z) (ep z))
-      ∙ ap (λ (l : List ℕ). findings (count 0 (length js)) (written (map (handleAt nums pool) l) handles) (written (map (placeAt spots) l) places)) ef
+      ∙ ap (λ (l : List ℕ). findings (count 0 (length js)) (written (map (handleAt nums pool spots) l) handles) (written (map (placeAt nums pool spots) l) places)) ef
       ∙ filled-0 (omega arith)
 
 module _ (t : Tables) (h : Holds t) where
@@ -84,10 +84,10 @@ module _ (t : Tables) (ok : Bool) (ll ur : Position) (test : Test) (handles : Li
     number-js : length (found t ll ur test) ≡ length js
     number-js = ap length found-js ∙ length-map js (entryAt (t .pool) (t .spots))
 
-    handles-js : map (handleRow t) (found t ll ur test) ≡ map (handleAt (t .nums) (t .pool)) js
+    handles-js : map (handleRow t) (found t ll ur test) ≡ map (handleAt (t .nums) (t .pool) (t .spots)) js
     handles-js = ap (map (handleRow t)) found-js ∙ map-map (handleRow t) (entryAt (t .pool) (t .spots)) js
 
-    places-js : map placeRow (found t ll ur test) ≡ map (placeAt (t .spots)) js
+    places-js : map placeRow (found t ll ur test) ≡ map (placeAt (t .nums) (t .pool) (t .spots)) js
     places-js = ap (map placeRow) found-js ∙ map-map placeRow (entryAt (t .pool) (t .spots)) js
 
     search-filled : ok ≡ true → cellsIn (cellAt (sizeOf t) ll) (cellAt (sizeOf t) ur) ≤ mostCells

@@ -9,6 +9,7 @@ use lib.ListN.{length, set}
 use borrow.Author.Needs.{needs}
 use Rattle.storage.specs.Keyed.{written}
 use Rattle.storage.proofs.laws.WrittenLaws.{length-written}
+use Rattle.queries.specs.Queries.{passes}
 use Rattle.queries.specs.Places.{placesIn, spotPasses}
 use Rattle.queries.proofs.laws.GatherLaws.{upTo, up-length, up-most, up-start, up-none, up-count, up-passed, up-room, up-written}
 use Rattle.queries.proofs.gather.gather_run.Statement.{statement}
@@ -67,6 +68,10 @@ slice-write-places c = omega (arith, room c, keeps (c .before .before .before .b
 add-k : tie.Need-add-k Inv-loop μ-loop
 add-k c = let r = room c in search needs
 
+-- what the test says of the place at hand
+tested : (c : tie.After-passes Inv-loop μ-loop) → let l = c .before .before .before in c .passes .result ≡ test-of (l .before .before) (l .loop .j)
+tested c = c .passes .ensures ∙ ap (passes (c .before .before .before .before .before .args .test)) (c .before .spot-at .ensures)
+
 loop-again : tie.Need-loop-again Inv-loop μ-loop
 loop-again c =
     let l = c .before .before .before .before in
@@ -78,14 +83,14 @@ loop-again c =
     let r : j < length o = omega (arith, s .pre) in
     ⊎-elim
     (λ w.
-    let e = sym (c .before .passes .ensures) ∙ w .0 .taken in (
+    let e = sym (tested (c .before)) ∙ w .0 .taken in (
       omega arith,
       omega arith,
       w .2 ∙ ap (λ n. n + 1) (l .loop .inv .2) ∙ up-count t (a .from) (a .n) o (size s) j (l .loop .inv .0) e,
       w .1 ∙ (λ z. set (l .loop .inv .3 z) (l .loop .inv .2 z) j) ∙ up-written t (a .from) (a .n) o (size s) j (l .loop .inv .0) (s .pre .0) r e,
     ))
     (λ w.
-    let e = up-passed t (a .from) (a .n) o (size s) j (l .loop .inv .0) (sym (c .before .passes .ensures) ∙ w .0 .left) in
+    let e = up-passed t (a .from) (a .n) o (size s) j (l .loop .inv .0) (sym (tested (c .before)) ∙ w .0 .left) in
     (omega arith, omega arith, w .2 ∙ l .loop .inv .2 ∙ ap length (sym e), w .1 ∙ l .loop .inv .3 ∙ ap (λ m. written m o) (sym e)))
     (c .if1 .came)
 
@@ -109,10 +114,7 @@ gather-run-spec =
     Inv-loop
     μ-loop
     loop-holds
-    (λ c. search needs)
-    (λ c. omega arith)
-    (λ c. search needs)
-    (λ c. search needs)
+    (λ c κs. omega (arith, c .before .before .before .pre))
     (λ c κs. search needs)
     (λ c. search needs)
     mul-places
