@@ -1,7 +1,7 @@
 -- What the work of an insert asks of its calls, and what they leave, put together. Assumes nothing.
 use Prim.Native.Nat.{ℕ, _+_, _/_, _<_}
 use mathlib.Core.Path.{_≡_, sym, _∙_, ap, subst}
-use mathlib.Core.List.{List, [], _∷_, map}
+use mathlib.Core.List.{List, map}
 use native.Mathlib.Omega.{arith}
 use lib.Ieee.{Float}
 use lib.IntN.{ℤ}
@@ -18,6 +18,7 @@ use Rattle.storage.specs.CellTable.{entered}
 use Rattle.storage.specs.Pooled as Pooled
 use Rattle.storage.specs.Pooled.{Columns}
 use Rattle.objects.specs.Columns.{numsOf, realsOf, intsOf}
+use Rattle.objects.specs.Listed.{entryRow, entrySpot}
 use Rattle.point_tables.specs.Tables.{Tables, tables, sizeOf, usedOf, rowsOf, counting, slotsOf}
 use Rattle.inserts.specs.Insert.{entriesWith, rowsWith, put}
 use Rattle.inserts.specs.Fresh.{Fresh, freshRecord}
@@ -50,12 +51,14 @@ module _ (t : Tables) (s : ℕ) (p : Position) (f : Fresh t s p) where
   few u e = omega (arith, one-more, f .holds .sized .most)
 
   -- ---- the exit tables, by what each call ensures
-  module _ (d u r : ℕ) (c : Cell) (k i : ℕ) (eu : u ≡ usedOf t) (er : r ≡ rowsOf t) (ec : c ≡ cellAt (sizeOf t) p) (ek : k ≡ keyOf c) (ei : i ≡ s) where
+  module _ (d u r : ℕ) (c : Cell) (k : ℕ) (row : List ℕ) (spot : List Float)
+      (eu : u ≡ usedOf t) (er : r ≡ rowsOf t) (ec : c ≡ cellAt (sizeOf t) p) (ek : k ≡ keyOf c)
+      (ew : row ≡ entryRow k (record { slot = s; position = p })) (es : spot ≡ entrySpot (record { slot = s; position = p })) where
     key-is : k ≡ keyOf (cellAt (sizeOf t) p)
     key-is = ek ∙ ap keyOf ec
 
-    entries-are : Pooled.entriesWith u (k ∷ i ∷ []) (p .x ∷ p .y ∷ []) (t .pool) (t .spots) ≡ entriesWith t s p
-    entries-are = rw (eu, key-is, ei)
+    entries-are : Pooled.entriesWith u row spot (t .pool) (t .spots) ≡ entriesWith t s p
+    entries-are = rw (eu, ew, es, key-is)
 
     rows-are : entered k (take r (t .cells)) ≡ rowsWith t p
     rows-are = rw (er, key-is)
@@ -65,7 +68,7 @@ module _ (t : Tables) (s : ℕ) (p : Position) (f : Fresh t s p) where
         → ns ≡ set (t .nums) s (numsOf (freshRecord (versionAt (t .nums) s) p c d))
         → qs ≡ set (t .reals) s (realsOf (freshRecord (versionAt (t .nums) s) p c d))
         → zs ≡ set (t .ints) s (intsOf (freshRecord (versionAt (t .nums) s) p c d))
-        → Columns (Pooled.entriesWith u (k ∷ i ∷ []) (p .x ∷ p .y ∷ []) (t .pool) (t .spots)) (t .pool) (t .spots) pool spots
+        → Columns (Pooled.entriesWith u row spot (t .pool) (t .spots)) (t .pool) (t .spots) pool spots
         → (n ≡ length (entered k (take r (t .cells)))) × (cells ≡ written (entered k (take r (t .cells))) (t .cells))
         → m ≡ counting (taken (t .map) s) (u + 1) n
         → tables ns qs zs m pool spots cells ≡ put t s p d

@@ -18,6 +18,7 @@ ghost use Rattle.inserts.specs.Fresh.{Fresh, freshRecord, answerBy};
 ghost use Rattle.replies.specs.Replies.{inserted};
 use cells::Cell;
 use geometry::Position;
+use objects::Entry;
 use objects::Record;
 use objects::State;
 use replies::Inserted;
@@ -126,9 +127,14 @@ fn put(
     let rows = basics::index_of(map[2]);
     let cell = cells::cell_at(map[0], at);
     let key = cells::key_of(cell);
-    let item = basics::word_of(s);
+    let e = Entry {
+        slot: s,
+        position: at,
+    };
+    let row = objects::entry_row(key, e);
+    let spot = objects::entry_spot(e);
     occupy(nums, reals, ints, s, at, cell, obj);
-    storage::append_entry(pool, spots, used, [key, item], [at.x, at.y]);
+    storage::append_entry(pool, spots, used, row, spot);
     let more = storage::enter_cell(cells, rows, key);
     count(map, s, used + 1, more);
 }
