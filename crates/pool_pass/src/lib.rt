@@ -110,18 +110,18 @@ fn run_end(
     j
 }
 
-// The span of the cells c, where s is that of the cells `line`: most rows of the cell table have the line of the row before.
-fn line_span(size: u64, s: Span, line: i32, c: i32) -> Span
-    requires { ⌜ SizeInDomain size × Spans size line (s .lo) (s .hi) ⌝ }
-    ensures { λ r. ⌜ Spans size c (r .lo) (r .hi) ⌝ }
+// Whether a row of the cell table can come behind one with the key `last`.
+fn follows(last: u64, row: [u64; 2]) -> bool
+    ensures { λ b. ⌜ Says b ((last < getD row 0 0) × (getD row 1 0 ≤ 1)) ⌝ }
 {
-    if line == c {
-        return s;
+    if row[0] <= last {
+        return false;
     }
-    cells::span_of(size, c)
+    row[1] <= 1
 }
 
 // Whether the pool and the cell table are right, and the record of each slot that an entry names; the marks are then set for these slots.
+// Most rows have the line of the row before, so the ends of its span are kept. At first the key is 0, that of no object, and the span is empty.
 pub fn pool_ok(
     nums: &[[u32; 4]],
     reals: &[[f32; 4]],
@@ -139,21 +139,21 @@ pub fn pool_ok(
     ensures named { λ b. ⌜ (b ≡ true → Named (now (pool .entry)) (now (marks .exit)) used) ⌝ }
 {
     let mut last = 0;
-    let mut line = 0;
-    let mut y = cells::span_of(size, line);
+    let mut y_lo = 1.0;
+    let mut y_hi = 0.0;
     let mut r = 0;
     let mut j = 0;
     while r < rows {
         let row = cells[r];
-        if (0 < r) & (row[0] <= last) {
-            return false;
-        }
-        if 1 < row[1] {
+        if !follows(last, row) {
             return false;
         }
         let c = cells::cell_of_key(row[0]);
-        y = line_span(size, y, line, c.y);
-        line = c.y;
+        if cells::row_of(row[0]) != cells::row_of(last) {
+            let y = cells::span_of(size, c.y);
+            y_lo = y.lo;
+            y_hi = y.hi;
+        }
         let e = run_end(
             nums,
             reals,
@@ -164,7 +164,7 @@ pub fn pool_ok(
             size,
             row[0],
             c,
-            y,
+            Span { lo: y_lo, hi: y_hi },
             row[1],
             j,
             marks,

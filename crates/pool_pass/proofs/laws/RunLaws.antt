@@ -5,18 +5,28 @@ use mathlib.Core.Path.{_≡_, refl, sym, ap, _∙_, subst}
 use mathlib.Core.Logic.{_⊎_, inl, inr, ⊎-elim}
 use mathlib.Core.List.{List}
 use native.Mathlib.Omega.{arith}
-use lib.IntN.{ℤ}
+use lib.IntN.{ℤ, pos, negsuc}
+use lib.Signed.{mag}
 use lib.Ieee.{Float}
 use Rattle.cells.specs.declared.Cell.{Cell}
-use Rattle.cells.specs.Numbers.{Fits, near-fits}
+use Rattle.cells.specs.Numbers.{Near, near-fits}
 use Rattle.cells.specs.CellRuleLaws.{cell-near}
 use Rattle.cells.specs.ReachLaws.{position-reached}
-use Rattle.cells.specs.Key.{keyOf, cellOfKey}
+use Rattle.cells.specs.Key.{upward, keyOf, cellOfKey}
 use Rattle.cells.proofs.laws.KeyLaws.{cell-key, key-cell}
 use Rattle.storage.specs.Packed.{first, second}
 use Rattle.objects.specs.Columns.{recordAt}
 use Rattle.pool_pass.specs.Pass.{Step, stays, steps, Marked, Whole, Right, Here, Run, Turn, Passes}
 use Rattle.pool_pass.proofs.laws.PassLaws.{below-or, Met, met-next, met-short, Passed, passed-more}
+
+-- ---- the key of a cell near 0 is not 0
+upward-some : (z : ℤ) → mag z ≤ 4194304 → 0 < upward z
+upward-some (pos n) h = omega arith
+upward-some (negsuc n) h = omega arith
+
+key-some : (c : Cell) → Near c → 0 < keyOf c
+unfolding keyOf
+key-some c n = omega (arith, upward-some (c .x) (n .x))
 
 module _ (nums : List (List ℕ)) (reals : List (List Float)) (ints : List (List ℤ)) (pool : List (List ℕ)) (spots : List (List Float)) (cells : List (List ℕ)) (size : ℕ) where
   abbrev In : ℕ → ℕ → Type 0
@@ -61,11 +71,15 @@ module _ (nums : List (List ℕ)) (reals : List (List Float)) (ints : List (List
 
   -- ---- where all is right, an entry is right in the list of its row
   module _ (used rows : ℕ) (t : Passes nums reals ints pool spots cells size used rows) where
-    cell-fits : (j : ℕ) → j < used → Fits (recordAt nums reals ints (second pool j) .cell)
-    cell-fits j h =
+    cell-is-near : (j : ℕ) → j < used → Near (recordAt nums reals ints (second pool j) .cell)
+    cell-is-near j h =
         let o = t .whole j h .occupied in
         let r = recordAt nums reals ints (second pool j) in
-        subst Fits (o .in-cell) (near-fits _ (cell-near size (r .position) (position-reached (r .position) (o .in-domain))))
+        subst Near (o .in-cell) (cell-near size (r .position) (position-reached (r .position) (o .in-domain)))
+
+    -- no row has the key 0
+    pub row-some : (r : ℕ) → r < rows → 0 < first cells r
+    row-some r l = let (j, h, e) = t .packed .has-list r l in subst (λ (k : ℕ). 0 < k) (sym (t .each j h .is-key) ∙ e) (key-some (recordAt nums reals ints (second pool j) .cell) (cell-is-near j h))
 
     pub in-of : (j : ℕ) → j < used → (r : ℕ) → r < rows → first cells r ≡ first pool j → In r j
     in-of j h r l e =
@@ -75,7 +89,7 @@ module _ (nums : List (List ℕ)) (reals : List (List Float)) (ints : List (List
           right = record {
             inside = f .inside;
             occupied = f .occupied;
-            is-cell = sym (ap cellOfKey (e ∙ f .is-key) ∙ cell-key (recordAt nums reals ints (second pool j) .cell) (cell-fits j h));
+            is-cell = sym (ap cellOfKey (e ∙ f .is-key) ∙ cell-key (recordAt nums reals ints (second pool j) .cell) (near-fits _ (cell-is-near j h)));
             at = f .at;
             number-x = f .number-x;
             number-y = f .number-y;

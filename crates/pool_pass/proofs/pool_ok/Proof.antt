@@ -1,87 +1,103 @@
--- `pool_pass::pool_ok` meets its contract. With r rows met, all is right up to entry j, the marks say which slots were named, and entry j is not right in
--- the list of the last row. The measure is what is left of the rows. Assumes nothing.
-use Prim.Native.Nat.{ℕ, _+_, _-_, _≤_, _<_}
+-- `pool_pass::pool_ok` meets its contract. With r rows met, all is right up to entry j, the marks say which slots were named, entry j is not right in
+-- the list of the last row, and the two locals are the span of its line. The measure is what is left of the rows. Assumes nothing.
+use Prim.Native.Nat.{ℕ, _+_, _-_, _*_, _≤_, _<_}
 use mathlib.Core.Path.{_≡_, refl, sym, _∙_, ap, subst}
-use mathlib.Core.Bool.{Bool, true, false, _&&_}
+use mathlib.Core.Bool.{false}
 use mathlib.Core.Logic.{⊎-elim}
 use native.Mathlib.Omega.{arith}
-use lib.Dec.{ltb, leb}
 use lib.IntN.{ℤ}
-use mir.Syntax.{w32}
-use mir.Val.{toZ}
+use lib.Signed.{mag}
+use lib.Ieee.{Float}
 use lib.ListN.{length, length-replicate}
-use borrow.Author.Tests.{eqb-true, eq-eqb, lt-ltb, ltb-true, leb-true, leb-false}
-use borrow.Author.Needs.{needs}
+use borrow.Author.Tests.{eqb-true, eq-eqb, not-true, not-false}
 use Rattle.basics.specs.Says.{says-no, apart}
+use Rattle.cells.specs.declared.Cell.{Cell}
+use Rattle.cells.specs.Size.{SizeInDomain}
+use Rattle.cells.specs.Key.{downward, rowOf, cellOfKey}
 use Rattle.cells.specs.Span.{Spans}
+use Rattle.cells.proofs.laws.SpanLaws.{no-span}
 use Rattle.storage.specs.Packed.{first, second}
-use Rattle.pool_pass.proofs.Shared.{back}
 use Rattle.pool_pass.specs.Pass.{Here, Passes, Named}
+use Rattle.pool_pass.proofs.Shared.{back}
 use Rattle.pool_pass.proofs.laws.MarkLaws.{named-none}
 use Rattle.pool_pass.proofs.laws.PassLaws.{below-or, Passed, passed-none, passed-all}
-use Rattle.pool_pass.proofs.laws.RunLaws.{passed-run, next-row, next-entry}
+use Rattle.pool_pass.proofs.laws.RunLaws.{passed-run, row-some, next-row, next-entry}
 use Rattle.pool_pass.proofs.pool_ok.Statement.{statement}
 use Rattle.pool_pass.proofs.pool_ok.Tie as tie
 
 abbrev Inv-loop : tie.InvT-loop
-Inv-loop nums reals ints pool spots cells used rows size marks₀ last₀ line₀ y₀ r₀ j₀ marks last line y r j = (r ≤ rows) × (j ≤ used) × (length marks ≡ 4096) × Passed nums reals ints pool spots cells size rows j r × Named pool marks j × (0 < r → last ≡ first cells (r - 1)) × (0 < r → j < used → Here nums reals ints pool spots size (first cells (r - 1)) (second cells (r - 1)) j → ⊥) × Spans size (toZ w32 line) (y .lo) (y .hi)
+Inv-loop nums reals ints pool spots cells used rows size marks₀ last₀ y-lo₀ y-hi₀ r₀ j₀ marks last y-lo y-hi r j = (r ≤ rows) × (j ≤ used) × (length marks ≡ 4096) × Passed nums reals ints pool spots cells size rows j r × Named pool marks j × (r ≡ 0 → last ≡ 0) × (0 < r → last ≡ first cells (r - 1)) × (0 < r → j < used → Here nums reals ints pool spots size (first cells (r - 1)) (second cells (r - 1)) j → ⊥) × Spans size (cellOfKey last .y) y-lo y-hi
 
 abbrev μ-loop : tie.MeasureT-loop
-μ-loop nums reals ints pool spots cells used rows size marks₀ last₀ line₀ y₀ r₀ j₀ marks last line y r j = rows - r
+μ-loop nums reals ints pool spots cells used rows size marks₀ last₀ y-lo₀ y-hi₀ r₀ j₀ marks last y-lo y-hi r j = rows - r
+
+-- ---- the span of a line
+-- no coordinate stands on the line of key 0
+first-line : (s : ℕ) → SizeInDomain s → 1048576 < mag (cellOfKey 0 .y) * s
+unfolding cellOfKey
+first-line s h = omega (arith, h)
+
+same-line : (a b : ℕ) → rowOf a ≡ rowOf b → cellOfKey a .y ≡ cellOfKey b .y
+unfolding cellOfKey
+same-line a b e = ap downward e
+
+spans-of : (s : ℕ) {c d : ℤ} {lo hi lo' hi' : Float} → c ≡ d → lo' ≡ lo → hi' ≡ hi → Spans s c lo hi → Spans s d lo' hi'
+spans-of s {c} {d} {lo} {hi} {lo'} {hi'} e f g h = subst (λ (l : Float). Spans s d l hi') (sym f) (subst (λ (k : Float). Spans s d lo k) (sym g) (subst (λ (z : ℤ). Spans s z lo hi) e h))
 
 loop-holds : tie.Need-loop-holds Inv-loop μ-loop
 loop-holds c =
-    let a = c .before .args in
-    let p = c .before .pre in
-    (omega arith, omega arith, ap length (p .1) ∙ length-replicate 4096 false, passed-none (a .nums .now) (a .reals .now) (a .ints .now) (a .pool .now) (a .spots .now) (a .cells .now) (a .size) (a .rows), subst (λ m. Named (a .pool .now) m 0) (sym (p .1)) (named-none (a .pool .now) 4096), (λ h. absurd (omega arith)), (λ h. absurd (omega arith)), c .span-of .ensures)
+    let a = c .args in
+    let p = c .pre in
+    (omega arith, omega arith, ap length (p .1) ∙ length-replicate 4096 false, passed-none (a .nums .now) (a .reals .now) (a .ints .now) (a .pool .now) (a .spots .now) (a .cells .now) (a .size) (a .rows), subst (λ m. Named (a .pool .now) m 0) (sym (p .1)) (named-none (a .pool .now) 4096), (λ h. refl), (λ h. absurd (omega arith)), (λ h. absurd (omega arith)), no-span (a .size) (p .0 .of-size) (cellOfKey 0 .y) (first-line (a .size) (p .0 .of-size)))
 
--- ---- the order of the rows, as it is tested
-both : (a b : Bool) → (a && b) ≡ true → (a ≡ true) × (b ≡ true)
-both true b e = (refl, e)
-both false b e = absurd (apart e)
-
-not-second : (a b : Bool) → a ≡ true → (a && b) ≡ false → b ≡ false
-not-second true b e g = g
-not-second false b e g = absurd (apart e)
+-- where all is right, a row comes behind the last one, and the first behind 0
+behind : (d : tie.In-loop Inv-loop μ-loop)
+    → let l = d .before .loop in
+    let a = d .before .before .args in
+    Passes (a .nums .now) (a .reals .now) (a .ints .now) (a .pool .now) (a .spots .now) (a .cells .now) (a .size) (a .used) (a .rows) → l .last < first (a .cells .now) (l .r)
+behind d t =
+    let l = d .before .loop in
+    let a = d .before .before .args in
+    let h = d .loop-test .taken in
+    ⊎-elim
+    (λ s. omega (arith, l .inv .6 s, t .packed .ascending (l .r - 1) (l .r) h (omega (arith, s))))
+    (λ s. omega (arith, l .inv .5 (omega (arith, s)), row-some (a .nums .now) (a .reals .now) (a .ints .now) (a .pool .now) (a .spots .now) (a .cells .now) (a .size) (a .used) (a .rows) t (l .r) h))
+    (below-or 0 (l .r))
 
 returns : tie.Need-returns Inv-loop μ-loop
 returns c =
-    let l = c .before .before .before .loop in
-    let a = c .before .before .before .before .before .args in
-    let w = both (ltb 0 (l .r)) (leb (first (a .cells .now) (l .r)) (l .last)) (c .if1 .taken) in
-    let h = ltb-true 0 (l .r) (w .0) in
-    (says-no (λ t. omega (arith, t .packed .ascending (l .r - 1) (l .r) (c .before .before .loop-test .taken) (omega (arith, h)), leb-true (first (a .cells .now) (l .r)) (l .last) (w .1), l .inv .5 h)), λ e. absurd (apart e))
-
-rises : (c : tie.Else1 Inv-loop μ-loop) → let l = c .before .before .before .loop in let a = c .before .before .before .before .before .args in 0 < l .r → first (a .cells .now) (l .r - 1) < first (a .cells .now) (l .r)
-rises c h = let l = c .before .before .before .loop in let k = first (c .before .before .before .before .before .args .cells .now) (l .r) in omega (arith, leb-false k (l .last) (not-second (ltb 0 (l .r)) (leb k (l .last)) (lt-ltb 0 (l .r) h) (c .if1 .left)), l .inv .5 h)
-
-returns-2 : tie.Need-returns-2 Inv-loop μ-loop
-returns-2 c =
     let d = c .before .before .before in
-    (says-no (λ t. omega (arith, t .packed .marks (d .before .loop .r) (d .loop-test .taken), c .if2 .taken)), λ e. absurd (apart e))
+    (says-no (λ t. apart (sym (not-true _ (c .if1 .taken)) ∙ c .before .follows .ensures .no (behind d t, t .packed .marks (d .before .loop .r) (d .loop-test .taken)))), λ e. absurd (apart e))
 
--- the span of the line of the next cell
-line-span-requires : tie.Need-line-span-requires Inv-loop μ-loop
-line-span-requires c κs = let l = c .before .before .before .before .before .before in (l .before .before .pre .0 .of-size, l .loop .inv .7)
+-- the two locals are the span of the line of the row
+abbrev turn : tie.Joined2 Inv-loop μ-loop → tie.At-loop Inv-loop μ-loop
+turn d = d .before .before .before .before .before .before .before .before
+
+spans : (d : tie.Joined2 Inv-loop μ-loop) → let a = turn d .before .args in Spans (a .size) (cellOfKey (first (a .cells .now) (turn d .loop .r)) .y) (d .if2 .y-lo) (d .if2 .y-hi)
+spans d =
+    ⊎-elim
+    (λ w. spans-of (turn d .before .args .size) (back (w .1 .given .1 .0 .1) ∙ ap (λ (k : Cell). k .y) (d .before .before .before .cell-of-key .ensures)) (w .3) (w .4) (w .2 .ensures))
+    (λ w. spans-of (turn d .before .args .size) (same-line _ _ (sym (d .before .row-of2 .ensures) ∙ sym (w .0 .left) ∙ d .before .before .row-of .ensures)) (w .1) (w .2) (turn d .loop .inv .8))
+    (d .if2 .came)
 
 run-end-requires : tie.Need-run-end-requires Inv-loop μ-loop
 run-end-requires c κs =
-    let s = c .before in
-    let k = s .before .before .before in
-    let l = k .before .before .before .before .before in
-    let p = l .before .before .pre .0 in
-    let y : Spans (l .before .before .args .size) (k .cell-of-key .result .y) (s .before .line-span .result .lo) (s .before .line-span .result .hi) =
-    subst (λ (z : ℤ). Spans (l .before .before .args .size) z (s .before .line-span .result .lo) (s .before .line-span .result .hi)) (back (s .before .before .struct-told .given .1 .0 .1)) (s .before .line-span .ensures) in
-    ((k .cell-of-key .ensures, y), (p .most, p .of-reals, p .of-ints, p .in-pool, p .in-spots, p .of-size, l .loop .inv .1, l .loop .inv .4, l .loop .inv .2))
+    let d = c .before in
+    let k = d .before .before .before .cell-of-key in
+    let l = turn d in
+    let a = l .before .args in
+    let p = l .before .pre .0 in
+    let y : Spans (a .size) (k .result .y) (d .if2 .y-lo) (d .if2 .y-hi) = subst (λ (h : Cell). Spans (a .size) (h .y) (d .if2 .y-lo) (d .if2 .y-hi)) (sym (k .ensures)) (spans d) in
+    ((k .ensures, y), (p .most, p .of-reals, p .of-ints, p .in-pool, p .in-spots, p .of-size, l .loop .inv .1, l .loop .inv .4, l .loop .inv .2))
 
-returns-3 : tie.Need-returns-3 Inv-loop μ-loop
-returns-3 c =
-    let d = c .before .before .before .before .before .before .before .before .before .before in
-    let l = d .before .loop in
-    let a = d .before .before .before .args in
+returns-2 : tie.Need-returns-2 Inv-loop μ-loop
+returns-2 c =
+    let d = turn (c .before .before .before) in
+    let l = d .loop in
+    let a = d .before .args in
     let u = c .before .run-end .ensures .0 in (
       says-no (λ t.
-          let o = next-entry (a .nums .now) (a .reals .now) (a .ints .now) (a .pool .now) (a .spots .now) (a .cells .now) (a .size) (a .used) (a .rows) t (l .j) (l .r) (l .inv .3) (l .inv .6) (l .inv .1) (d .loop-test .taken) in
+          let o = next-entry (a .nums .now) (a .reals .now) (a .ints .now) (a .pool .now) (a .spots .now) (a .cells .now) (a .size) (a .used) (a .rows) t (l .j) (l .r) (l .inv .3) (l .inv .7) (l .inv .1) (c .before .before .before .before .before .before .before .before .before .before .loop-test .taken) in
           let e : l .j ≡ c .before .run-end .result = omega (arith, c .if3 .taken, u .up) in
           u .stop (omega (arith, o .0, e)) (subst (Here (a .nums .now) (a .reals .now) (a .ints .now) (a .pool .now) (a .spots .now) (a .size) (first (a .cells .now) (l .r)) (second (a .cells .now) (l .r))) e (o .1))),
       λ e. absurd (apart e),
@@ -93,23 +109,25 @@ loop-again c =
     let g = s .before .before .before .before in
     let d = g .before .before .before in
     let l = d .before .loop in
-    let a = d .before .before .before .args in
+    let a = d .before .before .args in
     let n = c .before .run-end .ensures in
+    let v = g .before .follows .ensures .yes (not-false _ (g .if1 .left)) in
     let f : l .r + 1 - 1 ≡ l .r = omega arith in (
       omega (arith, d .loop-test .taken),
       n .0 .most,
       n .1 .1,
-      passed-run (a .nums .now) (a .reals .now) (a .ints .now) (a .pool .now) (a .spots .now) (a .cells .now) (a .size) (a .used) (a .rows) (l .j) (l .r) (c .before .run-end .result) (l .inv .3) (rises (g .before)) (d .loop-test .taken) (g .if2 .left) (n .0) (c .if3 .left),
+      passed-run (a .nums .now) (a .reals .now) (a .ints .now) (a .pool .now) (a .spots .now) (a .cells .now) (a .size) (a .used) (a .rows) (l .j) (l .r) (c .before .run-end .result) (l .inv .3) (λ h. omega (arith, v .0, l .inv .6 h)) (d .loop-test .taken) (v .1) (n .0) (c .if3 .left),
       n .1 .0,
+      λ h. absurd (omega (arith, h)),
       λ h. ap (first (a .cells .now)) (sym f),
       λ h i w. n .0 .stop i (subst (λ (r : ℕ). Here (a .nums .now) (a .reals .now) (a .ints .now) (a .pool .now) (a .spots .now) (a .size) (first (a .cells .now) r) (second (a .cells .now) r) (c .before .run-end .result)) f w),
-      s .before .line-span .ensures,
+      spans s,
     )
 
-returns-4 : tie.Need-returns-4 Inv-loop μ-loop
-returns-4 c =
+returns-3 : tie.Need-returns-3 Inv-loop μ-loop
+returns-3 c =
     let l = c .before .loop in
-    let a = c .before .before .before .args in
+    let a = c .before .before .args in
     let q : l .r ≡ a .rows = omega (arith, l .inv .0, c .loop-test .left) in (
       record {
         yes = λ e.
@@ -117,7 +135,7 @@ returns-4 c =
             (subst (λ (j : ℕ). Passed (a .nums .now) (a .reals .now) (a .ints .now) (a .pool .now) (a .spots .now) (a .cells .now) (a .size) (a .rows) j (l .r)) (eqb-true _ _ e) (l .inv .3));
         no = λ t.
             ⊎-elim
-            (λ h. absurd (omega (arith, q, next-row (a .nums .now) (a .reals .now) (a .ints .now) (a .pool .now) (a .spots .now) (a .cells .now) (a .size) (a .used) (a .rows) t (l .j) (l .r) (l .inv .3) (l .inv .6) h .0)))
+            (λ h. absurd (omega (arith, q, next-row (a .nums .now) (a .reals .now) (a .ints .now) (a .pool .now) (a .spots .now) (a .cells .now) (a .size) (a .used) (a .rows) t (l .j) (l .r) (l .inv .3) (l .inv .7) h .0)))
             (λ h. eq-eqb (l .j) (a .used) (omega (arith, h, l .inv .1)))
             (below-or (l .j) (a .used));
       },
@@ -130,23 +148,23 @@ pool-ok-spec =
     (tie.spec
     Inv-loop
     μ-loop
-    (λ c κs. c .pre .0 .of-size)
     loop-holds
-    (λ c. omega (arith, c .loop-test .taken, c .before .before .before .pre .0 .in-cells))
-    (λ c. omega (arith, c .loop-test .taken, c .before .before .before .pre .0 .in-cells))
-    (λ c. omega arith)
+    (λ c. omega (arith, c .loop-test .taken, c .before .before .pre .0 .in-cells))
+    (λ c. omega (arith, c .loop-test .taken, c .before .before .pre .0 .in-cells))
+    (λ c κs. tt)
     returns
     (λ c. omega arith)
-    returns-2
+    (λ c κs. tt)
     (λ c. omega arith)
     (λ c κs. tt)
-    line-span-requires
+    (λ c κs. tt)
+    (λ c κs. c .before .before .before .before .before .before .before .before .before .before .pre .0 .of-size)
     (λ c. omega arith)
     (λ c. omega arith)
     run-end-requires
-    returns-3
+    returns-2
     (λ c. omega arith)
     (λ c. omega arith)
     (λ c. omega arith)
     loop-again
-    returns-4)
+    returns-3)
