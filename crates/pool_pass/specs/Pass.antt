@@ -4,33 +4,30 @@ use mathlib.Core.Path.{_≡_}
 use mathlib.Core.Bool.{Bool, true, false}
 use mathlib.Core.List.{List, []}
 use lib.IntN.{ℤ}
-use lib.Ieee.{Float, nan, isNan}
+use lib.Ieee.{Float, isNan}
 use lib.ListN.{length, getD}
-use Rattle.geometry.specs.declared.Position.{Position}
 use Rattle.cells.specs.declared.Cell.{Cell}
 use Rattle.cells.specs.Size.{SizeInDomain}
 use Rattle.cells.specs.Key.{keyOf, cellOfKey}
 use Rattle.slots.specs.Slot.{live, versionAt, phaseAt}
 use Rattle.storage.specs.Packed.{first, second, Packed}
+use Rattle.objects.specs.declared.Entry.{Entry}
 use Rattle.objects.specs.Columns.{recordAt}
+use Rattle.objects.specs.Listed.{listedAt}
 use Rattle.objects.specs.Occupied.{Occupied}
-
--- the position of a list entry
-abbrev pub spotAt : List (List Float) → ℕ → Position
-spotAt spots j = record { x = getD (getD spots j []) 0 nan; y = getD (getD spots j []) 1 nan }
 
 -- the state tag of a slot
 abbrev pub tagAt : List (List ℕ) → ℕ → ℕ
 tagAt nums s = getD (getD nums s []) 3 0
 
--- an entry of this key and position is that of slot s: the slot is occupied, its cell has the key, and its position is the entry's, no NaN
-pub record Fits (nums : List (List ℕ)) (reals : List (List Float)) (ints : List (List ℤ)) (s key : ℕ) (p : Position) : Type 0 where
-  pub inside : s < length nums
-  pub occupied : phaseAt nums s ≡ live
-  pub is-key : key ≡ keyOf (recordAt nums reals ints s .cell)
-  pub at : p ≡ recordAt nums reals ints s .position
-  pub number-x : isNan (p .x) ≡ false
-  pub number-y : isNan (p .y) ≡ false
+-- an entry of this key is that of its slot: the slot is occupied, its cell has the key, and its position is the entry's, no NaN
+pub record Fits (nums : List (List ℕ)) (reals : List (List Float)) (ints : List (List ℤ)) (key : ℕ) (e : Entry) : Type 0 where
+  pub inside : e .slot < length nums
+  pub occupied : phaseAt nums (e .slot) ≡ live
+  pub is-key : key ≡ keyOf (recordAt nums reals ints (e .slot) .cell)
+  pub at : e .position ≡ recordAt nums reals ints (e .slot) .position
+  pub number-x : isNan (e .position .x) ≡ false
+  pub number-y : isNan (e .position .y) ≡ false
 
 -- c rows of the cell table are met; with an entry of this key m are: the same, if the last one has the key, or one more, that has it
 pub data Step (cells : List (List ℕ)) (rows c key m : ℕ) : Type 0 where
@@ -48,22 +45,22 @@ module _ (nums : List (List ℕ)) (reals : List (List Float)) (ints : List (List
     pub tagged : tagAt nums s ≤ 3
     pub occupied : Occupied size (recordAt nums reals ints s)
 
-  -- an entry of position p is that of slot s, which is occupied by an object of cell c; and the mark is set if something is pending for it
-  pub record Right (size : ℕ) (c : Cell) (mark s : ℕ) (p : Position) : Type 0 where
-    pub inside : s < length nums
-    pub occupied : phaseAt nums s ≡ live
-    pub is-cell : recordAt nums reals ints s .cell ≡ c
-    pub at : p ≡ recordAt nums reals ints s .position
-    pub number-x : isNan (p .x) ≡ false
-    pub number-y : isNan (p .y) ≡ false
-    pub whole : Whole size s
-    pub marked : (tagAt nums s ≡ 0 → ⊥) → mark ≡ 1
+  -- an entry is that of its slot, which is occupied by an object of cell c; and the mark is set if something is pending for it
+  pub record Right (size : ℕ) (c : Cell) (mark : ℕ) (e : Entry) : Type 0 where
+    pub inside : e .slot < length nums
+    pub occupied : phaseAt nums (e .slot) ≡ live
+    pub is-cell : recordAt nums reals ints (e .slot) .cell ≡ c
+    pub at : e .position ≡ recordAt nums reals ints (e .slot) .position
+    pub number-x : isNan (e .position .x) ≡ false
+    pub number-y : isNan (e .position .y) ≡ false
+    pub whole : Whole size (e .slot)
+    pub marked : (tagAt nums (e .slot) ≡ 0 → ⊥) → mark ≡ 1
 
 module _ (nums : List (List ℕ)) (reals : List (List Float)) (ints : List (List ℤ)) (pool : List (List ℕ)) (spots : List (List Float)) where
   -- entry j is right in the list of this key and mark, and no entry before it names its slot
   pub record Here (size key mark j : ℕ) : Type 0 where
     pub is-key : first pool j ≡ key
-    pub right : Right nums reals ints size (cellOfKey key) mark (second pool j) (spotAt spots j)
+    pub right : Right nums reals ints size (cellOfKey key) mark (listedAt pool spots j)
     pub fresh : (i : ℕ) → i < j → second pool i ≡ second pool j → ⊥
 
   -- the entries from `from` to e are, and entry e is not
@@ -76,14 +73,14 @@ module _ (nums : List (List ℕ)) (reals : List (List Float)) (ints : List (List
 module _ (nums : List (List ℕ)) (reals : List (List Float)) (ints : List (List ℤ)) (pool : List (List ℕ)) (spots : List (List Float)) (cells : List (List ℕ)) (size : ℕ) where
   -- entry j is right, and with it m rows of the cell table are met
   pub record Turn (rows j c m : ℕ) : Type 0 where
-    pub fits : Fits nums reals ints (second pool j) (first pool j) (spotAt spots j)
+    pub fits : Fits nums reals ints (first pool j) (listedAt pool spots j)
     pub whole : Whole nums reals ints size (second pool j)
     pub step : Step cells rows c (first pool j) m
     pub marked : Marked nums cells (second pool j) (m - 1)
 
   -- the pool, the cell table and the records that are named are right; of the objects it is not asked that each has an entry
   pub record Passes (used rows : ℕ) : Type 0 where
-    pub each : (j : ℕ) → j < used → Fits nums reals ints (second pool j) (first pool j) (spotAt spots j)
+    pub each : (j : ℕ) → j < used → Fits nums reals ints (first pool j) (listedAt pool spots j)
     pub whole : (j : ℕ) → j < used → Whole nums reals ints size (second pool j)
     pub once : (i j : ℕ) → j < used → i < j → second pool i ≡ second pool j → ⊥
     pub packed : Packed used rows pool cells

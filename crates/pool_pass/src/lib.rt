@@ -12,8 +12,9 @@ ghost use Rattle.pool_pass.specs.Pass.{Right, Run, Passes, Room, Named};
 use cells::Cell;
 use cells::Span;
 use geometry::Position;
+use objects::Entry;
 
-// Whether an entry of this position is that of slot s, and the slot's record holds, in the list of cell c with this mark.
+// Whether an entry is that of its slot, and the slot's record holds, in the list of cell c with this mark.
 fn entry_ok(
     nums: &[[u32; 4]],
     reals: &[[f32; 4]],
@@ -23,12 +24,12 @@ fn entry_ok(
     x: Span,
     y: Span,
     mark: u64,
-    s: usize,
-    p: Position,
+    e: Entry,
 ) -> bool
     requires { ⌜ (length (now reals) ≡ length (now nums)) × (length (now ints) ≡ length (now nums)) × SizeInDomain size × Spans size (c .x) (x .lo) (x .hi) × Spans size (c .y) (y .lo) (y .hi) ⌝ }
-    ensures { λ b. ⌜ Says b (Right (now (nums .entry)) (now (reals .entry)) (now (ints .entry)) size c mark s p) ⌝ }
+    ensures { λ b. ⌜ Says b (Right (now (nums .entry)) (now (reals .entry)) (now (ints .entry)) size c mark e) ⌝ }
 {
+    let s = e.slot;
     if nums.len() <= s {
         return false;
     }
@@ -39,6 +40,7 @@ fn entry_ok(
     if n[0] == 0 {
         return false;
     }
+    let p = e.position;
     let q = reals[s];
     if !geometry::same_position(p, Position { x: q[0], y: q[1] }) {
         return false;
@@ -81,26 +83,15 @@ fn run_end(
     let x = cells::span_of(size, c.x);
     let mut j = from;
     while j < used {
-        let e = pool[j];
-        if e[0] != key {
+        let row = pool[j];
+        if row[0] != key {
             return j;
         }
-        let s = basics::index_of(e[1]);
-        let p = spots[j];
-        if !entry_ok(
-            nums,
-            reals,
-            ints,
-            size,
-            c,
-            x,
-            y,
-            mark,
-            s,
-            Position { x: p[0], y: p[1] },
-        ) {
+        let e = objects::entry_at(pool, spots, j);
+        if !entry_ok(nums, reals, ints, size, c, x, y, mark, e) {
             return j;
         }
+        let s = e.slot;
         if marks[s] {
             return j;
         }

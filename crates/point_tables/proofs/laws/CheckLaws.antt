@@ -20,7 +20,8 @@ use Rattle.storage.specs.Packed.{first, second}
 use Rattle.objects.specs.declared.State.the-variants.{Unchanged, NewPos, Relocate, Removed}
 use Rattle.objects.specs.Columns.{tagOf, stateOf, pickState}
 use Rattle.pool_pass.specs.Pass as Pass
-use Rattle.pool_pass.specs.Pass.{Fits, spotAt, tagAt, Passes, Named}
+use Rattle.objects.specs.Listed.{listedAt}
+use Rattle.pool_pass.specs.Pass.{Fits, tagAt, Passes, Named}
 use Rattle.point_tables.specs.Tables.{Tables, sizeOf, usedOf, rowsOf, slotsOf, recordOn, Sized}
 use Rattle.point_tables.specs.Holds.{Counted, RecordHolds, EntryHolds, ListsHold, Pending, Holds}
 use Rattle.point_tables.specs.Check.{Counts, SlotsOk, Room, Listed}
@@ -110,7 +111,7 @@ module _ (t : Tables) where
     pub counts-of : CountsOf
     counts-of = record { in-domain = h .counted .size; used-most = h .counted .used-most; rows-most = h .counted .rows-most }
 
-    fits-of : (j : ℕ) → j < usedOf t → Fits (t .nums) (t .reals) (t .ints) (second (t .pool) j) (first (t .pool) j) (spotAt (t .spots) j)
+    fits-of : (j : ℕ) → j < usedOf t → Fits (t .nums) (t .reals) (t .ints) (first (t .pool) j) (listedAt (t .pool) (t .spots) j)
     fits-of j l =
         let e = h .lists .each j l in
         let d = position-parts (recordOn t (second (t .pool) j) .position) (h .records (second (t .pool) j) (e .inside) (e .occupied) .occupied .in-domain) in

@@ -27,27 +27,27 @@ returns-4 : tie.Need-returns-4
 returns-4 c = says-no (λ h. apart (sym (not-true _ (c .if4 .taken)) ∙ c .before .same-position .ensures .no (h .at, h .number-x, h .number-y)))
 
 abbrev start : tie.Else5 → tie.Start
-start c = c .before .before .before .before .before .before .before .before .before .before
+start c = c .before .before .before .before .before .before .before .before .before .before .before
 
 abbrev Rightly : tie.Start → Type 0
-Rightly s = let a = s .args in Right (a .nums .now) (a .reals .now) (a .ints .now) (a .size) (a .c) (a .mark) (a .s) (a .p)
+Rightly s = let a = s .args in Right (a .nums .now) (a .reals .now) (a .ints .now) (a .size) (a .c) (a .mark) (a .e)
 
 -- the state that the rows of the slot say
 abbrev Agreeing : tie.Start → ℕ → Type 0
-Agreeing s t = let a = s .args in Agrees (a .size) (a .c) (pendingIn t (getD (a .reals .now) (a .s) []) (getD (a .ints .now) (a .s) []))
+Agreeing s t = let a = s .args in Agrees (a .size) (a .c) (pendingIn t (getD (a .reals .now) (a .e .slot) []) (getD (a .ints .now) (a .e .slot) []))
 
-parts : (s : tie.Start) → let a = s .args in Rightly s → InCell (a .size) (a .c) (getD (a .reals .now) (a .s) []) (getD (a .ints .now) (a .s) []) × Agreeing s (tagAt (a .nums .now) (a .s))
-parts s h = let a = s .args in of-occupied (a .size) (a .c) (getD (a .nums .now) (a .s) []) (getD (a .reals .now) (a .s) []) (getD (a .ints .now) (a .s) []) (h .is-cell) (h .whole .occupied)
+parts : (s : tie.Start) → let a = s .args in Rightly s → InCell (a .size) (a .c) (getD (a .reals .now) (a .e .slot) []) (getD (a .ints .now) (a .e .slot) []) × Agreeing s (tagAt (a .nums .now) (a .e .slot))
+parts s h = let a = s .args in of-occupied (a .size) (a .c) (getD (a .nums .now) (a .e .slot) []) (getD (a .reals .now) (a .e .slot) []) (getD (a .ints .now) (a .e .slot) []) (h .is-cell) (h .whole .occupied)
 
 returns-5 : tie.Need-returns-5
-returns-5 c = let s = c .before .before .before .before .before .before .before .before .before .before in says-no (λ h. apart (sym (not-true _ (c .if5 .taken)) ∙ c .before .in-cell .ensures .no (parts s h .0)))
+returns-5 c = let s = c .before .before .before .before .before .before .before .before .before .before .before in says-no (λ h. apart (sym (not-true _ (c .if5 .taken)) ∙ c .before .in-cell .ensures .no (parts s h .0)))
 
 -- past the tests of the slot, what is left is what is pending
-built : (c : tie.Else5) → let a = start c .args in let t = tagAt (a .nums .now) (a .s) in t ≤ 3 → ((t ≡ 0 → ⊥) → a .mark ≡ 1) → Agreeing (start c) t → Rightly (start c)
+built : (c : tie.Else5) → let a = start c .args in let t = tagAt (a .nums .now) (a .e .slot) in t ≤ 3 → ((t ≡ 0 → ⊥) → a .mark ≡ 1) → Agreeing (start c) t → Rightly (start c)
 built c l m g =
     let a = start c .args in
     let d = c .before .before .before in
-    let e = d .before .before .before in
+    let e = d .before .before .before .before in
     let v = d .before .same-position .ensures .yes (not-false _ (d .if4 .left)) in
     let o = c .before .in-cell .ensures .yes (not-false _ (c .if5 .left)) in
     record {
@@ -57,7 +57,7 @@ built c l m g =
       at = v .0;
       number-x = v .1;
       number-y = v .2;
-      whole = record { versioned = e .if3 .left; tagged = l; occupied = to-occupied (a .size) (a .c) (getD (a .nums .now) (a .s) []) (getD (a .reals .now) (a .s) []) (getD (a .ints .now) (a .s) []) o g };
+      whole = record { versioned = e .if3 .left; tagged = l; occupied = to-occupied (a .size) (a .c) (getD (a .nums .now) (a .e .slot) []) (getD (a .reals .now) (a .e .slot) []) (getD (a .ints .now) (a .e .slot) []) o g };
       marked = m;
     }
 

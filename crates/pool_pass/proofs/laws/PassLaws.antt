@@ -12,7 +12,8 @@ use lib.Ieee.{Float}
 use borrow.Author.Count.{below-none, below-more}
 use borrow.Author.Tests.{ltb-true, ltb-false}
 use Rattle.storage.specs.Packed.{first, second, Packed}
-use Rattle.pool_pass.specs.Pass.{Fits, spotAt, Step, stays, steps, Marked, Whole, Turn, Passes}
+use Rattle.objects.specs.Listed.{listedAt}
+use Rattle.pool_pass.specs.Pass.{Fits, Step, stays, steps, Marked, Whole, Turn, Passes}
 
 pub below-or : (i j : ℕ) → (i < j) ⊎ (j ≤ i)
 below-or i j = go (ltb i j) refl
@@ -144,7 +145,7 @@ module _ (pool cells : List (List ℕ)) where
 module _ (nums : List (List ℕ)) (reals : List (List Float)) (ints : List (List ℤ)) (pool : List (List ℕ)) (spots : List (List Float)) (cells : List (List ℕ)) (size : ℕ) where
   -- what holds once the first j entries are passed, and c rows are met
   pub record Passed (rows j c : ℕ) : Type 0 where
-    pub each : (i : ℕ) → i < j → Fits nums reals ints (second pool i) (first pool i) (spotAt spots i)
+    pub each : (i : ℕ) → i < j → Fits nums reals ints (first pool i) (listedAt pool spots i)
     pub whole : (i : ℕ) → i < j → Whole nums reals ints size (second pool i)
     pub once : (a b : ℕ) → b < j → a < b → second pool a ≡ second pool b → ⊥
     pub met : Met pool cells rows j c
@@ -157,7 +158,7 @@ module _ (nums : List (List ℕ)) (reals : List (List Float)) (ints : List (List
     pub passed-more : Turn nums reals ints pool spots cells size rows j c m → ((i : ℕ) → i < j → second pool i ≡ second pool j → ⊥) → Passed rows (j + 1) m
     passed-more t fresh =
         record {
-          each = below-more (λ i. Fits nums reals ints (second pool i) (first pool i) (spotAt spots i)) j (v .each) (t .fits);
+          each = below-more (λ i. Fits nums reals ints (first pool i) (listedAt pool spots i)) j (v .each) (t .fits);
           whole = below-more (λ i. Whole nums reals ints size (second pool i)) j (v .whole) (t .whole);
           once = λ a b h. below-more (λ b. a < b → second pool a ≡ second pool b → ⊥) j (λ b q. v .once a b q) (fresh a) b h;
           met = after;

@@ -14,7 +14,9 @@ use Rattle.cells.specs.declared.Cell.{Cell}
 use Rattle.cells.specs.Key.{cellOfKey}
 use Rattle.cells.specs.Span.{Spans}
 use Rattle.storage.specs.Packed.{second}
-use Rattle.pool_pass.specs.Pass.{spotAt, Right, Here, Run, Named}
+use Rattle.objects.specs.declared.Entry.{Entry}
+use Rattle.objects.specs.Listed.{listedAt}
+use Rattle.pool_pass.specs.Pass.{Right, Here, Run, Named}
 use Rattle.pool_pass.proofs.laws.MarkLaws.{named-more, named-new}
 use Rattle.pool_pass.proofs.laws.PassLaws.{below-or}
 use Rattle.pool_pass.proofs.Shared.{back}
@@ -36,66 +38,88 @@ across c = subst (λ (z : ℤ). Spans (start c .args .size) z (c .span-of .resul
 
 entry-ok-requires : tie.Need-entry-ok-requires Inv-loop μ-loop
 entry-ok-requires c κs =
-    let d = c .before .before .before .before .before .before in
+    let d = c .before .before .before .before .before in
     let p = start d .pre in
     (p .1 .1, p .1 .2, p .1 .5, across d, p .0 .1)
 
+-- what is asked of an entry of the list
+abbrev Rightly : tie.In-loop Inv-loop μ-loop → Cell → Entry → Type 0
+Rightly l d e = let a = start (l .before .before) .args in Right (a .nums .now) (a .reals .now) (a .ints .now) (a .size) d (a .mark) e
+
 -- what the test of entry j says
 right-of : (c : tie.After-entry-ok Inv-loop μ-loop)
-    → let l = c .before .before .before .before .before in
+    → let l = c .before .before .before .before in
     let a = start (l .before .before) .args in
-    Says (c .entry-ok .result) (Right (a .nums .now) (a .reals .now) (a .ints .now) (a .size) (cellOfKey (a .key)) (a .mark) (second (a .pool .now) (l .before .loop .j)) (spotAt (a .spots .now) (l .before .loop .j)))
+    Says (c .entry-ok .result) (Rightly l (cellOfKey (a .key)) (listedAt (a .pool .now) (a .spots .now) (l .before .loop .j)))
 right-of c =
-    let l = c .before .before .before .before .before in
-    let a = start (l .before .before) .args in
-    let R : Cell → ℕ → Type 0 = λ d s. Says (c .entry-ok .result) (Right (a .nums .now) (a .reals .now) (a .ints .now) (a .size) d (a .mark) s (spotAt (a .spots .now) (l .before .loop .j))) in
-    subst (R (cellOfKey (a .key))) (c .before .before .index-of .ensures) (subst (λ (d : Cell). R d (c .before .before .index-of .result)) (start (l .before .before) .pre .0 .0) (c .entry-ok .ensures))
+    let l = c .before .before .before .before in
+    let s = start (l .before .before) in
+    let R : Cell → Entry → Type 0 = λ d e. Says (c .entry-ok .result) (Rightly l d e) in
+    subst (R (cellOfKey (s .args .key))) (c .before .entry-at .ensures) (subst (λ (d : Cell). R d (c .before .entry-at .result)) (s .pre .0 .0) (c .entry-ok .ensures))
 
 returns : tie.Need-returns Inv-loop μ-loop
 returns c = let l = c .before .before .before .loop in (record { up = l .inv .0; most = l .inv .1; each = l .inv .3; stop = λ h i. c .if1 .taken (i .is-key) }, (l .inv .4, l .inv .2))
 
 returns-2 : tie.Need-returns-2 Inv-loop μ-loop
 returns-2 c =
-    let l = c .before .before .before .before .before .before .before .loop in
+    let l = c .before .before .before .before .before .before .loop in
     (record { up = l .inv .0; most = l .inv .1; each = l .inv .3; stop = λ h i. apart (sym (not-true _ (c .if2 .taken)) ∙ right-of (c .before) .no (i .right)) }, (l .inv .4, l .inv .2))
+
+-- the slot that the entry names
+slot-of : (c : tie.After-entry-at Inv-loop μ-loop)
+    → let l = c .before .before .before in c .entry-at .result .slot ≡ second (start (l .before .before) .args .pool .now) (l .before .loop .j)
+slot-of c = ap (λ (e : Entry). e .slot) (c .entry-at .ensures)
 
 -- past the tests, the entry is right; and its slot can be read
 entered : (c : tie.Else2 Inv-loop μ-loop)
-    → let l = c .before .before .before .before .before .before in
+    → let l = c .before .before .before .before .before in
     let a = start (l .before .before) .args in
-    Right (a .nums .now) (a .reals .now) (a .ints .now) (a .size) (cellOfKey (a .key)) (a .mark) (second (a .pool .now) (l .before .loop .j)) (spotAt (a .spots .now) (l .before .loop .j))
+    Rightly l (cellOfKey (a .key)) (listedAt (a .pool .now) (a .spots .now) (l .before .loop .j))
 entered c = right-of (c .before) .yes (not-false _ (c .if2 .left))
 
-slot-in : (c : tie.Else2 Inv-loop μ-loop) → c .before .before .before .index-of .result < 4096
+slot-in : (c : tie.Else2 Inv-loop μ-loop) → c .before .before .entry-at .result .slot < 4096
 slot-in c =
-    let l = c .before .before .before .before .before .before in
-    omega (arith, entered c .inside, c .before .before .before .index-of .ensures, start (l .before .before) .pre .1 .0)
+    let l = c .before .before .before .before .before in
+    omega (arith, entered c .inside, slot-of (c .before .before), start (l .before .before) .pre .1 .0)
 
 returns-3 : tie.Need-returns-3 Inv-loop μ-loop
 returns-3 c =
-    let s = c .before .before .before .before .before .index-of in
-    let l = c .before .before .before .before .before .before .before .before .before .loop in
-    let o = l .inv .4 .only (s .result) (c .if3 .taken) in
-    (record { up = l .inv .0; most = l .inv .1; each = l .inv .3; stop = λ h i. i .fresh (o .0) (o .1) (o .2 ∙ s .ensures) }, (l .inv .4, l .inv .2))
+    let e = c .before .before .before .before in
+    let l = e .before .before .before .before .loop in
+    let o = l .inv .4 .only (e .entry-at .result .slot) (c .if3 .taken) in
+    (record { up = l .inv .0; most = l .inv .1; each = l .inv .3; stop = λ h i. i .fresh (o .0) (o .1) (o .2 ∙ slot-of e) }, (l .inv .4, l .inv .2))
 
 loop-again : tie.Need-loop-again Inv-loop μ-loop
 loop-again c =
     let d = c .before .before in
-    let s = d .before .before .before .index-of in
-    let g = d .before .before .before .before in
+    let e = d .before .before in
+    let s = e .entry-at .result .slot in
+    let g = e .before in
     let l = g .before .before .before .loop in
     let a = start (g .before .before .before .before) .args in
     let H = Here (a .nums .now) (a .reals .now) (a .ints .now) (a .pool .now) (a .spots .now) (a .size) (a .key) (a .mark) in
-    let here : H (l .j) = record { is-key = g .if1 .left; right = entered d; fresh = λ i h q. named-new (a .pool .now) (l .marks) (l .j) (s .result) (c .if3 .left) (l .inv .4) i h (q ∙ sym (s .ensures)) } in (
+    let here : H (l .j) =
+    record {
+      is-key = g .if1 .left;
+      right = entered d;
+      fresh = λ i h q. named-new (a .pool .now) (l .marks) (l .j) s (c .if3 .left) (l .inv .4) i h (q ∙ sym (slot-of e));
+    } in (
       omega (arith, l .inv .0),
       omega arith,
-      length-set (l .marks) (s .result) _ ∙ l .inv .2,
-      λ i f h. ⊎-elim (λ w. l .inv .3 i f w) (λ w. let e : l .j ≡ i = omega arith in subst H e here) (below-or i (l .j)),
-      named-more (a .pool .now) (l .marks) (l .j) (s .result) (s .ensures) (omega (arith, slot-in d, l .inv .2)) (l .inv .4),
+      length-set (l .marks) s _ ∙ l .inv .2,
+      λ i f h. ⊎-elim (λ w. l .inv .3 i f w) (λ w. let m : l .j ≡ i = omega arith in subst H m here) (below-or i (l .j)),
+      named-more (a .pool .now) (l .marks) (l .j) s (slot-of e) (omega (arith, slot-in d, l .inv .2)) (l .inv .4),
     )
 
 returns-4 : tie.Need-returns-4 Inv-loop μ-loop
 returns-4 c = let l = c .before .loop in (record { up = l .inv .0; most = l .inv .1; each = l .inv .3; stop = λ h i. omega (arith, h, c .loop-test .left) }, (l .inv .4, l .inv .2))
+
+-- entry j can be read
+entry-at-requires : tie.Need-entry-at-requires Inv-loop μ-loop
+entry-at-requires c κs =
+    let l = c .before .before in
+    let p = start (l .before .before) .pre .1 in
+    (omega (arith, l .loop-test .taken, p .3), omega (arith, l .loop-test .taken, p .4))
 
 pub run-end-spec : {M : Type 1} → statement M
 run-end-spec =
@@ -109,12 +133,7 @@ run-end-spec =
     (λ c. omega (arith, c .loop-test .taken, start (c .before .before) .pre .1 .3))
     (λ c. omega arith)
     returns
-    (λ c. omega arith)
-    (λ c κs. tt)
-    (λ c. omega (arith, c .before .before .before .loop-test .taken, start (c .before .before .before .before .before) .pre .1 .4))
-    (λ c. omega (arith, c .before .before .before .loop-test .taken, start (c .before .before .before .before .before) .pre .1 .4))
-    (λ c. omega arith)
-    (λ c. omega arith)
+    entry-at-requires
     entry-ok-requires
     returns-2
     slot-in
