@@ -1,4 +1,5 @@
--- An entry of a list out of the two columns, and the row that it takes in each. pool: cell key, slot. spots: x, y. Assumes nothing.
+-- An entry of a list out of the two columns, and the row that it takes in each. pool: cell key, slot. spots: x, y.
+-- The storage, which is below objects and moves rows unread, has the same entry as its two rows: storage/specs/Entries. Assumes nothing.
 use Prim.Native.Nat.{ℕ}
 use mathlib.Core.List.{List, [], _∷_}
 use lib.Ieee.{Float}
