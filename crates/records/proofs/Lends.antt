@@ -19,8 +19,8 @@ use types.Tokens.{lft-new, lft-end}
 use denote.RattleType.{RattleType}
 use denote.Ref.{RefT}
 use denote.Slice.{sliceVal, MutSlice, ShrSlice, Room, finally, shr-slice-copy}
-use Rattle.records.proofs.Again.{LentAgain, lends-again, comes-back}
-use Rattle.records.proofs.Shared.{LentShared, lends-shared, shared-back}
+use Rattle.records.proofs.LendAgain.{LentAgain, lends-again, comes-back}
+use Rattle.records.proofs.LendShared.{LentShared, lends-shared, shared-back}
 
 -- a reference to the slice ys at (b, o) under the name γ
 abbrev pub to : (R : RattleType) → ℕ → ℕ → GName → List (R .Denot) → RefT (List (R .Denot))

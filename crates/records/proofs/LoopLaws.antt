@@ -1,4 +1,4 @@
--- What the proofs of records share: lists written one after the other, and columns. Assumes nothing.
+-- What the proofs of `spread` and `gather` share: columns and records written one after the other. Assumes nothing.
 use Prim.Native.Nat.{ℕ, zero, suc, _<_, _≤_, zero-le}
 use mathlib.Core.Path.{_≡_, refl, sym, ap, subst, _∙_}
 use mathlib.Core.Bool.{Bool, true, false}
@@ -15,16 +15,10 @@ use Rattle.objects.specs.declared.Record.{Record}
 use Rattle.objects.specs.Columns.{recordAt, recordOf}
 use Rattle.records.specs.Spread.{noRecord, laid, gathered, rowOr}
 
--- a store past the end changes nothing
-pub set-past : {X : Type 0} (l : List X) (i : ℕ) (x : X) → length l ≤ i → l ≡ set l i x
-set-past [] i x h = refl
-set-past (y ∷ ys) zero x h = absurd (not-suc-le-zero h)
-set-past {X} (y ∷ ys) (suc i) x h = ap (λ (us : List X). y ∷ us) (set-past ys i x (le-of-suc-le-suc h))
-
-pub pick-true : {X : Type 0} (b : Bool) (x y : X) → b ≡ true → pick b x y ≡ x
+pick-true : {X : Type 0} (b : Bool) (x y : X) → b ≡ true → pick b x y ≡ x
 pick-true {X} b x y e = ap (λ (t : Bool). pick t x y) e
 
-pub pick-false : {X : Type 0} (b : Bool) (x y : X) → b ≡ false → pick b x y ≡ y
+pick-false : {X : Type 0} (b : Bool) (x y : X) → b ≡ false → pick b x y ≡ y
 pick-false {X} b x y e = ap (λ (t : Bool). pick t x y) e
 
 module _ (ns : List (List ℕ)) (qs : List (List Float)) (zs : List (List ℤ)) (i : ℕ) (r : Record) where
@@ -136,10 +130,3 @@ gathered-next (n ∷ ns) (q ∷ qs) (z ∷ zs) (r ∷ rs) zero l = ap (λ (x : R
 gathered-next (n ∷ ns) (q ∷ qs) (z ∷ zs) (r ∷ rs) (suc i) l =
     ap (λ (x : Record). recordOf n q z ∷ set (firstGathered ns qs zs rs i) i x) (row-next n ns q qs z zs i (getD (firstGathered ns qs zs rs i) i noRecord))
     ∙ ap (λ (us : List Record). recordOf n q z ∷ us) (gathered-next ns qs zs rs i (le-of-suc-le-suc l))
-
--- ---- lengths at the end
-pub laid-fit : {X : Type 0} (row : Record → X) (rs : List Record) (old : List X) → length (laid row rs old) ≡ length old
-laid-fit row rs old = ap length (sym (laid-all row rs old)) ∙ laid-size row rs old (length rs)
-
-pub gathered-fit : (ns : List (List ℕ)) (qs : List (List Float)) (zs : List (List ℤ)) (rs : List Record) → length (gathered ns qs zs rs) ≡ length rs
-gathered-fit ns qs zs rs = ap length (sym (gathered-all ns qs zs rs)) ∙ gathered-size ns qs zs rs (length rs)

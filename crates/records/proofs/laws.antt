@@ -1,5 +1,6 @@
--- Laws, and what the proofs share.
-pub mod Again
-pub mod Alike
+-- Laws of records spread and gathered, and of columns with the same records.
 pub mod SpreadLaws
-pub mod After
+pub mod SeenLaws
+pub mod AlikeLaws
+pub mod StoredLaws
+pub mod AgainLaws

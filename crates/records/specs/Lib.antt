@@ -1,3 +1,4 @@
--- The table of records and the columns: spread, gathered, the laws between them, and the calls on records.
+-- The table of records and the columns: spread, gathered, what is seen of a call on records, and columns with the same records.
 pub mod Spread
-pub mod Calls
+pub mod Seen
+pub mod Alike

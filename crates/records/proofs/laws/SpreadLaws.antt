@@ -9,7 +9,7 @@ use lib.ListN.{length, getD}
 use Rattle.objects.specs.declared.Record.{Record}
 use Rattle.objects.specs.Columns.{recordAt, recordOf, numsOf, realsOf, intsOf}
 use Rattle.objects.proofs.laws.ColumnLaws.{record-back}
-use Rattle.point_tables.specs.Tables.{Tables, tables, recordOn}
+use Rattle.point_tables.specs.Tables.{Tables}
 use Rattle.records.specs.Spread.{laid, gathered, besides, recordsIn}
 
 no-zero : (k : ℕ) → 0 ≡ suc k → ⊥
@@ -19,6 +19,13 @@ pub laid-length : {X : Type 0} (row : Record → X) (rs : List Record) (old : Li
 laid-length row [] old = refl
 laid-length row (r ∷ rs) [] = refl
 laid-length row (r ∷ rs) (o ∷ os) = ap suc (laid-length row rs os)
+
+pub gathered-length : (ns : List (List ℕ)) (qs : List (List Float)) (zs : List (List ℤ)) (rs : List Record) → length (gathered ns qs zs rs) ≡ length rs
+gathered-length ns qs zs [] = refl
+gathered-length [] qs zs (r ∷ rs) = refl
+gathered-length (n ∷ ns) [] zs (r ∷ rs) = refl
+gathered-length (n ∷ ns) (q ∷ qs) [] (r ∷ rs) = refl
+gathered-length (n ∷ ns) (q ∷ qs) (z ∷ zs) (r ∷ rs) = ap suc (gathered-length ns qs zs rs)
 
 -- ---- gathered after spread is the identity, whatever the lengths
 pub gathered-laid : (ns : List (List ℕ)) (qs : List (List Float)) (zs : List (List ℤ)) (rs : List Record) → gathered (laid numsOf rs ns) (laid realsOf rs qs) (laid intsOf rs zs) rs ≡ rs

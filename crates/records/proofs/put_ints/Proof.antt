@@ -8,13 +8,13 @@ use mathlib.Core.Path.{_≡_, sym, ap, _∙_}
 use mathlib.Core.List.{List, [], _∷_}
 use Prim.Native.Nat.{ℕ}
 use lib.ListN.{set}
-use Rattle.records.proofs.LoopLaws.{set-past}
+use lib.Seq.{set-out}
 use borrow.Author.Needs.{needs}
 use Rattle.records.proofs.put_ints.Statement.{statement}
 use Rattle.records.proofs.put_ints.Tie as tie
 use Rattle.records.proofs.put_ints.Reads as reads
 use Rattle.records.proofs.put_ints.Lts as lts
-use Rattle.records.proofs.target_of.Reads as target-of-reads
+use Rattle.objects.proofs.target_of.Reads as target-of-reads
 
 -- src/lib.rt:94:13
 target-of-requires : tie.Need-target-of-requires
@@ -41,7 +41,7 @@ returns c = let e = c .before in let a = e .before .before .before .before .args
 
 -- src/lib.rt:88:1
 returns-2 : tie.Need-returns-2
-returns-2 c = let a = c .before .args in set-past (a .ints .now) (a .i) _ (c .if1 .left)
+returns-2 c = let a = c .before .args in sym (set-out (a .ints .now) (a .i) _ (c .if1 .left))
 
 pub put-ints-spec : {M : Type 1} → statement M
 put-ints-spec =

@@ -3,13 +3,13 @@ use mathlib.Core.Path.{_≡_, sym, ap, _∙_}
 use mathlib.Core.List.{List, [], _∷_}
 use Prim.Native.Nat.{ℕ}
 use lib.ListN.{set}
-use Rattle.records.proofs.LoopLaws.{set-past}
+use lib.Seq.{set-out}
 use borrow.Author.Needs.{needs}
 use Rattle.records.proofs.put_nums.Statement.{statement}
 use Rattle.records.proofs.put_nums.Tie as tie
 use Rattle.records.proofs.put_nums.Reads as reads
 use Rattle.records.proofs.put_nums.Lts as lts
-use Rattle.records.proofs.tag_of.Reads as tag-of-reads
+use Rattle.objects.proofs.tag_of.Reads as tag-of-reads
 
 -- src/lib.rt:72:13
 tag-of-requires : tie.Need-tag-of-requires
@@ -33,7 +33,7 @@ returns c = let a = c .before .before .args in ap (λ (t : ℕ). set (a .nums .n
 
 -- src/lib.rt:67:1
 returns-2 : tie.Need-returns-2
-returns-2 c = let a = c .before .args in set-past (a .nums .now) (a .i) _ (c .if1 .left)
+returns-2 c = let a = c .before .args in sym (set-out (a .nums .now) (a .i) _ (c .if1 .left))
 
 pub put-nums-spec : {M : Type 1} → statement M
 put-nums-spec =

@@ -4,13 +4,13 @@ use mathlib.Core.Path.{_≡_, sym, ap, _∙_}
 use mathlib.Core.List.{List, [], _∷_}
 use Prim.Native.Nat.{ℕ}
 use lib.ListN.{set}
-use Rattle.records.proofs.LoopLaws.{set-past}
+use lib.Seq.{set-out}
 use borrow.Author.Needs.{needs}
 use Rattle.records.proofs.put_reals.Statement.{statement}
 use Rattle.records.proofs.put_reals.Tie as tie
 use Rattle.records.proofs.put_reals.Reads as reads
 use Rattle.records.proofs.put_reals.Lts as lts
-use Rattle.records.proofs.pending_of.Reads as pending-of-reads
+use Rattle.objects.proofs.pending_of.Reads as pending-of-reads
 
 -- src/lib.rt:83:13
 pending-of-requires : tie.Need-pending-of-requires
@@ -34,7 +34,7 @@ returns c = let a = c .before .before .before .args in ap (λ (q : Position). se
 
 -- src/lib.rt:77:1
 returns-2 : tie.Need-returns-2
-returns-2 c = let a = c .before .args in set-past (a .reals .now) (a .i) _ (c .if1 .left)
+returns-2 c = let a = c .before .args in sym (set-out (a .reals .now) (a .i) _ (c .if1 .left))
 
 pub put-reals-spec : {M : Type 1} → statement M
 put-reals-spec =

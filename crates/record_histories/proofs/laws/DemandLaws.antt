@@ -1,0 +1,62 @@
+-- Demand 3 on a table of records: after deferred calls and maintain a circle reports what it reports on columns, so exactly the points that
+-- are due, each once. Assumes nothing.
+use Prim.Native.Nat.{ℕ}
+use mathlib.Core.Path.{_≡_, refl, sym, ap, subst, _∙_}
+use mathlib.Core.Bool.{Bool, true, false}
+use mathlib.Core.List.{List, [], _∷_}
+use lib.Dec.{eqb}
+use lib.Ieee.{Float}
+use Rattle.basics.specs.Refusals.{pick}
+use Rattle.geometry.specs.declared.Position.{Position}
+use Rattle.slots.specs.declared.Handle.{Handle}
+use Rattle.replies.specs.Replies.{count}
+use Rattle.objects.specs.declared.Record.{Record}
+use Rattle.point_tables.specs.Tables.{Tables}
+use Rattle.moves.specs.Moves.{setPositionOf, removeOf}
+use Rattle.moves.specs.Batch.{Call as Deferred, callOf, tablesAfter}
+use Rattle.maintain.specs.Maintain.{maintainOf}
+use Rattle.queries.specs.Queries.{Findings, findings, aroundOf}
+use Rattle.stands.specs.Report.{ReportedAt, Reports, Due}
+use Rattle.stands.specs.StandsLaws.{Settled, nextMaintain}
+use Rattle.stands.specs.ReportLaws.{circle-reports, reports-once}
+use Rattle.record_histories.specs.RecordHistory.{setPosition, remove, onColumns, columnsAfter, recordsAfter, besidesAfter, SameGrid}
+use Rattle.record_histories.specs.RecordReport.{deferred, frame, reportAfter}
+use Rattle.record_histories.proofs.laws.ReadsLaws.{around-reads}
+use Rattle.record_histories.proofs.laws.CallLaws.{read-same}
+use Rattle.record_histories.proofs.laws.HistoryLaws.{history-after}
+
+deferred-is : (u : Tables) (c : Deferred) → onColumns (deferred c) u .after ≡ callOf u c .after
+unfolding onColumns callOf
+deferred-is u c = go (eqb (c .kind) 0)
+  where
+    go : (b : Bool) → onColumns (pick b (setPosition (c .handle) (c .at)) (remove (c .handle))) u .after ≡ pick b (setPositionOf u (c .handle) (c .at)) (removeOf u (c .handle)) .after
+    go true = refl
+    go false = refl
+
+frame-is : (cs : List Deferred) (u : Tables) → columnsAfter (frame cs) u ≡ nextMaintain u cs .after
+unfolding columnsAfter onColumns tablesAfter
+frame-is [] u = refl
+frame-is (c ∷ cs) u = ap (columnsAfter (frame cs)) (deferred-is u c) ∙ frame-is cs (callOf u c .after)
+
+-- the records rs beside t are the grid of u; the calls cs, maintain, and a circle
+module _ (rs : List Record) (t u : Tables) (g : SameGrid rs t u) (cs : List Deferred) (centre : Position) (radius : Float) (handles : List (List ℕ)) (places : List (List Float)) where
+  abbrev report : Findings
+  report = reportAfter rs t cs centre radius handles places
+
+  after-frame : SameGrid (recordsAfter (frame cs) rs t) (besidesAfter (frame cs) rs t) (nextMaintain u cs .after)
+  after-frame = subst (SameGrid (recordsAfter (frame cs) rs t) (besidesAfter (frame cs) rs t)) (frame-is cs u) (history-after (frame cs) rs t u g)
+
+  pub same-report : report ≡ aroundOf (nextMaintain u cs .after) centre radius handles places
+  same-report =
+      read-same (recordsAfter (frame cs) rs t) (besidesAfter (frame cs) rs t) (nextMaintain u cs .after) after-frame
+      (λ w. aroundOf w centre radius handles places) (findings (count 3 0) handles places) (around-reads centre radius handles places)
+
+  module _ (s : Settled u) (a : report .returned .answer ≡ 0) where
+    answered : aroundOf (nextMaintain u cs .after) centre radius handles places .returned .answer ≡ 0
+    answered = ap (λ (o : Findings). o .returned .answer) (sym same-report) ∙ a
+
+    pub demand-3-records : (h : Handle) (p : Position) → (Reports report h p → Due u cs centre radius h p) × (Due u cs centre radius h p → Reports report h p)
+    demand-3-records h p = rw same-report (circle-reports u s cs centre radius handles places answered h p)
+
+    pub demand-3-records-once : (i j : ℕ) (h k : Handle) (p q : Position) → ReportedAt report i h p → ReportedAt report j k q → h .slot ≡ k .slot → i ≡ j
+    demand-3-records-once = rw same-report (reports-once u s cs centre radius handles places answered)

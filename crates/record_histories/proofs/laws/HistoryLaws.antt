@@ -1,0 +1,109 @@
+-- A history on records is a history on columns: the same answers, and at the end the records are the grid of the columns. Assumes nothing.
+use Prim.Native.Nat.{ℕ}
+use mathlib.Core.Path.{_≡_, refl, sym, ap, _∙_}
+use mathlib.Core.Bool.{Bool, true, false}
+use mathlib.Core.List.{List, [], _∷_}
+use lib.Dec.{eqb}
+use lib.ListN.{length, set, length-set}
+use Rattle.basics.specs.Refusals.{pick}
+use Rattle.geometry.specs.declared.Position.{Position}
+use Rattle.slots.specs.declared.Handle.{Handle}
+use Rattle.objects.specs.declared.Record.{Record}
+use Rattle.objects.specs.Columns.{numsOf}
+use Rattle.objects.specs.declared.State.the-variants.{Removed}
+use Rattle.objects.specs.States.{aimed}
+use Rattle.point_tables.specs.Tables.{Tables, sizeOf, slotsOf, recordOn}
+use Rattle.point_tables.specs.Holds.{Holds}
+use Rattle.point_tables.specs.Decide.{holds}
+use Rattle.point_tables.specs.Outcome.{Outcome, outcome}
+use Rattle.replies.specs.Replies.{count, reply, inserted}
+use Rattle.moves.specs.Moves.{pended, setPositionAnswer, setPositionOf, removeAnswer, removeOf}
+use Rattle.moves.proofs.laws.PendedLaws.{nums-long}
+use Rattle.moves.proofs.laws.MovesKeeps.{set-position-keeps, remove-keeps}
+use Rattle.inserts.specs.Insert.{put, insertAnswer, insertOf, newRecord, usableSlot}
+use Rattle.inserts.proofs.laws.InsertLaws.{insert-holds}
+use Rattle.maintain.specs.Maintain.{maintained, maintainedCounts, maintainOf}
+use Rattle.maintain.specs.MaintainLaws.{maintain-done, maintain-keeps}
+use Rattle.maintain.specs.MaintainedLaws.{maintained-slots}
+use Rattle.reads.specs.Meaning.{got, getOf, lenOf}
+use Rattle.geometry.specs.Zero.{zero-position}
+use Rattle.queries.specs.Queries.{findings, aroundOf}
+use Rattle.slots.specs.Map.{slotIn}
+use Rattle.slots.specs.Slot.{versionAt}
+use Rattle.maintain.specs.declared.Maintained.{Maintained}
+use Rattle.records.specs.Spread.{besides, recordsIn}
+use Rattle.records.proofs.laws.SpreadLaws.{gathered-length}
+use Rattle.records.proofs.laws.AlikeLaws.{alike-itself}
+use Rattle.records.proofs.laws.AgainLaws.{alike-again}
+use Rattle.record_histories.specs.RecordHistory.{Call, insert, setPosition, remove, maintain, get, len, around, Given, entered, replied, settled, got as gotten, counted, found, onColumns, onTable, columnAnswers, columnsAfter, recordAnswers, recordsAfter, besidesAfter, SameGrid}
+use Rattle.record_histories.proofs.laws.MovesLaws.{set-position-respects, remove-respects}
+use Rattle.record_histories.proofs.laws.InsertLaws.{insert-respects}
+use Rattle.record_histories.proofs.laws.MaintainLaws.{maintain-respects}
+use Rattle.record_histories.proofs.laws.ReadsLaws.{get-reads, len-reads, around-reads}
+use Rattle.record_histories.proofs.laws.CallLaws.{call-same, call-after, read-same, read-after}
+
+-- ---- the number of slots stays
+one-of : {R : Type 0} (b : Bool) (x y : Outcome R) (n : ℕ) → slotsOf (x .after) ≡ n → slotsOf (y .after) ≡ n → slotsOf (pick b x y .after) ≡ n
+one-of true x y n e f = e
+one-of false x y n e f = f
+
+set-slots : (t : Tables) (h : Handle) (p : Position) → slotsOf (setPositionOf t h p .after) ≡ slotsOf t
+unfolding setPositionOf
+set-slots t h p = one-of (eqb (setPositionAnswer t h p) 0) _ _ (slotsOf t) (nums-long t (h .slot) (aimed (sizeOf t) (recordOn t (h .slot) .cell) p)) refl
+
+remove-slots : (t : Tables) (h : Handle) → slotsOf (removeOf t h .after) ≡ slotsOf t
+unfolding removeOf
+remove-slots t h = one-of (eqb (removeAnswer t h) 0) _ _ (slotsOf t) (nums-long t (h .slot) Removed) refl
+
+insert-slots : (t : Tables) (p : Position) (d : ℕ) → slotsOf (insertOf t p d .after) ≡ slotsOf t
+unfolding insertOf put
+insert-slots t p d =
+    let s = slotIn (usableSlot t) in
+    one-of (eqb (insertAnswer t p) 0) _ _ (slotsOf t) (length-set (t .nums) s (numsOf (newRecord t s p d))) refl
+
+maintain-slots : (t : Tables) → Holds t → slotsOf (maintainOf t .after) ≡ slotsOf t
+maintain-slots t h = ap (λ (o : Outcome Maintained). slotsOf (o .after)) (maintain-done t h) ∙ maintained-slots t h
+
+-- ---- one call
+module _ (rs : List Record) (t u : Tables) (g : SameGrid rs t u) where
+  pub same-answer : (c : Call) → onTable c rs t .result ≡ onColumns c u .result
+  unfolding onTable onColumns
+  same-answer (insert p d) = ap entered (call-same rs t u g (λ w. insertOf w p d) (inserted 3 0 0) (insert-respects p d) (λ w h. insert-holds w p d h) (λ w h. insert-slots w p d))
+  same-answer (setPosition k p) = ap replied (call-same rs t u g (λ w. setPositionOf w k p) (reply 3 0) (set-position-respects k p) (λ w h. set-position-keeps w k p h) (λ w h. set-slots w k p))
+  same-answer (remove k) = ap replied (call-same rs t u g (λ w. removeOf w k) (reply 3 0) (remove-respects k) (λ w h. remove-keeps w k h) (λ w h. remove-slots w k))
+  same-answer maintain = ap settled (call-same rs t u g maintainOf (maintainedCounts 3 0 0) maintain-respects maintain-keeps maintain-slots)
+  same-answer (get k) = ap gotten (read-same rs t u g (λ w. getOf w k) (got 3 zero-position 0) (get-reads k))
+  same-answer len = ap counted (read-same rs t u g lenOf (count 3 0) len-reads)
+  same-answer (around c r handles places) = ap found (read-same rs t u g (λ w. aroundOf w c r handles places) (findings (count 3 0) handles places) (around-reads c r handles places))
+
+  pub same-after : (c : Call) → SameGrid (onTable c rs t .records) (onTable c rs t .after) (onColumns c u .after)
+  unfolding onTable onColumns
+  same-after (insert p d) = call-after rs t u g (λ w. insertOf w p d) (inserted 3 0 0) (insert-respects p d) (λ w h. insert-holds w p d h) (λ w h. insert-slots w p d)
+  same-after (setPosition k p) = call-after rs t u g (λ w. setPositionOf w k p) (reply 3 0) (set-position-respects k p) (λ w h. set-position-keeps w k p h) (λ w h. set-slots w k p)
+  same-after (remove k) = call-after rs t u g (λ w. removeOf w k) (reply 3 0) (remove-respects k) (λ w h. remove-keeps w k h) (λ w h. remove-slots w k)
+  same-after maintain = call-after rs t u g maintainOf (maintainedCounts 3 0 0) maintain-respects maintain-keeps maintain-slots
+  same-after (get k) = read-after rs t u g
+  same-after len = read-after rs t u g
+  same-after (around c r handles places) = read-after rs t u g
+
+-- ---- a history
+pub history-answers : (cs : List Call) (rs : List Record) (t u : Tables) → SameGrid rs t u → recordAnswers cs rs t ≡ columnAnswers cs u
+unfolding recordAnswers columnAnswers
+history-answers [] rs t u g = refl
+history-answers (c ∷ cs) rs t u g =
+    let r = onTable c rs t in
+    cc (same-answer rs t u g c, history-answers cs (r .records) (r .after) (onColumns c u .after) (same-after rs t u g c))
+
+pub history-after : (cs : List Call) (rs : List Record) (t u : Tables) → SameGrid rs t u → SameGrid (recordsAfter cs rs t) (besidesAfter cs rs t) (columnsAfter cs u)
+unfolding recordsAfter besidesAfter columnsAfter
+history-after [] rs t u g = g
+history-after (c ∷ cs) rs t u g =
+    let r = onTable c rs t in
+    history-after cs (r .records) (r .after) (onColumns c u .after) (same-after rs t u g c)
+
+-- ---- where a history starts: records gathered out of tables that hold a grid, and records whose columns hold one
+pub gathered-grid : (u : Tables) (rs : List Record) → Holds u → slotsOf u ≡ length rs → SameGrid (recordsIn u rs) u u
+gathered-grid u rs h e = record { holds = h; many = e ∙ sym (gathered-length (u .nums) (u .reals) (u .ints) rs); alike = alike-again u rs h e }
+
+pub spread-grid : (rs : List Record) (t : Tables) → Holds (besides rs t) → slotsOf (besides rs t) ≡ length rs → SameGrid rs t (besides rs t)
+spread-grid rs t h e = record { holds = h; many = e; alike = alike-itself (besides rs t) }

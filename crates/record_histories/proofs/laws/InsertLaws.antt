@@ -1,0 +1,72 @@
+-- `insert` on columns with the same records: the same slot, and the same records after. Assumes nothing.
+use Prim.Native.Nat.{ℕ}
+use mathlib.Core.Path.{_≡_, refl, ap, subst}
+use mathlib.Core.List.{List, map}
+use lib.Dec.{eqb}
+use lib.ListN.{length, set}
+use Rattle.geometry.specs.declared.Position.{Position}
+use Rattle.cells.specs.CellRule.{cellAt}
+use Rattle.slots.specs.declared.Usable.{Usable}
+use Rattle.slots.specs.Map.{taken, lowestUsable, slotIn}
+use Rattle.slots.specs.Slot.{versionAt}
+use Rattle.storage.specs.Keyed.{written}
+use Rattle.storage.specs.Entries.{rowOf, spotOf}
+use Rattle.objects.specs.declared.Record.{Record}
+use Rattle.objects.specs.Columns.{numsOf, realsOf, intsOf}
+use Rattle.point_tables.specs.Tables.{Tables, tables, sizeOf, counting}
+use Rattle.point_tables.specs.Holds.{Holds}
+use Rattle.point_tables.specs.Outcome.{outcome, stored}
+use Rattle.replies.specs.Replies.{inserted}
+use Rattle.inserts.specs.Fresh.{freshRecord}
+use Rattle.inserts.specs.Insert.{usableSlot, entriesWith, rowsWith, put, insertAnswer, insertOf}
+use Rattle.records.specs.Alike.{Alike, withColumns, Respects}
+use Rattle.records.proofs.laws.AlikeLaws.{both-hold}
+use Rattle.records.proofs.laws.StoredLaws.{stored-alike}
+use Rattle.record_histories.proofs.laws.SameLaws.{Same, same-pick, to-respect, beside}
+
+module _ (t u : Tables) where
+  abbrev v : Tables
+  v = withColumns t u
+
+  module _ (like : Alike t v) where
+    version-is : (s : ℕ) → versionAt (t .nums) s ≡ versionAt (v .nums) s
+    version-is s = ap (λ (r : Record). r .version) (like .each s)
+
+    -- the record of the new object has the version of its slot
+    put-alike : (s : ℕ) (p : Position) (d : ℕ) → Alike (put t s p d) (put v s p d)
+    unfolding put
+    put-alike s p d =
+        let es = entriesWith t s p in
+        let m = counting (taken (t .map) s) (length es) (length (rowsWith t p)) in
+        let pool = written (map rowOf es) (t .pool) in
+        let spots = written (map spotOf es) (t .spots) in
+        let cells = written (rowsWith t p) (t .cells) in
+        let r : ℕ → Record = λ n. freshRecord n p (cellAt (sizeOf t) p) d in
+        let old = versionAt (t .nums) s in
+        subst
+        (λ (n : ℕ). Alike (put t s p d) (tables (set (v .nums) s (numsOf (r n))) (set (v .reals) s (realsOf (r n))) (set (v .ints) s (intsOf (r n))) m pool spots cells))
+        (version-is s)
+        (beside (stored t s (r old) cells) (stored v s (r old) cells) (stored-alike t v like s (r old) cells refl) m pool spots cells)
+
+    slot-is : usableSlot t ≡ usableSlot v
+    slot-is = ap (lowestUsable (t .map)) (like .of-nums)
+
+    module _ (h : Holds t) (k : Holds v) where
+      insert-answer : (p : Position) → insertAnswer t p ≡ insertAnswer v p
+      unfolding insertAnswer
+      insert-answer p = cc (both-hold t v like h k, slot-is)
+
+      insert-same : (p : Position) (d : ℕ) → Same (insertOf t p d) (insertOf v p d)
+      unfolding insertOf
+      insert-same p d =
+          let e = insert-answer p in
+          let s = slotIn (usableSlot t) in
+          same-pick _ _ _ _ (eqb (insertAnswer t p) 0) (eqb (insertAnswer v p) 0) (ap (λ (n : ℕ). eqb n 0) e)
+          (subst
+          (λ (x : Usable). Same (outcome (inserted 0 s (versionAt (t .nums) s)) (put t s p d)) (outcome (inserted 0 (slotIn x) (versionAt (v .nums) (slotIn x))) (put v (slotIn x) p d)))
+          slot-is
+          (ap (inserted 0 s) (version-is s), put-alike s p d))
+          (ap (λ (n : ℕ). inserted n 0 0) e, like)
+
+pub insert-respects : (p : Position) (d : ℕ) → Respects (λ t. insertOf t p d)
+insert-respects p d = to-respect (λ t. insertOf t p d) (λ t u h k a. insert-same t u a h k p d)

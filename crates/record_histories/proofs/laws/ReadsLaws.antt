@@ -1,0 +1,80 @@
+-- `get`, `len` and `query_around` on columns with the same records answer the same. Assumes nothing.
+use Prim.Native.Nat.{ℕ, zero, suc, _≤_, zero-le}
+use native.Mathlib.Nat.{not-suc-le-zero, suc-inj}
+use mathlib.Core.Path.{_≡_, refl, sym, ap, subst, _∙_}
+use mathlib.Core.Bool.{Bool}
+use mathlib.Core.List.{List, [], _∷_, map}
+use lib.Dec.{eqb}
+use lib.Ieee.{Float}
+use lib.ListN.{length, getD}
+use Rattle.basics.specs.Refusals.{pick}
+use Rattle.geometry.specs.declared.Position.{Position}
+use Rattle.slots.specs.declared.Handle.{Handle}
+use Rattle.slots.specs.Slot.{live, phaseAt, versionAt}
+use Rattle.slot_walks.specs.Live.{liveFrom, handleAt, handlesIn}
+use Rattle.objects.specs.declared.Record.{Record}
+use Rattle.point_tables.specs.Tables.{Tables}
+use Rattle.point_tables.specs.Holds.{Holds}
+use Rattle.reads.specs.Meaning.{liveHandles, getOf, lenOf}
+use Rattle.storage.specs.Entries.{Entry, rowItem}
+use Rattle.queries.specs.declared.Test.the-variants.{Circle}
+use Rattle.queries.specs.Queries.{handleRow, found, searchAnswer, searchOf, aroundOf}
+use Rattle.geometry.specs.Circle.{cornerBelow, cornerAbove}
+use Rattle.records.specs.Alike.{Alike, withColumns, Reads}
+use Rattle.records.proofs.laws.AlikeLaws.{both-hold, good-alike}
+use Rattle.record_histories.proofs.laws.SameLaws.{to-read}
+
+map-same : {A B : Type 0} (f g : A → B) → ((x : A) → f x ≡ g x) → (l : List A) → map f l ≡ map g l
+map-same f g e [] = refl
+map-same f g e (x ∷ l) = cc (e x, map-same f g e l)
+
+no-zero : (k : ℕ) → suc k ≡ 0 → ⊥
+no-zero k e = not-suc-le-zero (subst (λ (m : ℕ). m ≤ 0) (sym e) zero-le)
+
+-- the live slots are told by the phases
+live-same : (ns ms : List (List ℕ)) (s : ℕ) → length ns ≡ length ms → ((j : ℕ) → phaseAt ns j ≡ phaseAt ms j) → liveFrom s ns ≡ liveFrom s ms
+live-same [] [] s e p = refl
+live-same [] (m ∷ ms) s e p = absurd (no-zero (length ms) (sym e))
+live-same (n ∷ ns) [] s e p = absurd (no-zero (length ns) e)
+live-same (n ∷ ns) (m ∷ ms) s e p =
+    let rest = live-same ns ms (suc s) (suc-inj e) (λ j. p (suc j)) in
+    let first : eqb (getD n 1 0) live ≡ eqb (getD m 1 0) live = ap (λ (k : ℕ). eqb k live) (p 0) in
+    λ i. pick (first i) (s ∷ rest i) (rest i)
+
+module _ (t u : Tables) where
+  abbrev v : Tables
+  v = withColumns t u
+
+  module _ (like : Alike t v) where
+    version-is : (s : ℕ) → versionAt (t .nums) s ≡ versionAt (v .nums) s
+    version-is s = ap (λ (r : Record). r .version) (like .each s)
+
+    handles-same : handlesIn (t .nums) ≡ handlesIn (v .nums)
+    handles-same =
+        map-same (handleAt (t .nums)) (handleAt (v .nums)) (λ s. ap (λ (n : ℕ). s ∷ n ∷ []) (version-is s)) (liveFrom 0 (t .nums))
+        ∙ ap (map (handleAt (v .nums))) (live-same (t .nums) (v .nums) 0 (like .of-nums) (λ j. ap (λ (r : Record). r .phase) (like .each j)))
+
+    module _ (h : Holds t) (k : Holds v) where
+      get-same : (g : Handle) → getOf t g ≡ getOf v g
+      unfolding getOf
+      get-same g = cc (both-hold t v like h k, good-alike t v like (g .slot) (g .version), like .each (g .slot))
+
+      len-same : lenOf t ≡ lenOf v
+      unfolding lenOf liveHandles
+      len-same = cc (both-hold t v like h k, handles-same)
+
+      -- the entries are the same; a finding has the version of its slot
+      around-same : (c : Position) (r : Float) (handles : List (List ℕ)) (places : List (List Float)) → aroundOf t c r handles places ≡ aroundOf v c r handles places
+      unfolding aroundOf searchOf searchAnswer found
+      around-same c r handles places =
+          let rows = map-same (handleRow t) (handleRow v) (λ e. ap (λ (n : ℕ). rowItem (e .row) ∷ n ∷ []) (version-is (rowItem (e .row)))) (found t (cornerBelow c r) (cornerAbove c r) (Circle c r)) in
+          cc (both-hold t v like h k, rows)
+
+pub get-reads : (g : Handle) → Reads (λ t. getOf t g)
+get-reads g = to-read (λ t. getOf t g) (λ t u h k a. get-same t u a h k g)
+
+pub len-reads : Reads lenOf
+len-reads = to-read lenOf (λ t u h k a. len-same t u a h k)
+
+pub around-reads : (c : Position) (r : Float) (handles : List (List ℕ)) (places : List (List Float)) → Reads (λ t. aroundOf t c r handles places)
+around-reads c r handles places = to-read (λ t. aroundOf t c r handles places) (λ t u h k a. around-same t u a h k c r handles places)

@@ -1,0 +1,72 @@
+-- Bad input: a record table of another length, and records that are no grid (a target that disagrees with the cell rule, a NaN, a version 0),
+-- get 3, and the records are as they were; the columns have them. Assumes nothing.
+use Prim.Native.Nat.{ℕ}
+use mathlib.Core.Path.{_≡_, refl, sym, ap, _∙_}
+use mathlib.Core.Bool.{Bool, true, false}
+use mathlib.Core.List.{List}
+use mathlib.Core.Logic.{⊎-elim}
+use lib.ListN.{length}
+use Rattle.basics.specs.Says.{d-eq}
+use Rattle.geometry.specs.declared.Position.{Position}
+use Rattle.slots.specs.declared.Handle.{Handle}
+use Rattle.replies.specs.declared.Reply.{Reply}
+use Rattle.replies.specs.Replies.{reply, inserted}
+use Rattle.storage.specs.FilterLaws.{by-test}
+use Rattle.objects.specs.declared.Record.{Record}
+use Rattle.point_tables.specs.Tables.{Tables, slotsOf}
+use Rattle.point_tables.specs.Holds.{Holds}
+use Rattle.point_tables.specs.Decide.{holds, holds-says}
+use Rattle.point_tables.specs.Outcome.{Outcome, outcome}
+use Rattle.moves.specs.Moves.{setPositionAnswer, setPositionOf, removeAnswer, removeOf}
+use Rattle.inserts.proofs.laws.InsertLaws.{insert-unheld}
+use Rattle.inserts.specs.Insert.{insertOf}
+use Rattle.maintain.specs.Maintain.{maintainedCounts, maintainOf}
+use Rattle.maintain.specs.MaintainLaws.{maintain-refused}
+use Rattle.records.specs.Spread.{besides}
+use Rattle.records.specs.Seen.{seen, back, onRecords}
+use Rattle.records.proofs.laws.SpreadLaws.{spread-gathered}
+use Rattle.records.proofs.laws.SeenLaws.{rows-same, rows-other}
+use Rattle.record_moves.specs.Calls.{setPositionOn, removeOn}
+use Rattle.record_changes.specs.Calls.{insertOn, maintainOn}
+
+module _ {R : Type 0} (call : Tables → Outcome R) (refused : R) (rs : List Record) (t : Tables) where
+  abbrev b : Tables
+  b = besides rs t
+
+  stays : back rs (outcome refused b) ≡ seen refused rs b
+  stays = ap (λ (xs : List Record). seen refused xs b) (spread-gathered t rs)
+
+  pub other-length : (length rs ≡ slotsOf b → ⊥) → onRecords call refused rs t ≡ seen refused rs b
+  other-length n = ap (back rs) (sym (rows-other (length rs) (slotsOf b) (call b) (outcome refused b) n)) ∙ stays
+
+  pub no-grid : ((w : Tables) → (Holds w → ⊥) → call w ≡ outcome refused w) → (Holds b → ⊥) → onRecords call refused rs t ≡ seen refused rs b
+  no-grid unheld n =
+      ⊎-elim
+      (λ e. ap (back rs) (sym (rows-same (length rs) (slotsOf b) (call b) (outcome refused b) e) ∙ unheld b n) ∙ stays)
+      other-length
+      (d-eq (length rs) (slotsOf b))
+
+-- ---- the calls that change a grid
+not-held : (t : Tables) → (Holds t → ⊥) → holds t ≡ false
+not-held t n = by-test (holds t) (λ e. absurd (n (holds-says t .yes e))) (λ e. e)
+
+set-unheld : (h : Handle) (at : Position) (t : Tables) → (Holds t → ⊥) → setPositionOf t h at ≡ outcome (reply 3 0) t
+unfolding setPositionOf setPositionAnswer
+set-unheld h at t n = rw (not-held t n) refl
+
+remove-unheld : (h : Handle) (t : Tables) → (Holds t → ⊥) → removeOf t h ≡ outcome (reply 3 0) t
+unfolding removeOf removeAnswer
+remove-unheld h t n = rw (not-held t n) refl
+
+module _ (rs : List Record) (t : Tables) (n : Holds (besides rs t) → ⊥) where
+  pub set-position-no-grid : (h : Handle) (at : Position) → setPositionOn rs t h at ≡ seen (reply 3 0) rs (besides rs t)
+  set-position-no-grid h at = no-grid (λ w. setPositionOf w h at) (reply 3 0) rs t (set-unheld h at) n
+
+  pub remove-no-grid : (h : Handle) → removeOn rs t h ≡ seen (reply 3 0) rs (besides rs t)
+  remove-no-grid h = no-grid (λ w. removeOf w h) (reply 3 0) rs t (remove-unheld h) n
+
+  pub insert-no-grid : (p : Position) (d : ℕ) → insertOn rs t p d ≡ seen (inserted 3 0 0) rs (besides rs t)
+  insert-no-grid p d = no-grid (λ w. insertOf w p d) (inserted 3 0 0) rs t (λ w k. insert-unheld w p d k) n
+
+  pub maintain-no-grid : maintainOn rs t ≡ seen (maintainedCounts 3 0 0) rs (besides rs t)
+  maintain-no-grid = no-grid maintainOf (maintainedCounts 3 0 0) rs t maintain-refused n

@@ -1,0 +1,3 @@
+-- Histories of calls on a table of records, beside the same on columns.
+pub mod RecordHistory
+pub mod RecordReport

@@ -1,0 +1,58 @@
+-- Tables that hold a grid, gathered and spread again: every slot has the same record, and they hold the same grid. Assumes nothing.
+use Prim.Native.Nat.{ℕ, zero, suc, _≤_, zero-le}
+use native.Mathlib.Nat.{not-suc-le-zero, suc-inj}
+use native.Mathlib.Omega.{arith}
+use mathlib.Core.Path.{_≡_, refl, sym, subst, _∙_}
+use mathlib.Core.List.{List, [], _∷_}
+use lib.ListN.{length}
+use Rattle.objects.specs.declared.State.{State}
+use Rattle.objects.specs.declared.State.the-variants.{Unchanged, NewPos, Relocate, Removed}
+use Rattle.objects.specs.declared.Record.{Record}
+use Rattle.objects.specs.Columns.{tagOf, numsOf, realsOf, intsOf}
+use Rattle.point_tables.specs.Tables.{Tables, slotsOf, recordOn}
+use Rattle.point_tables.specs.Holds.{Holds}
+use Rattle.records.specs.Spread.{laid, besides, recordsIn}
+use Rattle.records.specs.Alike.{Alike, Tagged}
+use Rattle.records.proofs.laws.SpreadLaws.{laid-length, gathered-length, recordAt-again}
+use Rattle.records.proofs.laws.AlikeLaws.{holds-alike}
+
+no-zero : (k : ℕ) → suc k ≡ 0 → ⊥
+no-zero k e = not-suc-le-zero (subst (λ (m : ℕ). m ≤ 0) (sym e) zero-le)
+
+tag-small : (s : State) → tagOf s ≤ 3
+tag-small Unchanged = omega arith
+tag-small (NewPos p) = omega arith
+tag-small (Relocate p c) = omega arith
+tag-small Removed = omega arith
+
+-- in columns of as many rows as there are records every tag is one of four
+pub spread-tagged : (rs : List Record) (ns : List (List ℕ)) → length ns ≡ length rs → Tagged (laid numsOf rs ns)
+spread-tagged [] [] e s = zero-le
+spread-tagged [] (n ∷ ns) e s = absurd (no-zero (length ns) e)
+spread-tagged (r ∷ rs) [] e s = zero-le
+spread-tagged (r ∷ rs) (n ∷ ns) e zero = tag-small (r .state)
+spread-tagged (r ∷ rs) (n ∷ ns) e (suc s) = spread-tagged rs ns (suc-inj e) s
+
+-- t gathered into a table of as many records as it has slots, and spread again
+module _ (t : Tables) (rs : List Record) (h : Holds t) (e : slotsOf t ≡ length rs) where
+  abbrev pub again : Tables
+  again = besides (recordsIn t rs) t
+
+  pub alike-again : Alike t again
+  alike-again =
+      record {
+        of-nums = sym (laid-length numsOf (recordsIn t rs) (t .nums));
+        of-reals = sym (laid-length realsOf (recordsIn t rs) (t .reals));
+        of-ints = sym (laid-length intsOf (recordsIn t rs) (t .ints));
+        each = recordAt-again (t .nums) (t .reals) (t .ints) rs e (h .sized .of-reals ∙ e) (h .sized .of-ints ∙ e);
+        rest = refl;
+      }
+
+  pub same-records : (s : ℕ) → recordOn again s ≡ recordOn t s
+  same-records s = sym (alike-again .each s)
+
+  tagged-again : Tagged (again .nums)
+  tagged-again = spread-tagged (recordsIn t rs) (t .nums) (e ∙ sym (gathered-length (t .nums) (t .reals) (t .ints) rs))
+
+  pub holds-again : Holds again
+  holds-again = holds-alike t again alike-again tagged-again h

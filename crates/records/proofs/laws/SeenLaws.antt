@@ -1,0 +1,14 @@
+-- What is said of columns of n rows, where they have m. Assumes nothing.
+use Prim.Native.Nat.{ℕ}
+use mathlib.Core.Path.{_≡_, sym, ap}
+use mathlib.Core.Bool.{Bool}
+use lib.Dec.{eqb}
+use borrow.Author.Tests.{eq-eqb, ne-eqb}
+use Rattle.basics.specs.Refusals.{pick}
+
+module _ {X : Type 0} (n m : ℕ) (x refused : X) where
+  pub rows-same : n ≡ m → x ≡ pick (eqb n m) x refused
+  rows-same e = sym (ap (λ (b : Bool). pick b x refused) (eq-eqb n m e))
+
+  pub rows-other : (n ≡ m → ⊥) → refused ≡ pick (eqb n m) x refused
+  rows-other e = sym (ap (λ (b : Bool). pick b x refused) (ne-eqb n m e))
