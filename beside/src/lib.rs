@@ -1,0 +1,23 @@
+//! The port beside the original: what `compare` and `damage` share.
+pub mod box_calls;
+pub mod box_reading;
+pub mod box_round;
+pub mod box_steps;
+pub mod calls;
+pub mod holds;
+pub mod log;
+pub mod original;
+pub mod picks;
+pub mod places;
+pub mod point_calls;
+pub mod point_reading;
+pub mod point_round;
+pub mod point_steps;
+pub mod port;
+pub mod random;
+pub mod ruin;
+pub mod rules;
+pub mod sample;
+pub mod slots;
+pub mod tables;
+pub mod traps;

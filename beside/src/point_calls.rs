@@ -1,0 +1,185 @@
+//! Every call of the point grid as data, made of the port or read in document 01.
+use crate::calls::{filled, plain, refused, untouched, Outcome};
+use crate::holds::{point_lengths, Read};
+use crate::point_reading::{Deferred, Filled, Finding, Points};
+use crate::port::{BatchLists, Corners};
+use crate::rules::*;
+use crate::slots::Handle;
+use crate::tables::{Out, PointTables};
+
+#[derive(Clone, Debug)]
+pub enum PointCall {
+    New(u32),
+    Insert(Spot, u32),
+    SetPosition(Handle, Spot),
+    Remove(Handle),
+    RemoveMaintain(Handle),
+    /// The calls, and how many kinds too many.
+    Batch(Vec<Deferred>, usize, usize),
+    Maintain,
+    Get(Handle),
+    Len,
+    Handles(usize),
+    Clear(usize, usize),
+    Query(Corners, Spot, Spot, usize, usize),
+    Around(Spot, f32, usize, usize),
+}
+
+impl PointCall {
+    /// The port's answer, and its tables after it.
+    pub fn of_port(&self, t: &mut PointTables) -> Outcome {
+        match self {
+            PointCall::New(size) => plain(t.call_new(*size), vec![]),
+            PointCall::Insert(at, data) => {
+                let r = t.call_insert(*at, *data);
+                plain(r.answer, vec![r.slot.into(), r.version.into()])
+            }
+            PointCall::SetPosition(h, at) => plain(t.call_set_position(*h, *at), vec![]),
+            PointCall::Remove(h) => {
+                let r = t.call_remove(*h);
+                plain(r.answer, vec![r.obj.into()])
+            }
+            PointCall::RemoveMaintain(h) => {
+                let r = t.call_remove_maintain(*h);
+                plain(r.answer, vec![r.obj.into()])
+            }
+            PointCall::Batch(calls, more, places) => {
+                let mut lists = BatchLists::of(calls);
+                lists.kinds.resize(calls.len() + more, 0);
+                let mut out = Out::new(*places);
+                let r = t.call_batch(&lists, &mut out);
+                Outcome { answer: r.answer, numbers: vec![r.count], outs: vec![out.words()] }
+            }
+            PointCall::Maintain => {
+                let r = t.call_maintain();
+                plain(r.answer, vec![r.moved.into(), r.removed.into()])
+            }
+            PointCall::Get(h) => {
+                let r = t.call_get(*h);
+                plain(r.answer, vec![r.x.to_bits().into(), r.y.to_bits().into(), r.obj.into()])
+            }
+            _ => self.of_port_filling(t),
+        }
+    }
+
+    /// The calls that fill an output.
+    fn of_port_filling(&self, t: &mut PointTables) -> Outcome {
+        let (r, outs) = match self {
+            PointCall::Handles(places) => {
+                let mut out = Out::<2>::new(*places);
+                (t.call_handles(&mut out), vec![out.words()])
+            }
+            PointCall::Clear(places, more) => {
+                let (mut spots, mut objs) = (Out::new(*places), Out::new(*more));
+                (t.call_clear(&mut spots, &mut objs), vec![spots.words(), objs.words()])
+            }
+            PointCall::Query(kind, ll, ur, places, more) => {
+                let (mut found, mut spots) = (Out::new(*places), Out::new(*more));
+                (t.call_query(*kind, *ll, *ur, &mut found, &mut spots), vec![found.words(), spots.words()])
+            }
+            PointCall::Around(centre, r, places, more) => {
+                let (mut found, mut spots) = (Out::new(*places), Out::new(*more));
+                (t.call_query_around(*centre, *r, &mut found, &mut spots), vec![found.words(), spots.words()])
+            }
+            _ => (t.call_len(), vec![]),
+        };
+        Outcome { answer: r.answer, numbers: vec![r.count.into()], outs }
+    }
+
+    /// What document 01 says of tables that hold this grid, and the grid after it.
+    pub fn of_reading(&self, grid: &mut Points) -> Outcome {
+        match self {
+            PointCall::New(size) => {
+                let answer = first(&[(!size_in_domain((*size).into()), SIZE)]);
+                if answer == DONE {
+                    *grid = Points::new(grid.slots.slots.len(), *size);
+                }
+                plain(answer, vec![])
+            }
+            PointCall::Insert(at, data) => {
+                let (answer, h) = grid.insert(*at, *data);
+                plain(answer, vec![h.slot.into(), h.version.into()])
+            }
+            PointCall::SetPosition(h, at) => plain(grid.set_position(*h, *at), vec![]),
+            PointCall::Remove(h) => {
+                let (answer, data) = grid.remove(*h);
+                plain(answer, vec![data.into()])
+            }
+            PointCall::RemoveMaintain(h) => {
+                let (answer, data) = grid.remove_maintain(*h);
+                plain(answer, vec![data.into()])
+            }
+            PointCall::Batch(_, more, _) if *more > 0 => self.refused(TABLES),
+            PointCall::Batch(calls, _, places) => {
+                let r = grid.batch(calls, *places);
+                Outcome { answer: r.answer, numbers: vec![r.count], outs: vec![filled(*places, r.out.into_iter())] }
+            }
+            PointCall::Maintain => {
+                let (moved, removed) = grid.maintain();
+                plain(DONE, vec![moved.into(), removed.into()])
+            }
+            PointCall::Get(h) => {
+                let (answer, at, data) = grid.get(*h);
+                plain(answer, vec![at.bits()[0].into(), at.bits()[1].into(), data.into()])
+            }
+            _ => self.of_reading_filling(grid),
+        }
+    }
+
+    fn of_reading_filling(&self, grid: &mut Points) -> Outcome {
+        match self {
+            PointCall::Handles(places) => {
+                let r = grid.handles(*places);
+                let rows = r.out.iter().map(|h| [h.slot, h.version]);
+                Outcome { answer: r.answer, numbers: vec![r.count], outs: vec![filled(*places, rows)] }
+            }
+            PointCall::Clear(places, more) => {
+                let r = grid.clear((*places).min(*more));
+                let spots = filled(*places, r.out.iter().map(|(at, _)| at.bits()));
+                let objs = filled(*more, r.out.iter().map(|(_, data)| [*data]));
+                Outcome { answer: r.answer, numbers: vec![r.count], outs: vec![spots, objs] }
+            }
+            PointCall::Query(kind, ll, ur, places, more) => {
+                let least = (*places).min(*more);
+                let sorted = *kind == Corners::Sorted;
+                found(if sorted { grid.query_aabb(*ll, *ur, least) } else { grid.query(*ll, *ur, least) }, *places, *more)
+            }
+            PointCall::Around(centre, r, places, more) => found(grid.query_around(*centre, *r, (*places).min(*more)), *places, *more),
+            _ => plain(DONE, vec![grid.slots.len() as u64]),
+        }
+    }
+
+    /// A refusal: zeros, and outputs as they were.
+    fn refused(&self, answer: u32) -> Outcome {
+        let (numbers, words): (usize, Vec<usize>) = match self {
+            PointCall::New(_) | PointCall::SetPosition(..) => (0, vec![]),
+            PointCall::Insert(..) | PointCall::Maintain => (2, vec![]),
+            PointCall::Remove(_) | PointCall::RemoveMaintain(_) | PointCall::Len => (1, vec![]),
+            PointCall::Get(_) => (3, vec![]),
+            PointCall::Batch(_, _, places) | PointCall::Handles(places) => (1, vec![untouched::<2>(*places)]),
+            PointCall::Clear(places, more) => (1, vec![untouched::<2>(*places), untouched::<1>(*more)]),
+            PointCall::Query(_, _, _, places, more) | PointCall::Around(_, _, places, more) => {
+                (1, vec![untouched::<2>(*places), untouched::<2>(*more)])
+            }
+        };
+        refused(answer, numbers, words)
+    }
+
+    /// What document 01 says of any tables: the outcome, and the grid after an accepted call.
+    pub fn wanted(&self, t: &PointTables, held: &Read<Points>) -> (Outcome, Option<Points>) {
+        let mut grid = match (self, held) {
+            (PointCall::New(_), _) if point_lengths(t).is_ok() => Points::new(t.nums.len(), 1),
+            (_, Ok(grid)) => grid.clone(),
+            (_, Err(_)) => return (self.refused(TABLES), None),
+        };
+        let outcome = self.of_reading(&mut grid);
+        let grid = (outcome.answer == DONE).then_some(grid);
+        (outcome, grid)
+    }
+}
+
+fn found(r: Filled<Finding>, places: usize, more: usize) -> Outcome {
+    let handles = filled(places, r.out.iter().map(|f| [f.handle.slot, f.handle.version]));
+    let spots = filled(more, r.out.iter().map(|f| f.at.bits()));
+    Outcome { answer: r.answer, numbers: vec![r.count], outs: vec![handles, spots] }
+}

@@ -1,0 +1,307 @@
+//! A round of calls on a point grid: the port, the original and the reading of document 01 are given the same calls, and held to each other.
+use crate::holds::read_points;
+use crate::log::Log;
+use crate::original::OldPoints;
+use crate::picks::{age, data, places};
+use crate::places::Ground;
+use crate::point_reading::{Deferred, Filled, Finding, Points};
+use crate::port::{BatchLists, BatchReply, Corners, Count, Inserted, Maintained, Reply};
+use crate::random::Rng;
+use crate::rules::*;
+use crate::slots::Handle;
+use crate::tables::{Out, PointTables};
+use std::collections::HashMap;
+
+pub struct PointRound<'a> {
+    pub rng: Rng,
+    pub ground: Ground,
+    tables: PointTables,
+    before: PointTables,
+    pub reading: Points,
+    old: OldPoints,
+    /// The data that each handle was given with, since the last `clear`.
+    given: HashMap<(u32, u32), u32>,
+    next: u32,
+    pub log: &'a mut Log,
+}
+
+impl<'a> PointRound<'a> {
+    /// Builds a grid; wrong lengths and sizes are tried before.
+    pub fn new(mut rng: Rng, ground: Ground, n: usize, log: &'a mut Log) -> Self {
+        let mut tables = PointTables::new(n);
+        refused_builds(&mut tables, ground.size, &mut rng, log);
+        let before = tables.clone();
+        let answer = tables.call_new(ground.size);
+        log.call("points new", answer);
+        log.hold(answer == DONE, || format!("new({}) of {n} slots gave {answer}", ground.size));
+        let others = PointTables { nums: before.nums.clone(), map: before.map.clone(), ..tables.clone() };
+        log.hold(others == before, || "new wrote a table that it has not to write".to_string());
+        let reading = Points::new(n, ground.size);
+        log.hold(read_points(&tables).as_ref() == Ok(&reading), || format!("new gave {:?}", read_points(&tables)));
+        let before = tables.clone();
+        let old = OldPoints::new(ground.size);
+        let mut round = PointRound { rng, ground, tables, before, reading, old, given: HashMap::new(), next: 0, log };
+        if round.rng.once_in(3) {
+            age(&mut round.reading.slots, &mut round.tables.nums, &mut round.tables.map, &mut round.rng);
+            round.before.copy_from(&round.tables);
+        }
+        round
+    }
+
+    /// What stands in the tables after a call: all as before, or a grid that is the reading's.
+    fn after(&mut self, changed: bool, whole: bool) {
+        if !changed {
+            self.log.hold(self.tables == self.before, || "a refused or reading call changed a table".to_string());
+            return;
+        }
+        let small = self.tables.nums.len() <= 96;
+        if small || whole || self.rng.once_in(64) {
+            self.log.hold(self.tables.kept_idle_rows(&self.before), || "a row that is not in use was changed".to_string());
+            let held = read_points(&self.tables);
+            self.log.hold(held.as_ref() == Ok(&self.reading), || match held {
+                Err(why) => format!("the tables hold no grid: {why}"),
+                Ok(_) => "the tables hold another grid than document 01 says".to_string(),
+            });
+            for (_, object) in self.reading.slots.objects() {
+                let old = self.old.get(object.data);
+                self.log.hold(old == Some((object.at, object.data)), || format!("record of {}: the original has {old:?}", object.data));
+            }
+        }
+        self.before.copy_from(&self.tables);
+    }
+
+    /// A lost handle is lost to the original too.
+    fn lost(&mut self, h: Handle) {
+        if let Some(data) = self.given.get(&(h.slot, h.version)).copied() {
+            let none = self.old.get(data).is_none() && self.old.remove(data).is_none() && self.old.remove_maintain(data).is_none();
+            self.log.hold(none, || format!("{h:?} is lost, but the original has {data}"));
+        }
+    }
+
+    pub fn insert(&mut self, at: Spot) {
+        let data = data(&mut self.next);
+        let (answer, h) = self.reading.insert(at, data);
+        let got = self.tables.call_insert(at, data);
+        self.log.call("points insert", got.answer);
+        let wanted = Inserted { answer, slot: h.slot, version: h.version };
+        self.log.hold(got == wanted, || format!("insert({at:?}) gave {got:?}, 01 says {wanted:?}"));
+        if answer == DONE {
+            self.log.note("slots used again", u64::from(h.version > 1));
+            self.old.insert(at, data);
+            self.given.insert((h.slot, h.version), data);
+        }
+        self.after(answer == DONE, false);
+    }
+
+    pub fn set_position(&mut self, h: Handle, at: Spot) {
+        let answer = self.reading.set_position(h, at);
+        let got = self.tables.call_set_position(h, at);
+        self.log.call("points set_position", got);
+        self.log.hold(got == answer, || format!("set_position({h:?}, {at:?}) gave {got}, 01 says {answer}"));
+        match answer {
+            // On a marked object the Rust's call does nothing.
+            DONE | MARKED => self.old.set_position(self.reading.get(h).2, at),
+            HANDLE => self.lost(h),
+            _ => (),
+        }
+        self.after(answer == DONE, false);
+    }
+
+    pub fn remove(&mut self, h: Handle, now: bool) {
+        let (answer, data) = if now { self.reading.remove_maintain(h) } else { self.reading.remove(h) };
+        let got = if now { self.tables.call_remove_maintain(h) } else { self.tables.call_remove(h) };
+        self.log.call(if now { "points remove_maintain" } else { "points remove" }, got.answer);
+        let wanted = Reply { answer, obj: data };
+        self.log.hold(got == wanted, || format!("remove({h:?}) gave {got:?}, 01 says {wanted:?}"));
+        if answer == DONE {
+            let old = if now { self.old.remove_maintain(data) } else { self.old.remove(data) };
+            self.log.hold(old == Some(got.obj), || format!("remove({h:?}) gave {got:?}, the original {old:?}"));
+        } else {
+            self.lost(h);
+        }
+        self.after(answer == DONE, false);
+    }
+
+    pub fn batch(&mut self, calls: &[Deferred], uneven: bool) {
+        let places = places(calls.len(), &mut self.rng);
+        let mut lists = BatchLists::of(calls);
+        if uneven {
+            lists.uneven(&mut self.rng);
+        }
+        let wanted = if uneven { Filled::refused(TABLES) } else { self.reading.batch(calls, places) };
+        let mut out = Out::new(places);
+        let got = self.tables.call_batch(&lists, &mut out);
+        self.log.call("points batch", got.answer);
+        let reply = BatchReply { answer: wanted.answer, count: wanted.count };
+        self.log.hold(got == reply, || format!("batch of {} gave {got:?}, 01 says {reply:?}", calls.len()));
+        let filled = out.holds(wanted.out.iter().copied());
+        self.log.hold(filled, || format!("batch filled its output otherwise than 01 says: {calls:?}"));
+        for (call, [answer, data]) in calls.iter().zip(&wanted.out) {
+            self.log.note("deferred calls inside batches", 1);
+            if *answer == DONE && call.kind == 0 {
+                self.old.set_position(self.reading.get(call.handle).2, call.at);
+            } else if *answer == DONE {
+                let old = self.old.remove(*data);
+                self.log.hold(old == Some(*data), || format!("remove in a batch: the original gave {old:?}"));
+            }
+        }
+        self.after(wanted.answer == DONE, calls.len() > 64);
+    }
+
+    pub fn maintain(&mut self) {
+        let old_len = self.old.grid.len();
+        let (moved, removed) = self.reading.maintain();
+        let got = self.tables.call_maintain();
+        self.log.call("points maintain", got.answer);
+        let wanted = Maintained { answer: DONE, moved, removed };
+        self.log.hold(got == wanted, || format!("maintain gave {got:?}, 01 says {wanted:?}"));
+        self.log.note("objects moved by maintain", moved.into());
+        self.log.note("objects removed by maintain", removed.into());
+        self.old.grid.maintain_deterministic();
+        let gone = old_len - self.old.grid.len();
+        self.log.hold(gone == got.removed as usize, || format!("maintain removed {}, the original {gone}", got.removed));
+        self.after(true, true);
+    }
+
+    pub fn get(&mut self, h: Handle) {
+        let (answer, at, data) = self.reading.get(h);
+        let got = self.tables.call_get(h);
+        self.log.call("points get", got.answer);
+        let same = got.answer == answer && Spot::new(got.x, got.y) == at && got.obj == data;
+        self.log.hold(same, || format!("get({h:?}) gave {got:?}, 01 says {answer}, {at:?}, {data}"));
+        if answer == DONE {
+            let old = self.old.get(data);
+            self.log.hold(old == Some((Spot::new(got.x, got.y), got.obj)), || format!("get({h:?}) gave {got:?}, the original {old:?}"));
+        } else {
+            self.lost(h);
+        }
+        self.after(false, false);
+    }
+
+    pub fn count(&mut self) {
+        let got = self.tables.call_len();
+        self.log.call("points len", got.answer);
+        let old = self.old.grid.len() as u32;
+        let wanted = Count { answer: DONE, count: self.reading.slots.len() as u32 };
+        self.log.hold(got == wanted && old == got.count, || format!("len gave {got:?}, 01 says {wanted:?}, the original {old}"));
+        self.after(false, false);
+    }
+
+    pub fn handles(&mut self) {
+        let places = places(self.reading.slots.len(), &mut self.rng);
+        let wanted = self.reading.handles(places);
+        let mut out = Out::new(places);
+        let got = self.tables.call_handles(&mut out);
+        self.log.call("points handles", got.answer);
+        let same = u64::from(got.count) == wanted.count && got.answer == wanted.answer;
+        let filled = out.holds(wanted.out.iter().map(|h| [h.slot, h.version]));
+        self.log.hold(same && filled, || format!("handles gave {got:?}, 01 says {} {}", wanted.answer, wanted.count));
+        if got.answer == DONE {
+            let mut data: Vec<u32> = out.rows(got.count as usize).iter().map(|r| self.given[&(r[0], r[1])]).collect();
+            data.sort_unstable();
+            self.log.hold(data == self.old.all(), || "handles gave other objects than the original".to_string());
+        }
+        self.after(false, false);
+    }
+
+    pub fn clear(&mut self) {
+        let needed = self.reading.slots.len();
+        let (places, more) = (places(needed, &mut self.rng), places(needed, &mut self.rng));
+        let wanted = self.reading.clear(places.min(more));
+        let (mut spots, mut objs) = (Out::new(places), Out::new(more));
+        let got = self.tables.call_clear(&mut spots, &mut objs);
+        self.log.call("points clear", got.answer);
+        let same = u64::from(got.count) == wanted.count && got.answer == wanted.answer;
+        let filled = spots.holds(wanted.out.iter().map(|(at, _)| at.bits())) && objs.holds(wanted.out.iter().map(|(_, d)| [*d]));
+        self.log.hold(same && filled, || format!("clear gave {got:?}, 01 says {} {}", wanted.answer, wanted.count));
+        if wanted.answer == DONE {
+            let rows = spots.rows(got.count as usize).iter().zip(objs.rows(got.count as usize));
+            let mut all: Vec<_> = rows.map(|(at, data)| (data[0], *at)).collect();
+            all.sort_unstable();
+            let old = self.old.clear();
+            self.log.hold(all == old, || format!("clear gave {all:?}, the original {old:?}"));
+            self.given.clear();
+        }
+        self.after(wanted.answer == DONE, true);
+    }
+
+    /// A query's answer held to document 01 with its order, and to the original by data number and without order.
+    fn found(&mut self, name: &'static str, got: Count, wanted: Filled<Finding>, old: Vec<(u32, [u32; 2])>, outs: (Out<2>, Out<2>)) {
+        self.log.call(name, got.answer);
+        let same = u64::from(got.count) == wanted.count && got.answer == wanted.answer;
+        self.log.hold(same, || format!("{name} gave {got:?}, 01 says {} {}", wanted.answer, wanted.count));
+        let rows = wanted.out.iter().map(|f| [f.handle.slot, f.handle.version]);
+        let filled = outs.0.holds(rows) && outs.1.holds(wanted.out.iter().map(|f| f.at.bits()));
+        self.log.hold(filled, || format!("{name} filled its outputs otherwise than 01 says: {:?}", wanted.out));
+        if got.answer == DONE || got.answer == OUTPUT {
+            self.log.hold(got.count as usize == old.len(), || format!("{name} found {}, the original {}", got.count, old.len()));
+        }
+        if got.answer == DONE {
+            let count = got.count as usize;
+            self.log.note("queries that found something", u64::from(count > 0));
+            self.log.note("findings", count as u64);
+            let pairs = outs.0.rows(count).iter().zip(outs.1.rows(count));
+            let mut all: Vec<_> = pairs.map(|(h, at)| (self.given.get(&(h[0], h[1])).copied().unwrap_or(0), *at)).collect();
+            let mut old = old;
+            all.sort_unstable();
+            old.sort_unstable();
+            self.log.hold(all == old, || format!("{name} gave {all:?}, the original {old:?}"));
+        }
+        self.after(false, false);
+    }
+
+    pub fn query(&mut self, kind: Corners, ll: Spot, ur: Spot) {
+        let sorted = kind == Corners::Sorted;
+        let all = if sorted { self.reading.query_aabb(ll, ur, usize::MAX) } else { self.reading.query(ll, ur, usize::MAX) };
+        let (places, more) = (places(all.out.len(), &mut self.rng), places(all.out.len(), &mut self.rng));
+        let accepted = all.answer == DONE;
+        let wanted = if accepted { Filled::fitted(all.out, places.min(more)) } else { all };
+        let mut outs = (Out::new(places), Out::new(more));
+        let got = self.tables.call_query(kind, ll, ur, &mut outs.0, &mut outs.1);
+        let old = match (accepted, kind) {
+            (false, _) => vec![],
+            (true, Corners::Cells) => self.old.query(ll, ur),
+            (true, Corners::Sorted) => self.old.query_aabb(ll, ur),
+        };
+        self.found(if sorted { "points query_aabb" } else { "points query" }, got, wanted, old, outs);
+    }
+
+    pub fn query_around(&mut self, centre: Spot, r: f32) {
+        let all = self.reading.query_around(centre, r, usize::MAX);
+        let (places, more) = (places(all.out.len(), &mut self.rng), places(all.out.len(), &mut self.rng));
+        let accepted = all.answer == DONE;
+        let wanted = if accepted { Filled::fitted(all.out, places.min(more)) } else { all };
+        let mut outs = (Out::new(places), Out::new(more));
+        let got = self.tables.call_query_around(centre, r, &mut outs.0, &mut outs.1);
+        let old = if accepted { self.old.query_around(centre, r) } else { vec![] };
+        self.found("points query_around", got, wanted, old, outs);
+    }
+
+    pub fn tables(&self) -> &PointTables {
+        &self.tables
+    }
+}
+
+/// Building with wrong lengths (3) and with sizes outside their limits (2), which leave all as it was.
+fn refused_builds(tables: &mut PointTables, size: u32, rng: &mut Rng, log: &mut Log) {
+    let mut short = tables.clone();
+    match rng.below(7) {
+        0 => drop(short.nums.pop()),
+        1 => drop(short.reals.pop()),
+        2 => drop(short.ints.pop()),
+        3 => drop(short.map.pop()),
+        4 => drop(short.pool.pop()),
+        5 => drop(short.spots.pop()),
+        _ => short.cells.push([0, 0]),
+    }
+    let before = short.clone();
+    // The map is as long for one slot fewer, but no other table is.
+    let got = short.call_new(size);
+    log.call("points new", got);
+    log.hold(got == TABLES && short == before, || format!("new with a wrong length gave {got}"));
+    let before = tables.clone();
+    let wrong = rng.pick(&[0, 1_048_577, u32::MAX, 1 << 31]);
+    let got = tables.call_new(wrong);
+    log.call("points new", got);
+    log.hold(got == SIZE && *tables == before, || format!("new({wrong}) gave {got}"));
+}

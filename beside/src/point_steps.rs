@@ -1,0 +1,180 @@
+//! Which calls a round on a point grid makes: any of them in any order, frames as a desk makes them, states left pending.
+use crate::picks::{good, handle, places};
+use crate::point_calls::PointCall;
+use crate::point_reading::Deferred;
+use crate::point_round::PointRound;
+use crate::port::Corners;
+use crate::random::Rng;
+use crate::rules::{Spot, EDGE};
+use crate::slots::Handle;
+
+impl PointRound<'_> {
+    /// The position of some object, or any.
+    fn some_spot(&mut self) -> Spot {
+        match good(&self.reading.slots, &mut self.rng) {
+            Some(h) if !self.rng.once_in(8) => self.reading.slots.get(h).unwrap().at,
+            _ => self.ground.spot(&mut self.rng),
+        }
+    }
+
+    fn any_query(&mut self) {
+        let from = self.some_spot();
+        let mut centre = self.ground.spot_by(from, &mut self.rng);
+        if self.rng.once_in(60) {
+            centre = self.ground.any_spot(&mut self.rng);
+        }
+        let across = Spot::new(self.ground.across(centre.x, &mut self.rng), self.ground.across(centre.y, &mut self.rng));
+        let (ll, ur) = match self.rng.below(8) {
+            0 => (across, centre),
+            1 => (Spot::new(across.x, centre.y), Spot::new(centre.x, across.y)),
+            2 => (centre, self.some_spot()),
+            _ => (centre, across),
+        };
+        match self.rng.below(3) {
+            0 => self.query(Corners::Cells, ll, ur),
+            1 => self.query(Corners::Sorted, ll, ur),
+            _ => {
+                let to = self.some_spot();
+                let r = self.ground.radius(centre, to, &mut self.rng);
+                self.query_around(centre, r);
+            }
+        }
+    }
+
+    /// A deferred call of a batch.
+    fn deferred(&mut self) -> Deferred {
+        let handle = handle(&self.reading.slots, &mut self.rng);
+        let from = self.reading.get(handle).1;
+        let at = if self.rng.once_in(30) { self.ground.any_spot(&mut self.rng) } else { self.ground.spot_by(from, &mut self.rng) };
+        let kind = if self.rng.once_in(6) { self.rng.pick(&[1, 2, u32::MAX]) } else { 0 };
+        Deferred { kind, handle, at }
+    }
+
+    /// One call, of any kind.
+    pub fn step(&mut self) {
+        match self.rng.below(100) {
+            0..=21 => {
+                let at = self.ground.any_spot(&mut self.rng);
+                self.insert(at);
+            }
+            22..=43 => {
+                let call = self.deferred();
+                self.set_position(call.handle, call.at);
+            }
+            44..=49 => {
+                let h = handle(&self.reading.slots, &mut self.rng);
+                self.remove(h, false);
+            }
+            50..=54 => {
+                let h = handle(&self.reading.slots, &mut self.rng);
+                self.remove(h, true);
+            }
+            55..=59 => self.maintain(),
+            60..=62 => {
+                let count = self.rng.any_length(64);
+                let calls: Vec<_> = (0..count).map(|_| self.deferred()).collect();
+                let uneven = self.rng.once_in(12);
+                self.batch(&calls, uneven);
+            }
+            63..=67 => {
+                let h = handle(&self.reading.slots, &mut self.rng);
+                self.get(h);
+            }
+            68..=69 => self.count(),
+            70..=71 => self.handles(),
+            72 if self.rng.once_in(6) => self.clear(),
+            _ => self.any_query(),
+        }
+    }
+
+    /// A frame as a desk makes it: every tracker moves a little, a few leave, the grid is maintained, circles are asked for, new ones come.
+    pub fn frame(&mut self) {
+        let handles: Vec<Handle> = self.reading.slots.objects().map(|(h, _)| h).collect();
+        let stride = f64::from(self.ground.size) * self.rng.pick(&[0.05, 0.5, 2.0]);
+        let mut calls = vec![];
+        for handle in handles {
+            let at = self.reading.get(handle).1;
+            let step = |c: f32, rng: &mut Rng| ((f64::from(c) + (rng.unit() - 0.5) * stride) as f32).clamp(-EDGE, EDGE);
+            let at = Spot::new(step(at.x, &mut self.rng), step(at.y, &mut self.rng));
+            calls.push(Deferred { kind: u32::from(self.rng.once_in(50)), handle, at });
+        }
+        if self.rng.once_in(4) {
+            for call in calls.iter().take(200) {
+                self.set_position(call.handle, call.at);
+            }
+        } else {
+            self.batch(&calls, false);
+        }
+        self.maintain();
+        for _ in 0..16 {
+            let centre = self.some_spot();
+            let r = (self.rng.unit() * f64::from(self.ground.size) * 10.0).min(f64::from(EDGE)) as f32;
+            self.query_around(centre, r);
+        }
+        for _ in 0..self.rng.below(5) {
+            let at = self.ground.spot(&mut self.rng);
+            self.insert(at);
+        }
+    }
+
+    /// Fills some of the slots, or all of them and one more.
+    pub fn fill(&mut self) {
+        let n = self.reading.slots.slots.len() as u64;
+        let objects = if self.rng.once_in(3) { n + 2 } else { self.rng.below(n + 1) };
+        for _ in 0..objects {
+            if self.log.done() {
+                return;
+            }
+            let from = self.some_spot();
+            let at = if self.rng.once_in(2) { self.ground.spot(&mut self.rng) } else { self.ground.spot_by(from, &mut self.rng) };
+            self.insert(at);
+        }
+    }
+
+    /// Deferred calls that no maintain follows, so that objects are in all four states.
+    pub fn defer(&mut self) {
+        let handles: Vec<Handle> = self.reading.slots.objects().map(|(h, _)| h).collect();
+        for h in handles {
+            let at = self.reading.get(h).1;
+            match self.rng.below(4) {
+                0 => (),
+                1 => self.set_position(h, at),
+                2 => {
+                    let away = Spot::new(self.ground.coordinate(&mut self.rng), -at.y - self.ground.size as f32);
+                    self.set_position(h, Spot::new(away.x, away.y.clamp(-EDGE, EDGE)));
+                }
+                _ => self.remove(h, false),
+            }
+        }
+    }
+
+    /// Any call of each kind, for tables like these.
+    pub fn all_calls(&mut self) -> Vec<PointCall> {
+        let (h, at, data) = (handle(&self.reading.slots, &mut self.rng), self.some_spot(), self.rng.bits());
+        let (from, to) = (self.some_spot(), self.ground.any_spot(&mut self.rng));
+        let across = Spot::new(self.ground.across(from.x, &mut self.rng), self.ground.across(from.y, &mut self.rng));
+        let r = self.ground.radius(from, at, &mut self.rng);
+        let most = self.reading.slots.len() + 2;
+        let (fewer, more) = (places(most, &mut self.rng), places(most, &mut self.rng));
+        let calls: Vec<_> = (0..self.rng.below(4)).map(|_| self.deferred()).collect();
+        let uneven = usize::from(self.rng.once_in(8));
+        let batch = PointCall::Batch(calls.clone(), uneven, places(calls.len(), &mut self.rng));
+        let size = self.rng.pick(&[0, 1, self.ground.size, 1_048_576, 1_048_577]);
+        vec![
+            PointCall::Len,
+            PointCall::Get(h),
+            PointCall::Handles(fewer),
+            PointCall::Query(Corners::Cells, from, across, fewer, more),
+            PointCall::Query(Corners::Sorted, across, from, fewer, more),
+            PointCall::Around(from, r, fewer, more),
+            PointCall::Insert(to, data),
+            PointCall::SetPosition(h, at),
+            PointCall::Remove(h),
+            batch,
+            PointCall::RemoveMaintain(h),
+            PointCall::Maintain,
+            PointCall::Clear(fewer, more),
+            PointCall::New(size),
+        ]
+    }
+}
