@@ -1,0 +1,64 @@
+#!/usr/bin/env python3
+"""Holds docs/PROMISES.md and docs/WORDS.md to the tree: every file that they name is there, and every name in backticks that stands with
+a file is declared in it. A cell of a table is read part by part, parted by semicolons. Prints what is not so, and ends in 1 then."""
+import os
+import re
+import sys
+
+os.chdir(os.path.join(os.path.dirname(os.path.abspath(__file__)), '..'))
+DOCUMENTS = 'docs/PROMISES.md', 'docs/WORDS.md'
+FILE = re.compile(r'([a-z_]+)/((?:specs|proofs/laws|src)(?:/[A-Za-z0-9_.]+)+)')
+# a further file of the same folder, by its name alone: "demands/specs/Demands and BoxDemands"
+FURTHER = re.compile(r'(?:,| and) ([A-Z][A-Za-z]+)(?=[ ,:.()]|$)')
+# words in backticks that are no names: lines of the trace, words of the language
+WORDS = {'requires', 'ensures', 'cell', 'main', 'new', 'answer'}
+texts = {}
+
+
+def text_of(file):
+    if file not in texts:
+        with open(file) as f:
+            texts[file] = f.read()
+    return texts[file]
+
+
+def find(crate, rest):
+    base = f'crates/{crate}/{rest}'
+    return next((f for f in (base, base + '.antt', base + '.rt') if os.path.isfile(f)), None)
+
+
+def declares(file, name):
+    n = re.escape(name)
+    if file.endswith('.rt'):
+        return re.search(rf'\b(fn|struct|enum|const|type) {n}\b|pub use [a-z_:]*\b{n};', text_of(file))
+    return re.search(rf'^\s*(abbrev |unfoldable |pub |record |data )*{n}( |$)', text_of(file), re.M)
+
+
+def wrong_in(part):
+    """What a part of a cell says that is not so."""
+    files = []
+    for named in FILE.finditer(part):
+        file = find(*named.groups())
+        if file is None:
+            yield f'there is no {named[0]}'
+            continue
+        folder = os.path.dirname(file)
+        further = [f'{folder}/{m[1]}.antt' for m in FURTHER.finditer(part[named.end():])]
+        files += [file] + [f for f in further if os.path.isfile(f)]
+    for name in re.findall(r'`([^` /:.]+)`', part) if files else []:
+        if name not in WORDS and not any(declares(f, name) for f in files):
+            yield f'{name} is not in {", ".join(files)}'
+
+
+def wrong_lines(document):
+    with open(document) as lines:
+        for number, line in enumerate(lines, 1):
+            for cell in line.split('|')[2:] if line.startswith('|') else []:
+                for part in cell.split(';'):
+                    for what in wrong_in(part):
+                        yield f'{document}:{number}: {what}'
+
+
+wrong = [line for document in DOCUMENTS for line in wrong_lines(document)]
+print('\n'.join(wrong) if wrong else f'every name in {" and ".join(DOCUMENTS)} is where it says')
+sys.exit(bool(wrong))
