@@ -1,5 +1,6 @@
 // The two grids of the trace answer a request: a call of one of them, or for `cell` of both.
 ghost use mathlib.Core.Path.{_≡_};
+ghost use Rattle.basics.specs.Lent.{was, is};
 ghost use Rattle.point_tables.specs.Lent as Points;
 ghost use Rattle.box_tables.specs.Lent as Boxes;
 ghost use Rattle.telling.specs.InRange.{InRange};
@@ -100,7 +101,7 @@ fn answer_points(
     r: Request,
 ) -> Said
     requires { ⌜ InRange r ⌝ }
-    ensures { λ said. ⌜ onPoints said (Points.after nums reals ints map pool spots cells) (now (handles .exit)) (now (places .exit)) ≡ pointsOf (Points.before nums reals ints map pool spots cells) r (now (handles .entry)) (now (places .entry)) ⌝ }
+    ensures { λ said. ⌜ onPoints said (Points.after nums reals ints map pool spots cells) (is handles) (is places) ≡ pointsOf (Points.before nums reals ints map pool spots cells) r (was handles) (was places) ⌝ }
 {
     if searches_points(r) {
         return point_answers::search_points(
@@ -131,7 +132,7 @@ fn answer_boxes(
     r: Request,
 ) -> Said
     requires { ⌜ InRange r ⌝ }
-    ensures { λ said. ⌜ onBoxes said (Boxes.after bnums breals bmap bpool) (now (handles .exit)) (now (corners .exit)) (now (objs .exit)) ≡ boxesOf (Boxes.before bnums breals bmap bpool) r (now (handles .entry)) (now (corners .entry)) (now (objs .entry)) ⌝ }
+    ensures { λ said. ⌜ onBoxes said (Boxes.after bnums breals bmap bpool) (is handles) (is corners) (is objs) ≡ boxesOf (Boxes.before bnums breals bmap bpool) r (was handles) (was corners) (was objs) ⌝ }
 {
     if searches_boxes(r) {
         return box_answers::search_boxes(bnums, breals, bmap, bpool, r, handles, corners, objs);
@@ -159,7 +160,7 @@ pub fn answer(
     r: Request,
 ) -> Said
     requires { ⌜ InRange r ⌝ }
-    ensures { λ said. ⌜ answered said (state (Points.after nums reals ints map pool spots cells) (Boxes.after bnums breals bmap bpool) (now (handles .exit)) (now (places .exit)) (now (corners .exit)) (now (objs .exit))) ≡ answerOf (state (Points.before nums reals ints map pool spots cells) (Boxes.before bnums breals bmap bpool) (now (handles .entry)) (now (places .entry)) (now (corners .entry)) (now (objs .entry))) r ⌝ }
+    ensures { λ said. ⌜ answered said (state (Points.after nums reals ints map pool spots cells) (Boxes.after bnums breals bmap bpool) (is handles) (is places) (is corners) (is objs)) ≡ answerOf (state (Points.before nums reals ints map pool spots cells) (Boxes.before bnums breals bmap bpool) (was handles) (was places) (was corners) (was objs)) r ⌝ }
 {
     let part = part_of(r);
     if part == 0 {

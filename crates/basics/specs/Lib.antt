@@ -2,3 +2,4 @@
 pub mod Says
 pub mod Refusals
 pub mod Counting
+pub mod Lent

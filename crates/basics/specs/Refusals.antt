@@ -2,6 +2,7 @@
 use Prim.Native.Nat.{ℕ}
 use mathlib.Core.Bool.{Bool, true, false}
 use mathlib.Core.List.{List, [], _∷_}
+use lib.Dec.{eqb}
 
 -- a test that must pass, and the answer number if it does not
 pub record Refusal : Type 0 where
@@ -23,3 +24,7 @@ firstOf (r ∷ rs) = orElse (r .passes) (r .number) (firstOf rs)
 abbrev pub pick : {A : Type 0} → Bool → A → A → A
 pick true a b = a
 pick false a b = b
+
+-- what a call gives: what it does if its tests pass, else what it says to the first that does not
+abbrev pub byTests : {R : Type 0} → List Refusal → R → (ℕ → R) → R
+byTests rs done refused = pick (eqb (firstOf rs) 0) done (refused (firstOf rs))

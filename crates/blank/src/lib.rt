@@ -3,12 +3,13 @@ ghost use mathlib.Core.Path.{_≡_};
 ghost use mathlib.Core.List.{_∷_, _++_};
 ghost use Prim.Native.Nat.{_+_, _≤_};
 ghost use lib.ListN.{length, take, drop};
+ghost use Rattle.basics.specs.Lent.{was, is};
 ghost use Rattle.slots.specs.Map.{wordsFor};
 ghost use Rattle.blank.specs.Blank.{freeWord, freeWords, blankNums, blankMap};
 
 // Every slot is free at version 1.
 pub fn free_slots(nums: &mut [[u32; 4]])
-    ensures { λ _. ⌜ now (nums .exit) ≡ blankNums (length (now (nums .entry))) ⌝ }
+    ensures { λ _. ⌜ is nums ≡ blankNums (length (was nums)) ⌝ }
 {
     let mut i = 0;
     while i < nums.len() {
@@ -30,7 +31,7 @@ fn free_word(n: usize) -> u64
 // The words of n slots, behind the head words.
 fn free_words(map: &mut [u64], n: usize)
     requires { ⌜ (length (now map) ≡ 3 + wordsFor n) × (n ≤ 4096) ⌝ }
-    ensures { λ _. ⌜ now (map .exit) ≡ take 3 (now (map .entry)) ++ freeWords (wordsFor n) n ⌝ }
+    ensures { λ _. ⌜ is map ≡ take 3 (was map) ++ freeWords (wordsFor n) n ⌝ }
 {
     let words = slots::words_for(n);
     let mut w = 0;
@@ -43,7 +44,7 @@ fn free_words(map: &mut [u64], n: usize)
 // The head words of a grid with no entry.
 fn new_head(map: &mut [u64], size: u32)
     requires { ⌜ 3 ≤ length (now map) ⌝ }
-    ensures { λ _. ⌜ now (map .exit) ≡ size ∷ 0 ∷ 0 ∷ drop 3 (now (map .entry)) ⌝ }
+    ensures { λ _. ⌜ is map ≡ size ∷ 0 ∷ 0 ∷ drop 3 (was map) ⌝ }
 {
     map[0] = size as u64;
     map[1] = 0;
@@ -53,7 +54,7 @@ fn new_head(map: &mut [u64], size: u32)
 // The map of n slots that are all free.
 pub fn new_map(map: &mut [u64], n: usize, size: u32)
     requires { ⌜ (length (now map) ≡ 3 + wordsFor n) × (n ≤ 4096) ⌝ }
-    ensures { λ _. ⌜ now (map .exit) ≡ blankMap n size ⌝ }
+    ensures { λ _. ⌜ is map ≡ blankMap n size ⌝ }
 {
     free_words(map, n);
     new_head(map, size);

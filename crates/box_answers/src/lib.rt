@@ -1,5 +1,6 @@
 // What the box grid of the trace answers to a request: each is one call of the grid.
 ghost use mathlib.Core.Path.{_≡_};
+ghost use Rattle.basics.specs.Lent.{was, is};
 ghost use Rattle.lines.specs.Texts.{SpotInRange};
 ghost use Rattle.box_tables.specs.Lent.{after, before};
 ghost use Rattle.box_tables.specs.Outcome.{outcome};
@@ -90,7 +91,7 @@ fn bqry(
     objs: &mut [u32],
 ) -> Said
     requires { ⌜ SpotInRange ll × SpotInRange ur ⌝ }
-    ensures { λ r. ⌜ searched r (now (handles .exit)) (now (corners .exit)) (now (objs .exit)) ≡ meetingIn (before nums reals map pool) ll ur (now (handles .entry)) (now (corners .entry)) (now (objs .entry)) ⌝ }
+    ensures { λ r. ⌜ searched r (is handles) (is corners) (is objs) ≡ meetingIn (before nums reals map pool) ll ur (was handles) (was corners) (was objs) ⌝ }
 {
     let q = telling::corners(ll, ur);
     let r = boxes::query(nums, reals, map, pool, q, handles, corners, objs);
@@ -109,7 +110,7 @@ pub fn search_boxes(
     objs: &mut [u32],
 ) -> Said
     requires { ⌜ InRange r ⌝ }
-    ensures { λ said. ⌜ searched said (now (handles .exit)) (now (corners .exit)) (now (objs .exit)) ≡ searchOf (before nums reals map pool) r (now (handles .entry)) (now (corners .entry)) (now (objs .entry)) ⌝ }
+    ensures { λ said. ⌜ searched said (is handles) (is corners) (is objs) ≡ searchOf (before nums reals map pool) r (was handles) (was corners) (was objs) ⌝ }
 {
     match r {
         Request::Bqry(ll, ur) => bqry(nums, reals, map, pool, ll, ur, handles, corners, objs),

@@ -1,6 +1,7 @@
 // `set_aabb`: if both corner cells stay, only the record changes; otherwise the box leaves its old lists and enters its new ones.
 ghost use mathlib.Core.Path.{_≡_};
 ghost use lib.ListN.{set};
+ghost use Rattle.basics.specs.Lent.{was, is};
 ghost use Rattle.box_tables.specs.Decide.{holds};
 ghost use Rattle.box_tables.specs.Lent.{after, before, lent};
 ghost use Rattle.box_tables.specs.Outcome.{outcome};
@@ -60,8 +61,8 @@ fn stays(p: Span, q: Span) -> bool
 // The box of slot s goes from the cells of p to those of q.
 fn shift(map: &mut [u64], pool: &mut [[u64; 2]], s: usize, p: Span, q: Span)
     requires { ⌜ Shifting (now map) (now pool) s p q ⌝ }
-    ensures map { λ _. ⌜ now (map .exit) ≡ shiftedMap s p q (now (map .entry)) (now (pool .entry)) ⌝ }
-    ensures pool { λ _. ⌜ now (pool .exit) ≡ shiftedPool s p q (now (map .entry)) (now (pool .entry)) ⌝ }
+    ensures map { λ _. ⌜ is map ≡ shiftedMap s p q (was map) (was pool) ⌝ }
+    ensures pool { λ _. ⌜ is pool ≡ shiftedPool s p q (was map) (was pool) ⌝ }
 {
     let used = basics::index_of(map[1]);
     let old = box_tables::item_of(s, p.cells == 1);
@@ -74,8 +75,8 @@ fn shift(map: &mut [u64], pool: &mut [[u64; 2]], s: usize, p: Span, q: Span)
 // Its lists change only if a corner cell does.
 fn relist(map: &mut [u64], pool: &mut [[u64; 2]], s: usize, p: Span, q: Span)
     requires { ⌜ Shifting (now map) (now pool) s p q ⌝ }
-    ensures map { λ _. ⌜ now (map .exit) ≡ relistedMap s p q (now (map .entry)) (now (pool .entry)) ⌝ }
-    ensures pool { λ _. ⌜ now (pool .exit) ≡ relistedPool s p q (now (map .entry)) (now (pool .entry)) ⌝ }
+    ensures map { λ _. ⌜ is map ≡ relistedMap s p q (was map) (was pool) ⌝ }
+    ensures pool { λ _. ⌜ is pool ≡ relistedPool s p q (was map) (was pool) ⌝ }
 {
     if stays(p, q) {
         return;
@@ -86,9 +87,9 @@ fn relist(map: &mut [u64], pool: &mut [[u64; 2]], s: usize, p: Span, q: Span)
 // Box b takes the place of the box of slot s.
 fn place(reals: &mut [[f32; 4]], map: &mut [u64], pool: &mut [[u64; 2]], s: usize, b: Aabb)
     requires { ⌜ Placing (now reals) (now map) (now pool) s b ⌝ }
-    ensures reals { λ _. ⌜ now (reals .exit) ≡ set (now (reals .entry)) s (cornersOf b) ⌝ }
-    ensures map { λ _. ⌜ now (map .exit) ≡ relistedMap s (oldSpan (now (reals .entry)) (now (map .entry)) s) (newSpan (now (map .entry)) b) (now (map .entry)) (now (pool .entry)) ⌝ }
-    ensures pool { λ _. ⌜ now (pool .exit) ≡ relistedPool s (oldSpan (now (reals .entry)) (now (map .entry)) s) (newSpan (now (map .entry)) b) (now (map .entry)) (now (pool .entry)) ⌝ }
+    ensures reals { λ _. ⌜ is reals ≡ set (was reals) s (cornersOf b) ⌝ }
+    ensures map { λ _. ⌜ is map ≡ relistedMap s (oldSpan (was reals) (was map) s) (newSpan (was map) b) (was map) (was pool) ⌝ }
+    ensures pool { λ _. ⌜ is pool ≡ relistedPool s (oldSpan (was reals) (was map) s) (newSpan (was map) b) (was map) (was pool) ⌝ }
 {
     let old = box_tables::load_box(reals, s);
     let p = box_tables::span_of(map[0], old);

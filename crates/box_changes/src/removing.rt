@@ -3,6 +3,7 @@ ghost use mathlib.Core.Path.{_≡_};
 ghost use mathlib.Core.List.{[], _∷_};
 ghost use Prim.Native.Nat.{_+_, _/_, _<_};
 ghost use lib.ListN.{length};
+ghost use Rattle.basics.specs.Lent.{was, is};
 ghost use Rattle.basics.specs.Refusals.{unless, firstOf};
 ghost use Rattle.slots.specs.Slot.{good, emptiedNums, emptiedMap};
 ghost use Rattle.box_tables.specs.Tables.{counting, objOn};
@@ -16,7 +17,7 @@ use slots::Handle;
 
 // The answer: the first refusal that applies, or 0.
 fn answer(nums: &[[u32; 4]], held: bool, h: Handle) -> u32
-    ensures { λ r. ⌜ r ≡ firstOf (unless held 3 ∷ unless (good (now (nums .entry)) (h .slot) (h .version)) 5 ∷ []) ⌝ }
+    ensures { λ r. ⌜ r ≡ firstOf (unless held 3 ∷ unless (good (was nums) (h .slot) (h .version)) 5 ∷ []) ⌝ }
 {
     if !held {
         return 3;
@@ -30,8 +31,8 @@ fn answer(nums: &[[u32; 4]], held: bool, h: Handle) -> u32
 // Slot s is emptied, and the head word of the map has the count.
 fn empty(nums: &mut [[u32; 4]], map: &mut [u64], s: usize, used: usize)
     requires { ⌜ (s < length (now nums)) × (3 + s / 64 < length (now map)) ⌝ }
-    ensures nums { λ _. ⌜ now (nums .exit) ≡ emptiedNums (now (nums .entry)) s ⌝ }
-    ensures map { λ _. ⌜ now (map .exit) ≡ counting (emptiedMap (now (nums .entry)) (now (map .entry)) s) used ⌝ }
+    ensures nums { λ _. ⌜ is nums ≡ emptiedNums (was nums) s ⌝ }
+    ensures map { λ _. ⌜ is map ≡ counting (emptiedMap (was nums) (was map) s) used ⌝ }
 {
     slots::empty(nums, map, s);
     map[1] = basics::word_of(used);

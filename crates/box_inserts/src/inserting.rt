@@ -5,6 +5,7 @@ ghost use mathlib.Core.List.{[], _∷_};
 ghost use Prim.Native.Nat.{_+_, _/_, _≤_, _<_};
 ghost use lib.Dec.{leb};
 ghost use lib.ListN.{length, getD, set};
+ghost use Rattle.basics.specs.Lent.{was, is};
 ghost use Rattle.basics.specs.Refusals.{orElse};
 ghost use Rattle.geometry.specs.Domain.{aabbInDomain};
 ghost use Rattle.slots.specs.declared.Usable.the-variants.{At};
@@ -48,7 +49,7 @@ fn slot_for(u: Usable, fits: bool) -> Choice
 // The first refusal that applies, or the lowest usable slot. The pool has `room` entries.
 fn choose(nums: &[[u32; 4]], map: &[u64], room: usize, held: bool, b: Aabb) -> Choice
     requires { ⌜ (held ≡ true → Ready (now nums) (now map)) ⌝ }
-    ensures { λ r. ⌜ (r .answer ≡ answerBy held (aabbInDomain b) (fewCells (getD (now (map .entry)) 0 0) b) (lowestUsable (now (map .entry)) (length (now (nums .entry)))) (leb (getD (now (map .entry)) 1 0 + covers (getD (now (map .entry)) 0 0) b) room)) × (r .answer ≡ 0 → lowestUsable (now (map .entry)) (length (now (nums .entry))) ≡ At (r .slot)) ⌝ }
+    ensures { λ r. ⌜ (r .answer ≡ answerBy held (aabbInDomain b) (fewCells (getD (was map) 0 0) b) (lowestUsable (was map) (length (was nums))) (leb (getD (was map) 1 0 + covers (getD (was map) 0 0) b) room)) × (r .answer ≡ 0 → lowestUsable (was map) (length (was nums)) ≡ At (r .slot)) ⌝ }
 {
     if !held {
         return Choice { answer: 3, slot: 0 };
@@ -69,7 +70,7 @@ fn choose(nums: &[[u32; 4]], map: &[u64], room: usize, held: bool, b: Aabb) -> C
 // The object is in slot s, at the version that the slot has.
 fn accepted(nums: &[[u32; 4]], s: usize) -> Inserted
     requires { ⌜ (s < length (now nums)) × (length (now nums) ≤ 256) ⌝ }
-    ensures { λ r. ⌜ r ≡ inserted 0 s (versionAt (now (nums .entry)) s) ⌝ }
+    ensures { λ r. ⌜ r ≡ inserted 0 s (versionAt (was nums) s) ⌝ }
 {
     let row = nums[s];
     let version = row[0];
@@ -85,7 +86,7 @@ fn accepted(nums: &[[u32; 4]], s: usize) -> Inserted
 // Slot s takes the object: its version stays.
 fn occupy(nums: &mut [[u32; 4]], s: usize, obj: u32)
     requires { ⌜ s < length (now nums) ⌝ }
-    ensures { λ _. ⌜ now (nums .exit) ≡ set (now (nums .entry)) s (versionAt (now (nums .entry)) s ∷ live ∷ obj ∷ 0 ∷ []) ⌝ }
+    ensures { λ _. ⌜ is nums ≡ set (was nums) s (versionAt (was nums) s ∷ live ∷ obj ∷ 0 ∷ []) ⌝ }
 {
     let row = nums[s];
     nums[s] = [row[0], 1, obj, 0];
@@ -94,7 +95,7 @@ fn occupy(nums: &mut [[u32; 4]], s: usize, obj: u32)
 // The row of slot s has the corners of b.
 pub fn store_box(reals: &mut [[f32; 4]], s: usize, b: Aabb)
     requires { ⌜ s < length (now reals) ⌝ }
-    ensures { λ _. ⌜ now (reals .exit) ≡ set (now (reals .entry)) s (cornersOf b) ⌝ }
+    ensures { λ _. ⌜ is reals ≡ set (was reals) s (cornersOf b) ⌝ }
 {
     let ll = b.ll;
     let ur = b.ur;
@@ -104,7 +105,7 @@ pub fn store_box(reals: &mut [[f32; 4]], s: usize, b: Aabb)
 // The map has slot s no more, and its head word has the count.
 fn count(map: &mut [u64], s: usize, used: usize)
     requires { ⌜ 3 + s / 64 < length (now map) ⌝ }
-    ensures { λ _. ⌜ now (map .exit) ≡ counting (taken (now (map .entry)) s) used ⌝ }
+    ensures { λ _. ⌜ is map ≡ counting (taken (was map) s) used ⌝ }
 {
     slots::take(map, s);
     map[1] = basics::word_of(used);

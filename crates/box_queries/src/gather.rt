@@ -3,6 +3,7 @@ ghost use mathlib.Core.Path.{_≡_};
 ghost use mathlib.Core.List.{map};
 ghost use Prim.Native.Nat.{_+_, _≤_};
 ghost use lib.ListN.{length, take};
+ghost use Rattle.basics.specs.Lent.{was, is};
 ghost use Rattle.storage.specs.Keyed.{Sorted};
 ghost use Rattle.storage.specs.Entries.{rowKey};
 ghost use Rattle.box_tables.specs.Tables.{slotOf};
@@ -21,7 +22,7 @@ fn gather_run(
     found: &mut [u32; 256],
 ) -> usize
     requires { ⌜ (from ≤ to) × (to ≤ length (now pool)) × Slots (now pool) to × (n + unmarked (now marks) ≤ 256) × (length (now marks) ≡ 256) × (length (now found) ≡ 256) ⌝ }
-    ensures { λ r. ⌜ Collected (now (marks .entry)) (now (found .entry)) n (slotsIn (now (pool .entry)) from to) (now (marks .exit)) (now (found .exit)) r ⌝ }
+    ensures { λ r. ⌜ Collected (was marks) (was found) n (slotsIn (was pool) from to) (is marks) (is found) r ⌝ }
 {
     let mut k = n;
     let mut j = from;
@@ -41,7 +42,7 @@ fn gather_run(
 // One walk of the range from the key `low` to the key `high`: the slots that are met, each at its first place. Returns how many there are.
 pub fn gather(pool: &[[u64; 2]], used: usize, low: u64, high: u64, found: &mut [u32; 256]) -> usize
     requires { ⌜ (used ≤ length (now pool)) × Sorted rowKey (take used (now pool)) × Slots (now pool) used × (length (now found) ≡ 256) ⌝ }
-    ensures { λ r. ⌜ (r ≤ 256) × (take r (now (found .exit)) ≡ firsts (map slotOf (inside low high (take used (now (pool .entry)))))) × (length (now (found .exit)) ≡ 256) ⌝ }
+    ensures { λ r. ⌜ (r ≤ 256) × (take r (is found) ≡ firsts (map slotOf (inside low high (take used (was pool))))) × (length (is found) ≡ 256) ⌝ }
 {
     let mut marks: [bool; 256] = [false; 256];
     let mut n = 0;

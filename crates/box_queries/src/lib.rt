@@ -2,6 +2,7 @@
 ghost use mathlib.Core.Path.{_≡_};
 ghost use Prim.Native.Nat.{min};
 ghost use lib.ListN.{length};
+ghost use Rattle.basics.specs.Lent.{was, is};
 ghost use Rattle.box_tables.specs.Lent.{before, lent};
 ghost use Rattle.box_tables.specs.Decide.{holds};
 ghost use Rattle.box_queries.specs.Queries.{handlesOf, broadOf, findings, queryOf};
@@ -32,7 +33,7 @@ fn look(
     found: &mut [u32; 256],
 ) -> Count
     requires { ⌜ (held ≡ holds (lent nums reals map pool)) × (length (now found) ≡ 256) ⌝ }
-    ensures { λ r. ⌜ Looked (before nums reals map pool) q r (now (found .exit)) ⌝ }
+    ensures { λ r. ⌜ Looked (before nums reals map pool) q r (is found) ⌝ }
 {
     if !held {
         return replies::refused(3);
@@ -66,7 +67,7 @@ pub fn query_broad(
     handles: &mut [[u32; 2]],
 ) -> Count
     requires { ⌜ held ≡ holds (lent nums reals map pool) ⌝ }
-    ensures { λ r. ⌜ handlesOf r (now (handles .exit)) ≡ broadOf (before nums reals map pool) q (now (handles .entry)) ⌝ }
+    ensures { λ r. ⌜ handlesOf r (is handles) ≡ broadOf (before nums reals map pool) q (was handles) ⌝ }
 {
     let mut found: [u32; 256] = [0; 256];
     let seen = look(nums, reals, map, pool, held, q, &mut found);
@@ -103,7 +104,7 @@ pub fn query(
     objs: &mut [u32],
 ) -> Count
     requires { ⌜ held ≡ holds (lent nums reals map pool) ⌝ }
-    ensures { λ r. ⌜ findings r (now (handles .exit)) (now (boxes .exit)) (now (objs .exit)) ≡ queryOf (before nums reals map pool) q (now (handles .entry)) (now (boxes .entry)) (now (objs .entry)) ⌝ }
+    ensures { λ r. ⌜ findings r (is handles) (is boxes) (is objs) ≡ queryOf (before nums reals map pool) q (was handles) (was boxes) (was objs) ⌝ }
 {
     let mut found: [u32; 256] = [0; 256];
     let seen = look(nums, reals, map, pool, held, q, &mut found);

@@ -3,6 +3,7 @@ ghost use mathlib.Core.Path.{_≡_};
 ghost use mathlib.Core.List.{map};
 ghost use Prim.Native.Nat.{_≤_};
 ghost use lib.ListN.{length, take};
+ghost use Rattle.basics.specs.Lent.{was, is};
 ghost use Rattle.storage.specs.Keyed.{written};
 ghost use Rattle.box_queries.specs.Queries.{boxRow};
 ghost use Rattle.box_queries.specs.Put.{Found};
@@ -11,7 +12,7 @@ ghost use Rattle.slot_walks.specs.Live.{objAt, handleAt};
 // Slot and version.
 pub fn put_handles(nums: &[[u32; 4]], found: &[u32; 256], n: usize, handles: &mut [[u32; 2]])
     requires { ⌜ Found (length (now nums)) (now found) n × (n ≤ length (now handles)) ⌝ }
-    ensures { λ _. ⌜ now (handles .exit) ≡ written (map (handleAt (now (nums .entry))) (take n (now (found .entry)))) (now (handles .entry)) ⌝ }
+    ensures { λ _. ⌜ is handles ≡ written (map (handleAt (was nums)) (take n (was found))) (was handles) ⌝ }
 {
     let mut k = 0;
     while k < n {
@@ -25,7 +26,7 @@ pub fn put_handles(nums: &[[u32; 4]], found: &[u32; 256], n: usize, handles: &mu
 // The four numbers of the box.
 fn put_boxes(reals: &[[f32; 4]], found: &[u32; 256], n: usize, boxes: &mut [[f32; 4]])
     requires { ⌜ Found (length (now reals)) (now found) n × (n ≤ length (now boxes)) ⌝ }
-    ensures { λ _. ⌜ now (boxes .exit) ≡ written (map (boxRow (now (reals .entry))) (take n (now (found .entry)))) (now (boxes .entry)) ⌝ }
+    ensures { λ _. ⌜ is boxes ≡ written (map (boxRow (was reals)) (take n (was found))) (was boxes) ⌝ }
 {
     let mut k = 0;
     while k < n {
@@ -38,7 +39,7 @@ fn put_boxes(reals: &[[f32; 4]], found: &[u32; 256], n: usize, boxes: &mut [[f32
 // The data.
 fn put_objs(nums: &[[u32; 4]], found: &[u32; 256], n: usize, objs: &mut [u32])
     requires { ⌜ Found (length (now nums)) (now found) n × (n ≤ length (now objs)) ⌝ }
-    ensures { λ _. ⌜ now (objs .exit) ≡ written (map (objAt (now (nums .entry))) (take n (now (found .entry)))) (now (objs .entry)) ⌝ }
+    ensures { λ _. ⌜ is objs ≡ written (map (objAt (was nums)) (take n (was found))) (was objs) ⌝ }
 {
     let mut k = 0;
     while k < n {
@@ -59,7 +60,7 @@ pub fn put_findings(
     objs: &mut [u32],
 )
     requires { ⌜ Found (length (now nums)) (now found) n × (length (now reals) ≡ length (now nums)) × (n ≤ length (now handles)) × (n ≤ length (now boxes)) × (n ≤ length (now objs)) ⌝ }
-    ensures { λ _. ⌜ (now (handles .exit) ≡ written (map (handleAt (now (nums .entry))) (take n (now (found .entry)))) (now (handles .entry))) × (now (boxes .exit) ≡ written (map (boxRow (now (reals .entry))) (take n (now (found .entry)))) (now (boxes .entry))) × (now (objs .exit) ≡ written (map (objAt (now (nums .entry))) (take n (now (found .entry)))) (now (objs .entry))) ⌝ }
+    ensures { λ _. ⌜ (is handles ≡ written (map (handleAt (was nums)) (take n (was found))) (was handles)) × (is boxes ≡ written (map (boxRow (was reals)) (take n (was found))) (was boxes)) × (is objs ≡ written (map (objAt (was nums)) (take n (was found))) (was objs)) ⌝ }
 {
     put_handles(nums, found, n, handles);
     put_boxes(reals, found, n, boxes);

@@ -3,6 +3,7 @@ ghost use mathlib.Core.Path.{_≡_};
 ghost use mathlib.Core.List.{map};
 ghost use Prim.Native.Nat.{_+_, _≤_, min};
 ghost use lib.ListN.{length};
+ghost use Rattle.basics.specs.Lent.{was, is};
 ghost use Rattle.slots.specs.Map.{wordsFor};
 ghost use Rattle.storage.specs.Keyed.{written};
 ghost use Rattle.slot_walks.specs.Live.{liveFrom, objAt};
@@ -28,8 +29,8 @@ fn least(a: usize, b: usize) -> usize
 // The box and the data of each live slot, from place 0 of the outputs on.
 fn put_boxes(nums: &[[u32; 4]], reals: &[[f32; 4]], boxes: &mut [[f32; 4]], objs: &mut [u32])
     requires { ⌜ (length (now reals) ≡ length (now nums)) × (length (now nums) ≤ 256) × (length (liveFrom 0 (now nums)) ≤ length (now boxes)) × (length (liveFrom 0 (now nums)) ≤ length (now objs)) ⌝ }
-    ensures boxes { λ _. ⌜ now (boxes .exit) ≡ written (map (boxAt (now (reals .entry))) (liveFrom 0 (now (nums .entry)))) (now (boxes .entry)) ⌝ }
-    ensures objs { λ _. ⌜ now (objs .exit) ≡ written (map (objAt (now (nums .entry))) (liveFrom 0 (now (nums .entry)))) (now (objs .entry)) ⌝ }
+    ensures boxes { λ _. ⌜ is boxes ≡ written (map (boxAt (was reals)) (liveFrom 0 (was nums))) (was boxes) ⌝ }
+    ensures objs { λ _. ⌜ is objs ≡ written (map (objAt (was nums)) (liveFrom 0 (was nums))) (was objs) ⌝ }
 {
     let mut k = 0;
     let mut i = 0;
@@ -48,8 +49,8 @@ fn put_boxes(nums: &[[u32; 4]], reals: &[[f32; 4]], boxes: &mut [[f32; 4]], objs
 // Every live slot is emptied, and no entry is in use.
 fn empty_all(nums: &mut [[u32; 4]], map: &mut [u64])
     requires { ⌜ length (now map) ≡ 3 + wordsFor (length (now nums)) ⌝ }
-    ensures nums { λ _. ⌜ now (nums .exit) ≡ clearedRows (now (nums .entry)) ⌝ }
-    ensures map { λ _. ⌜ now (map .exit) ≡ counting (clearedMap 0 (now (nums .entry)) (now (map .entry))) 0 ⌝ }
+    ensures nums { λ _. ⌜ is nums ≡ clearedRows (was nums) ⌝ }
+    ensures map { λ _. ⌜ is map ≡ counting (clearedMap 0 (was nums) (was map)) 0 ⌝ }
 {
     slot_walks::empty_slots(nums, map);
     map[1] = 0;
@@ -65,7 +66,7 @@ pub fn clear(
     objs: &mut [u32],
 ) -> Count
     requires { ⌜ held ≡ holds (lent nums reals map pool) ⌝ }
-    ensures { λ r. ⌜ outcome (wrote r (now (boxes .exit)) (now (objs .exit))) (after nums reals map pool) ≡ clearOf (before nums reals map pool) (now (boxes .entry)) (now (objs .entry)) ⌝ }
+    ensures { λ r. ⌜ outcome (wrote r (is boxes) (is objs)) (after nums reals map pool) ≡ clearOf (before nums reals map pool) (was boxes) (was objs) ⌝ }
 {
     let c = list_answer(nums, held, least(boxes.len(), objs.len()));
     if c.answer != 0 {

@@ -3,15 +3,17 @@ ghost use mathlib.Core.Path.{_≡_};
 ghost use mathlib.Core.Bool.{true};
 ghost use Prim.Native.Nat.{_≤_};
 ghost use lib.ListN.{length};
+ghost use Rattle.basics.specs.Lent.{was, is};
 ghost use Rattle.box_tables.specs.Lent.{before, lent};
 ghost use Rattle.box_tables.specs.Decide.{holds};
 ghost use Rattle.slot_walks.specs.Live.{liveFrom};
 ghost use Rattle.box_reads.specs.Live.{countBy};
-ghost use Rattle.box_reads.specs.Reads.{zero-aabb, got, getOf, lenOf, handlesOf, listing};
+ghost use Rattle.box_reads.specs.Reads.{got, getOf, lenOf, handlesOf, listing};
 use geometry::Aabb;
 use geometry::Position;
 use replies::Count;
 use slots::Handle;
+ghost use Rattle.geometry.specs.Zero.{zero-aabb};
 
 mod clearing;
 
@@ -92,7 +94,7 @@ pub fn len(
 // The answer of a call that writes a row for each object into outputs of so many places, with the number of objects.
 fn list_answer(nums: &[[u32; 4]], held: bool, room: usize) -> Count
     requires { ⌜ (held ≡ true → length (now nums) ≤ 256) ⌝ }
-    ensures { λ r. ⌜ r ≡ countBy held (length (liveFrom 0 (now (nums .entry)))) room ⌝ }
+    ensures { λ r. ⌜ r ≡ countBy held (length (liveFrom 0 (was nums))) room ⌝ }
 {
     if !held {
         return Count {
@@ -123,7 +125,7 @@ pub fn handles(
     out: &mut [[u32; 2]],
 ) -> Count
     requires { ⌜ held ≡ holds (lent nums reals map pool) ⌝ }
-    ensures { λ r. ⌜ listing r (now (out .exit)) ≡ handlesOf (before nums reals map pool) (now (out .entry)) ⌝ }
+    ensures { λ r. ⌜ listing r (is out) ≡ handlesOf (before nums reals map pool) (was out) ⌝ }
 {
     let c = list_answer(nums, held, out.len());
     if c.answer != 0 {

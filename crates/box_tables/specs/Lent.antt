@@ -3,15 +3,11 @@ use Prim.Native.Nat.{ℕ}
 use mathlib.Core.List.{List}
 use lib.Ieee.{Float}
 use denote.Ref.{RefT, now}
-use denote.Triple.Both.{Both}
+use Rattle.basics.specs.Lent.{Lent}
 use Rattle.box_tables.specs.Tables.{Tables, tables}
 
 abbrev pub lent : RefT (List (List ℕ)) → RefT (List (List Float)) → RefT (List ℕ) → RefT (List (List ℕ)) → Tables
 lent a b c d = tables (now a) (now b) (now c) (now d)
-
--- ---- a parameter in an `ensures` is a pair, what it was and what it is; behind a `&` the two are the same
-abbrev Lent : Type 0 → Type 0
-Lent A = Both (RefT A) (RefT A)
 
 abbrev pub before : Lent (List (List ℕ)) → Lent (List (List Float)) → Lent (List ℕ) → Lent (List (List ℕ)) → Tables
 before a b c d = lent (a .entry) (b .entry) (c .entry) (d .entry)

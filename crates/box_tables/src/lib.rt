@@ -4,6 +4,7 @@ ghost use mathlib.Core.Bool.{true, false};
 ghost use Prim.Native.Nat.{_+_, _/_, _≤_, _<_};
 ghost use lib.Dec.{T};
 ghost use lib.ListN.{length, getD};
+ghost use Rattle.basics.specs.Lent.{was, is};
 ghost use Rattle.basics.specs.Says.{Says};
 ghost use Rattle.geometry.specs.Domain.{aabbInDomain};
 ghost use Rattle.cells.specs.Size.{SizeInDomain};
@@ -50,7 +51,7 @@ pub fn lengths_ok(n: usize, reals: usize, map: usize, pool: usize) -> bool
 // The box of slot s.
 pub fn load_box(reals: &[[f32; 4]], s: usize) -> Aabb
     requires { ⌜ s < length (now reals) ⌝ }
-    ensures { λ r. ⌜ r ≡ aabbAt (now (reals .entry)) s ⌝ }
+    ensures { λ r. ⌜ r ≡ aabbAt (was reals) s ⌝ }
 {
     let q = reals[s];
     let ll = Position { x: q[0], y: q[1] };
@@ -120,7 +121,7 @@ fn way_of(s: usize, p: Span) -> [u64; 4]
 // The way of an occupied slot; its step is 0 if the box is not one of a grid.
 fn live_way(reals: &[[f32; 4]], size: u64, s: usize) -> [u64; 4]
     requires { ⌜ (s < length (now reals)) × (s < 256) × SizeInDomain size ⌝ }
-    ensures { λ r. ⌜ Given (BoxOk size (aabbAt (now (reals .entry)) s)) (wayOf s (spanOf size (aabbAt (now (reals .entry)) s))) r ⌝ }
+    ensures { λ r. ⌜ Given (BoxOk size (aabbAt (was reals) s)) (wayOf s (spanOf size (aabbAt (was reals) s))) r ⌝ }
 {
     let b = load_box(reals, s);
     if !geometry::aabb_in_domain(b) {
@@ -136,7 +137,7 @@ fn live_way(reals: &[[f32; 4]], size: u64, s: usize) -> [u64; 4]
 // The way of slot s, on which no key comes if it is not occupied; its step is 0 if the slot does not hold.
 fn slot_way(nums: &[[u32; 4]], reals: &[[f32; 4]], map: &[u64], size: u64, s: usize) -> [u64; 4]
     requires { ⌜ (s < length (now nums)) × (s < length (now reals)) × (s < 256) × SizeInDomain size × (head + s / 64 < length (now map)) ⌝ }
-    ensures { λ r. ⌜ Given (SlotOk (now (nums .entry)) (now (reals .entry)) (now (map .entry)) size s) (wayAt (now (nums .entry)) (now (reals .entry)) size s) r ⌝ }
+    ensures { λ r. ⌜ Given (SlotOk (was nums) (was reals) (was map) size s) (wayAt (was nums) (was reals) size s) r ⌝ }
 {
     let n = nums[s];
     let mapped = slots::is_usable(map, s);
@@ -152,8 +153,8 @@ fn slot_way(nums: &[[u32; 4]], reals: &[[f32; 4]], map: &[u64], size: u64, s: us
 // Whether every slot holds; the ways are then those of the slots.
 fn slots_ok(nums: &[[u32; 4]], reals: &[[f32; 4]], map: &[u64], ways: &mut [[u64; 4]; 256]) -> bool
     requires { ⌜ Room (now nums) (now reals) (now map) × (length (now ways) ≡ 256) ⌝ }
-    ensures says { λ b. ⌜ Says b (SlotsOk (now (nums .entry)) (now (reals .entry)) (now (map .entry))) ⌝ }
-    ensures ways { λ b. ⌜ (b ≡ true → Ways (now (nums .entry)) (now (reals .entry)) (getD (now (map .entry)) 0 0) (now (ways .exit)) (length (now (nums .entry)))) ⌝ }
+    ensures says { λ b. ⌜ Says b (SlotsOk (was nums) (was reals) (was map)) ⌝ }
+    ensures ways { λ b. ⌜ (b ≡ true → Ways (was nums) (was reals) (getD (was map) 0 0) (is ways) (length (was nums))) ⌝ }
 {
     let size = map[0];
     let mut i = 0;
@@ -201,7 +202,7 @@ fn step_on(way: [u64; 4]) -> [u64; 4]
 // Whether nothing is to come on the ways of n slots.
 fn all_met(ways: &[[u64; 4]; 256], n: usize) -> bool
     requires { ⌜ n ≤ 256 ⌝ }
-    ensures { λ b. ⌜ Says b (Met (now (ways .entry)) n) ⌝ }
+    ensures { λ b. ⌜ Says b (Met (was ways) n) ⌝ }
 {
     let mut s = 0;
     while s < n {
@@ -217,7 +218,7 @@ fn all_met(ways: &[[u64; 4]; 256], n: usize) -> bool
 // Whether the entries are in order, each the next on the way of its slot, and all ways are gone to their end.
 fn pool_ok(pool: &[[u64; 2]], n: usize, used: usize, ways: &mut [[u64; 4]; 256]) -> bool
     requires { ⌜ Ready (now pool) (now ways) n used ⌝ }
-    ensures { λ b. ⌜ Says b (Passes (now (pool .entry)) (now (ways .entry)) n used) ⌝ }
+    ensures { λ b. ⌜ Says b (Passes (was pool) (was ways) n used) ⌝ }
 {
     let mut before = 0;
     let mut j = 0;

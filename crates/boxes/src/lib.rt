@@ -1,6 +1,7 @@
 // The public calls of the box grid: src/aabbgrid.rs of the Rust. Each checks the tables first and answers by document 01's numbers, listed
 // with each call in their order. No call has a `requires`, and a refused call changes no table and no output.
 ghost use mathlib.Core.Path.{_≡_};
+ghost use Rattle.basics.specs.Lent.{was, is};
 ghost use Rattle.box_tables.specs.Lent.{after, before};
 ghost use Rattle.box_tables.specs.Outcome.{outcome};
 ghost use Rattle.box_inserts.specs.New.{newOf};
@@ -84,7 +85,7 @@ pub fn clear(
     boxes: &mut [[f32; 4]],
     objs: &mut [u32],
 ) -> Count
-    ensures { λ r. ⌜ outcome (wrote r (now (boxes .exit)) (now (objs .exit))) (after nums reals map pool) ≡ clearOf (before nums reals map pool) (now (boxes .entry)) (now (objs .entry)) ⌝ }
+    ensures { λ r. ⌜ outcome (wrote r (is boxes) (is objs)) (after nums reals map pool) ≡ clearOf (before nums reals map pool) (was boxes) (was objs) ⌝ }
 {
     let held = box_tables::check(nums, reals, map, pool);
     box_reads::clear(nums, reals, map, pool, held, boxes, objs)
@@ -114,7 +115,7 @@ pub fn handles(
     pool: &[[u64; 2]],
     out: &mut [[u32; 2]],
 ) -> Count
-    ensures { λ r. ⌜ listing r (now (out .exit)) ≡ handlesOf (before nums reals map pool) (now (out .entry)) ⌝ }
+    ensures { λ r. ⌜ listing r (is out) ≡ handlesOf (before nums reals map pool) (was out) ⌝ }
 {
     let held = box_tables::check(nums, reals, map, pool);
     box_reads::handles(nums, reals, map, pool, held, out)
@@ -129,7 +130,7 @@ pub fn query_broad(
     q: Aabb,
     found: &mut [[u32; 2]],
 ) -> Count
-    ensures { λ r. ⌜ Queries.handlesOf r (now (found .exit)) ≡ broadOf (before nums reals map pool) q (now (found .entry)) ⌝ }
+    ensures { λ r. ⌜ Queries.handlesOf r (is found) ≡ broadOf (before nums reals map pool) q (was found) ⌝ }
 {
     let held = box_tables::check(nums, reals, map, pool);
     box_queries::query_broad(nums, reals, map, pool, held, q, found)
@@ -146,7 +147,7 @@ pub fn query(
     boxes: &mut [[f32; 4]],
     objs: &mut [u32],
 ) -> Count
-    ensures { λ r. ⌜ findings r (now (found .exit)) (now (boxes .exit)) (now (objs .exit)) ≡ queryOf (before nums reals map pool) q (now (found .entry)) (now (boxes .entry)) (now (objs .entry)) ⌝ }
+    ensures { λ r. ⌜ findings r (is found) (is boxes) (is objs) ≡ queryOf (before nums reals map pool) q (was found) (was boxes) (was objs) ⌝ }
 {
     let held = box_tables::check(nums, reals, map, pool);
     box_queries::query(nums, reals, map, pool, held, q, found, boxes, objs)

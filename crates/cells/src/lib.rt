@@ -13,7 +13,7 @@ ghost use Rattle.cells.specs.CellRule.{wholeOf, cellOf, cellAt, Reached}
 ghost use Rattle.cells.specs.Span.{inSpan, Spans, LastBelow, FirstFrom};
 ghost use Rattle.cells.specs.Numbers.{Near};
 ghost use Rattle.cells.specs.Range.{countFrom, cellsIn};
-ghost use Rattle.cells.specs.Key.{upward, downward, keyOf, columnOf, rowOf, cellOfKey};
+ghost use Rattle.cells.specs.Key.{upward, downward, keyOf, columnOf, lineOf, cellOfKey};
 use geometry::Position;
 
 pub struct Cell {
@@ -279,7 +279,7 @@ pub fn column_of(key: u64) -> u64
 }
 
 pub fn row_of(key: u64) -> u64
-    ensures { λ r. ⌜ r ≡ rowOf key ⌝ }
+    ensures { λ r. ⌜ r ≡ lineOf key ⌝ }
 {
     key / 4294967296
 }

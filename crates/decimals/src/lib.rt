@@ -5,6 +5,7 @@ ghost use Prim.Native.Nat.{_+_, _-_, _≤_, _<_};
 ghost use lib.ListN.{length};
 ghost use lib.Seq.{slice};
 ghost use lib.IntN.{natAbs};
+ghost use Rattle.basics.specs.Lent.{was, is};
 ghost use Rattle.decimals.specs.Text.{decimal, signedText};
 ghost use Rattle.decimals.specs.Fields.{digitsFrom, upTo, numberOf, countOf, Short, plain as Fields·plain, negative as Fields·negative};
 ghost use Rattle.decimals.specs.Written.{written, put};
@@ -31,7 +32,7 @@ fn digit(c: u8) -> u64
 // The digits of b from `from` to `to`, none of which takes the number past `most`.
 fn read_digits(b: &[u8], from: usize, to: usize, most: u32) -> Number
     requires { ⌜ (from ≤ to) × (to ≤ length (now b)) ⌝ }
-    ensures { λ r. ⌜ r ≡ digitsFrom most 0 (slice from to (now (b .entry))) ⌝ }
+    ensures { λ r. ⌜ r ≡ digitsFrom most 0 (slice from to (was b)) ⌝ }
 {
     let limit = most as u64;
     let mut v: u64 = 0;
@@ -57,7 +58,7 @@ fn read_digits(b: &[u8], from: usize, to: usize, most: u32) -> Number
 // The number up to `most` in the bytes of b from `from` to `to`.
 fn read_up_to(b: &[u8], from: usize, to: usize, most: u32) -> Number
     requires { ⌜ (from ≤ to) × (to ≤ length (now b)) ⌝ }
-    ensures { λ r. ⌜ r ≡ upTo most (slice from to (now (b .entry))) ⌝ }
+    ensures { λ r. ⌜ r ≡ upTo most (slice from to (was b)) ⌝ }
 {
     if from == to {
         return Number::Unreadable;
@@ -73,7 +74,7 @@ fn read_up_to(b: &[u8], from: usize, to: usize, most: u32) -> Number
 // The number in the bytes of b from `from` to `to`.
 pub fn read_number(b: &[u8], from: usize, to: usize) -> Number
     requires { ⌜ (from ≤ to) × (to ≤ length (now b)) ⌝ }
-    ensures { λ r. ⌜ r ≡ numberOf (slice from to (now (b .entry))) ⌝ }
+    ensures { λ r. ⌜ r ≡ numberOf (slice from to (was b)) ⌝ }
 {
     read_up_to(b, from, to, 4294967295)
 }
@@ -108,7 +109,7 @@ fn negative(n: Number) -> Count
 // The count of sixteenths in the bytes of b from `from` to `to`.
 pub fn read_count(b: &[u8], from: usize, to: usize) -> Count
     requires { ⌜ (from ≤ to) × (to ≤ length (now b)) ⌝ }
-    ensures { λ r. ⌜ r ≡ countOf (slice from to (now (b .entry))) ⌝ }
+    ensures { λ r. ⌜ r ≡ countOf (slice from to (was b)) ⌝ }
 {
     if from == to {
         return Count::NoCount;
@@ -122,7 +123,7 @@ pub fn read_count(b: &[u8], from: usize, to: usize) -> Count
 // One byte at `at`, as all that is written here: answers where the next one goes.
 pub fn put_byte(out: &mut [u8], at: usize, c: u8) -> usize
     requires { ⌜ at < length (now out) ⌝ }
-    ensures { λ r. ⌜ written (now (out .exit)) r ≡ put (written (now (out .entry)) at) (c ∷ []) ⌝ }
+    ensures { λ r. ⌜ written (is out) r ≡ put (written (was out) at) (c ∷ []) ⌝ }
 {
     out[at] = c;
     at + 1
@@ -138,7 +139,7 @@ fn digit_of(d: u32) -> u8
 // The digits of n.
 fn put_digits(out: &mut [u8], at: usize, n: u32) -> usize
     requires { ⌜ at + length (decimal n) ≤ length (now out) ⌝ }
-    ensures { λ r. ⌜ written (now (out .exit)) r ≡ put (written (now (out .entry)) at) (decimal n) ⌝ }
+    ensures { λ r. ⌜ written (is out) r ≡ put (written (was out) at) (decimal n) ⌝ }
 {
     let last = digit_of(n % 10);
     if n < 10 {
@@ -151,7 +152,7 @@ fn put_digits(out: &mut [u8], at: usize, n: u32) -> usize
 // n in decimal. The longest text has 10 digits.
 pub fn put_number(out: &mut [u8], at: usize, n: u32) -> usize
     requires { ⌜ at + 10 ≤ length (now out) ⌝ }
-    ensures { λ r. ⌜ written (now (out .exit)) r ≡ put (written (now (out .entry)) at) (decimal n) ⌝ }
+    ensures { λ r. ⌜ written (is out) r ≡ put (written (was out) at) (decimal n) ⌝ }
 {
     put_digits(out, at, n)
 }
@@ -168,7 +169,7 @@ fn magnitude(k: i32) -> u32
 // k in decimal. The longest text has a minus and 10 digits.
 pub fn put_count(out: &mut [u8], at: usize, k: i32) -> usize
     requires { ⌜ at + 11 ≤ length (now out) ⌝ }
-    ensures { λ r. ⌜ written (now (out .exit)) r ≡ put (written (now (out .entry)) at) (signedText k) ⌝ }
+    ensures { λ r. ⌜ written (is out) r ≡ put (written (was out) at) (signedText k) ⌝ }
 {
     if k < 0 {
         let next = put_byte(out, at, 45);

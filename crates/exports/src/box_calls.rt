@@ -1,5 +1,6 @@
 // The calls of the box grid for C and Rust: each is the call of `boxes` with its numbers taken apart, and has its promise.
 ghost use mathlib.Core.Path.{_≡_};
+ghost use Rattle.basics.specs.Lent.{was, is};
 ghost use Rattle.box_tables.specs.Lent.{after, before};
 ghost use Rattle.box_tables.specs.Outcome.{outcome};
 ghost use Rattle.box_inserts.specs.New.{newOf};
@@ -125,7 +126,7 @@ pub extern "C" fn chavrupas_boxes_clear(
     boxes: &mut [[f32; 4]],
     objs: &mut [u32],
 ) -> Count
-    ensures { λ r. ⌜ outcome (wrote (count (r .answer) (r .count)) (now (boxes .exit)) (now (objs .exit))) (after nums reals map pool) ≡ clearOf (before nums reals map pool) (now (boxes .entry)) (now (objs .entry)) ⌝ }
+    ensures { λ r. ⌜ outcome (wrote (count (r .answer) (r .count)) (is boxes) (is objs)) (after nums reals map pool) ≡ clearOf (before nums reals map pool) (was boxes) (was objs) ⌝ }
 {
     let r = boxes::clear(nums, reals, map, pool, boxes, objs);
     Count {
@@ -183,7 +184,7 @@ pub extern "C" fn chavrupas_boxes_handles(
     pool: &[[u64; 2]],
     out: &mut [[u32; 2]],
 ) -> Count
-    ensures { λ r. ⌜ listing (count (r .answer) (r .count)) (now (out .exit)) ≡ handlesOf (before nums reals map pool) (now (out .entry)) ⌝ }
+    ensures { λ r. ⌜ listing (count (r .answer) (r .count)) (is out) ≡ handlesOf (before nums reals map pool) (was out) ⌝ }
 {
     let r = boxes::handles(nums, reals, map, pool, out);
     Count {
@@ -205,7 +206,7 @@ pub extern "C" fn chavrupas_boxes_query_broad(
     high: f32,
     found: &mut [[u32; 2]],
 ) -> Count
-    ensures { λ r. ⌜ Queries.handlesOf (count (r .answer) (r .count)) (now (found .exit)) ≡ broadOf (before nums reals map pool) (aabb left low right high) (now (found .entry)) ⌝ }
+    ensures { λ r. ⌜ Queries.handlesOf (count (r .answer) (r .count)) (is found) ≡ broadOf (before nums reals map pool) (aabb left low right high) (was found) ⌝ }
 {
     let r = boxes::query_broad(
         nums,
@@ -239,7 +240,7 @@ pub extern "C" fn chavrupas_boxes_query(
     boxes: &mut [[f32; 4]],
     objs: &mut [u32],
 ) -> Count
-    ensures { λ r. ⌜ findings (count (r .answer) (r .count)) (now (found .exit)) (now (boxes .exit)) (now (objs .exit)) ≡ queryOf (before nums reals map pool) (aabb left low right high) (now (found .entry)) (now (boxes .entry)) (now (objs .entry)) ⌝ }
+    ensures { λ r. ⌜ findings (count (r .answer) (r .count)) (is found) (is boxes) (is objs) ≡ queryOf (before nums reals map pool) (aabb left low right high) (was found) (was boxes) (was objs) ⌝ }
 {
     let r = boxes::query(
         nums,

@@ -1,5 +1,6 @@
 // The calls of the point grid for C and Rust: each is the call of `points` with its numbers taken apart, and has its promise.
 ghost use mathlib.Core.Path.{_≡_};
+ghost use Rattle.basics.specs.Lent.{was, is};
 ghost use Rattle.point_tables.specs.Lent.{after, before};
 ghost use Rattle.point_tables.specs.Outcome.{outcome};
 ghost use Rattle.inserts.specs.New.{newOf};
@@ -149,7 +150,7 @@ pub extern "C" fn chavrupas_points_batch(
     positions: &[[f32; 2]],
     out: &mut [[u32; 2]],
 ) -> BatchReply
-    ensures { λ r. ⌜ outcome (batched (r .answer) (r .count) (now (out .exit))) (after nums reals ints map pool spots cells) ≡ batchOf (before nums reals ints map pool spots cells) (now (kinds .entry)) (now (handles .entry)) (now (positions .entry)) (now (out .entry)) ⌝ }
+    ensures { λ r. ⌜ outcome (batched (r .answer) (r .count) (is out)) (after nums reals ints map pool spots cells) ≡ batchOf (before nums reals ints map pool spots cells) (was kinds) (was handles) (was positions) (was out) ⌝ }
 {
     let r = points::batch(
         nums,
@@ -235,7 +236,7 @@ pub extern "C" fn chavrupas_points_clear(
     places: &mut [[f32; 2]],
     objs: &mut [u32],
 ) -> Count
-    ensures { λ r. ⌜ outcome (wrote (count (r .answer) (r .count)) (now (places .exit)) (now (objs .exit))) (after nums reals ints map pool spots cells) ≡ clearOf (before nums reals ints map pool spots cells) (now (places .entry)) (now (objs .entry)) ⌝ }
+    ensures { λ r. ⌜ outcome (wrote (count (r .answer) (r .count)) (is places) (is objs)) (after nums reals ints map pool spots cells) ≡ clearOf (before nums reals ints map pool spots cells) (was places) (was objs) ⌝ }
 {
     let r = points::clear(nums, reals, ints, map, pool, spots, cells, places, objs);
     Count {
@@ -309,7 +310,7 @@ pub extern "C" fn chavrupas_points_handles(
     cells: &[[u64; 2]],
     out: &mut [[u32; 2]],
 ) -> Count
-    ensures { λ r. ⌜ listing (count (r .answer) (r .count)) (now (out .exit)) ≡ handlesOf (before nums reals ints map pool spots cells) (now (out .entry)) ⌝ }
+    ensures { λ r. ⌜ listing (count (r .answer) (r .count)) (is out) ≡ handlesOf (before nums reals ints map pool spots cells) (was out) ⌝ }
 {
     let r = points::handles(nums, reals, ints, map, pool, spots, cells, out);
     Count {
@@ -335,7 +336,7 @@ pub extern "C" fn chavrupas_points_query(
     found: &mut [[u32; 2]],
     places: &mut [[f32; 2]],
 ) -> Count
-    ensures { λ r. ⌜ findings (count (r .answer) (r .count)) (now (found .exit)) (now (places .exit)) ≡ queryOf (before nums reals ints map pool spots cells) (position left low) (position right high) (now (found .entry)) (now (places .entry)) ⌝ }
+    ensures { λ r. ⌜ findings (count (r .answer) (r .count)) (is found) (is places) ≡ queryOf (before nums reals ints map pool spots cells) (position left low) (position right high) (was found) (was places) ⌝ }
 {
     let r = points::query(
         nums,
@@ -372,7 +373,7 @@ pub extern "C" fn chavrupas_points_query_around(
     found: &mut [[u32; 2]],
     places: &mut [[f32; 2]],
 ) -> Count
-    ensures { λ r. ⌜ findings (count (r .answer) (r .count)) (now (found .exit)) (now (places .exit)) ≡ aroundOf (before nums reals ints map pool spots cells) (position x y) radius (now (found .entry)) (now (places .entry)) ⌝ }
+    ensures { λ r. ⌜ findings (count (r .answer) (r .count)) (is found) (is places) ≡ aroundOf (before nums reals ints map pool spots cells) (position x y) radius (was found) (was places) ⌝ }
 {
     let r = points::query_around(
         nums,
@@ -410,7 +411,7 @@ pub extern "C" fn chavrupas_points_query_aabb(
     found: &mut [[u32; 2]],
     places: &mut [[f32; 2]],
 ) -> Count
-    ensures { λ r. ⌜ findings (count (r .answer) (r .count)) (now (found .exit)) (now (places .exit)) ≡ aabbOf (before nums reals ints map pool spots cells) (position left low) (position right high) (now (found .entry)) (now (places .entry)) ⌝ }
+    ensures { λ r. ⌜ findings (count (r .answer) (r .count)) (is found) (is places) ≡ aabbOf (before nums reals ints map pool spots cells) (position left low) (position right high) (was found) (was places) ⌝ }
 {
     let r = points::query_aabb(
         nums,

@@ -3,6 +3,7 @@ ghost use mathlib.Core.Path.{_≡_};
 ghost use mathlib.Core.Bool.{true};
 ghost use Prim.Native.Nat.{_+_, _/_, _≤_, _<_};
 ghost use lib.ListN.{length, set};
+ghost use Rattle.basics.specs.Lent.{was, is};
 ghost use Rattle.geometry.specs.Domain.{positionInDomain};
 ghost use Rattle.slots.specs.declared.Usable.the-variants.{At};
 ghost use Rattle.slots.specs.Map.{wordsFor, taken, lowestUsable, NonePast};
@@ -34,7 +35,7 @@ struct Choice {
 // The first refusal that applies, or the lowest usable slot.
 fn choose(nums: &[[u32; 4]], map: &[u64], held: bool, at: Position) -> Choice
     requires { ⌜ (held ≡ true → (length (now map) ≡ 3 + wordsFor (length (now nums))) × (length (now nums) ≤ 4096) × NonePast (now map) (length (now nums))) ⌝ }
-    ensures { λ r. ⌜ (r .answer ≡ answerBy held (positionInDomain at) (lowestUsable (now (map .entry)) (length (now (nums .entry))))) × (r .answer ≡ 0 → lowestUsable (now (map .entry)) (length (now (nums .entry))) ≡ At (r .slot)) ⌝ }
+    ensures { λ r. ⌜ (r .answer ≡ answerBy held (positionInDomain at) (lowestUsable (was map) (length (was nums)))) × (r .answer ≡ 0 → lowestUsable (was map) (length (was nums)) ≡ At (r .slot)) ⌝ }
 {
     if !held {
         return Choice { answer: 3, slot: 0 };
@@ -52,7 +53,7 @@ fn choose(nums: &[[u32; 4]], map: &[u64], held: bool, at: Position) -> Choice
 // The object is in slot s, at the version that the slot has.
 fn accepted(nums: &[[u32; 4]], s: usize) -> Inserted
     requires { ⌜ (s < length (now nums)) × (length (now nums) ≤ 4096) ⌝ }
-    ensures { λ r. ⌜ r ≡ inserted 0 s (versionAt (now (nums .entry)) s) ⌝ }
+    ensures { λ r. ⌜ r ≡ inserted 0 s (versionAt (was nums) s) ⌝ }
 {
     let row = nums[s];
     let version = row[0];
@@ -90,7 +91,7 @@ fn occupy(
     obj: u32,
 )
     requires { ⌜ (s < length (now nums)) × (s < length (now reals)) × (s < length (now ints)) ⌝ }
-    ensures { λ _. ⌜ (now (nums .exit) ≡ set (now (nums .entry)) s (numsOf (freshRecord (versionAt (now (nums .entry)) s) at cell obj))) × (now (reals .exit) ≡ set (now (reals .entry)) s (realsOf (freshRecord (versionAt (now (nums .entry)) s) at cell obj))) × (now (ints .exit) ≡ set (now (ints .entry)) s (intsOf (freshRecord (versionAt (now (nums .entry)) s) at cell obj))) ⌝ }
+    ensures { λ _. ⌜ (is nums ≡ set (was nums) s (numsOf (freshRecord (versionAt (was nums) s) at cell obj))) × (is reals ≡ set (was reals) s (realsOf (freshRecord (versionAt (was nums) s) at cell obj))) × (is ints ≡ set (was ints) s (intsOf (freshRecord (versionAt (was nums) s) at cell obj))) ⌝ }
 {
     let row = nums[s];
     let r = fresh_record(row[0], at, cell, obj);
@@ -100,7 +101,7 @@ fn occupy(
 // The map has slot s no more, and its head words have the counts.
 fn count(map: &mut [u64], s: usize, used: usize, rows: usize)
     requires { ⌜ 3 + s / 64 < length (now map) ⌝ }
-    ensures { λ _. ⌜ now (map .exit) ≡ counting (taken (now (map .entry)) s) used rows ⌝ }
+    ensures { λ _. ⌜ is map ≡ counting (taken (was map) s) used rows ⌝ }
 {
     slots::take(map, s);
     map[1] = basics::word_of(used);

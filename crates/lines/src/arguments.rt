@@ -2,6 +2,7 @@
 ghost use mathlib.Core.Path.{_≡_};
 ghost use Prim.Native.Nat.{_≤_};
 ghost use lib.ListN.{length};
+ghost use Rattle.basics.specs.Lent.{was};
 ghost use Rattle.lines.specs.Taken.{taken};
 ghost use Rattle.lines.specs.Requests.{argumentsOf, whole as Requests·whole};
 ghost use Rattle.lines.specs.Cursor.{fieldsFrom};
@@ -20,7 +21,7 @@ use crate::fields::take_spots;
 
 // The request, if no field is left.
 fn whole(b: &[u8], at: usize, r: Request) -> Request
-    ensures { λ q. ⌜ q ≡ Requests·whole (taken r (fieldsFrom (now (b .entry)) at)) ⌝ }
+    ensures { λ q. ⌜ q ≡ Requests·whole (taken r (fieldsFrom (was b) at)) ⌝ }
 {
     if b.len() < at {
         return r;
@@ -30,7 +31,7 @@ fn whole(b: &[u8], at: usize, r: Request) -> Request
 
 fn cell(b: &[u8], at: usize) -> Request
     requires { ⌜ length (now b) ≤ 128 ⌝ }
-    ensures { λ r. ⌜ r ≡ Requests·whole (argumentsOf Keyword.Cell (fieldsFrom (now (b .entry)) at)) ⌝ }
+    ensures { λ r. ⌜ r ≡ Requests·whole (argumentsOf Keyword.Cell (fieldsFrom (was b) at)) ⌝ }
 {
     let first = take_number(b, at);
     let TakenNumber::At(s, end) = first else {
@@ -41,7 +42,7 @@ fn cell(b: &[u8], at: usize) -> Request
 
 fn ins(b: &[u8], at: usize) -> Request
     requires { ⌜ length (now b) ≤ 128 ⌝ }
-    ensures { λ r. ⌜ r ≡ Requests·whole (argumentsOf Keyword.Ins (fieldsFrom (now (b .entry)) at)) ⌝ }
+    ensures { λ r. ⌜ r ≡ Requests·whole (argumentsOf Keyword.Ins (fieldsFrom (was b) at)) ⌝ }
 {
     let first = take_spot(b, at);
     let TakenSpot::At(p, next) = first else {
@@ -56,7 +57,7 @@ fn ins(b: &[u8], at: usize) -> Request
 
 fn pos(b: &[u8], at: usize) -> Request
     requires { ⌜ length (now b) ≤ 128 ⌝ }
-    ensures { λ r. ⌜ r ≡ Requests·whole (argumentsOf Keyword.Pos (fieldsFrom (now (b .entry)) at)) ⌝ }
+    ensures { λ r. ⌜ r ≡ Requests·whole (argumentsOf Keyword.Pos (fieldsFrom (was b) at)) ⌝ }
 {
     let first = take_handle(b, at);
     let TakenHandle::At(h, next) = first else {
@@ -71,7 +72,7 @@ fn pos(b: &[u8], at: usize) -> Request
 
 fn rem(b: &[u8], at: usize) -> Request
     requires { ⌜ length (now b) ≤ 128 ⌝ }
-    ensures { λ r. ⌜ r ≡ Requests·whole (argumentsOf Keyword.Rem (fieldsFrom (now (b .entry)) at)) ⌝ }
+    ensures { λ r. ⌜ r ≡ Requests·whole (argumentsOf Keyword.Rem (fieldsFrom (was b) at)) ⌝ }
 {
     let first = take_handle(b, at);
     let TakenHandle::At(h, end) = first else {
@@ -82,7 +83,7 @@ fn rem(b: &[u8], at: usize) -> Request
 
 fn now(b: &[u8], at: usize) -> Request
     requires { ⌜ length (now b) ≤ 128 ⌝ }
-    ensures { λ r. ⌜ r ≡ Requests·whole (argumentsOf Keyword.Now (fieldsFrom (now (b .entry)) at)) ⌝ }
+    ensures { λ r. ⌜ r ≡ Requests·whole (argumentsOf Keyword.Now (fieldsFrom (was b) at)) ⌝ }
 {
     let first = take_handle(b, at);
     let TakenHandle::At(h, end) = first else {
@@ -93,7 +94,7 @@ fn now(b: &[u8], at: usize) -> Request
 
 fn cir(b: &[u8], at: usize) -> Request
     requires { ⌜ length (now b) ≤ 128 ⌝ }
-    ensures { λ r. ⌜ r ≡ Requests·whole (argumentsOf Keyword.Cir (fieldsFrom (now (b .entry)) at)) ⌝ }
+    ensures { λ r. ⌜ r ≡ Requests·whole (argumentsOf Keyword.Cir (fieldsFrom (was b) at)) ⌝ }
 {
     let first = take_spot(b, at);
     let TakenSpot::At(p, next) = first else {
@@ -108,7 +109,7 @@ fn cir(b: &[u8], at: usize) -> Request
 
 fn rec(b: &[u8], at: usize) -> Request
     requires { ⌜ length (now b) ≤ 128 ⌝ }
-    ensures { λ r. ⌜ r ≡ Requests·whole (argumentsOf Keyword.Rec (fieldsFrom (now (b .entry)) at)) ⌝ }
+    ensures { λ r. ⌜ r ≡ Requests·whole (argumentsOf Keyword.Rec (fieldsFrom (was b) at)) ⌝ }
 {
     let first = take_spots(b, at);
     let TakenSpots::At(p, q, end) = first else {
@@ -119,7 +120,7 @@ fn rec(b: &[u8], at: usize) -> Request
 
 fn cel(b: &[u8], at: usize) -> Request
     requires { ⌜ length (now b) ≤ 128 ⌝ }
-    ensures { λ r. ⌜ r ≡ Requests·whole (argumentsOf Keyword.Cel (fieldsFrom (now (b .entry)) at)) ⌝ }
+    ensures { λ r. ⌜ r ≡ Requests·whole (argumentsOf Keyword.Cel (fieldsFrom (was b) at)) ⌝ }
 {
     let first = take_spots(b, at);
     let TakenSpots::At(p, q, end) = first else {
@@ -130,7 +131,7 @@ fn cel(b: &[u8], at: usize) -> Request
 
 fn bin(b: &[u8], at: usize) -> Request
     requires { ⌜ length (now b) ≤ 128 ⌝ }
-    ensures { λ r. ⌜ r ≡ Requests·whole (argumentsOf Keyword.Bin (fieldsFrom (now (b .entry)) at)) ⌝ }
+    ensures { λ r. ⌜ r ≡ Requests·whole (argumentsOf Keyword.Bin (fieldsFrom (was b) at)) ⌝ }
 {
     let first = take_spots(b, at);
     let TakenSpots::At(p, q, next) = first else {
@@ -145,7 +146,7 @@ fn bin(b: &[u8], at: usize) -> Request
 
 fn bset(b: &[u8], at: usize) -> Request
     requires { ⌜ length (now b) ≤ 128 ⌝ }
-    ensures { λ r. ⌜ r ≡ Requests·whole (argumentsOf Keyword.Bset (fieldsFrom (now (b .entry)) at)) ⌝ }
+    ensures { λ r. ⌜ r ≡ Requests·whole (argumentsOf Keyword.Bset (fieldsFrom (was b) at)) ⌝ }
 {
     let first = take_handle(b, at);
     let TakenHandle::At(h, next) = first else {
@@ -160,7 +161,7 @@ fn bset(b: &[u8], at: usize) -> Request
 
 fn brem(b: &[u8], at: usize) -> Request
     requires { ⌜ length (now b) ≤ 128 ⌝ }
-    ensures { λ r. ⌜ r ≡ Requests·whole (argumentsOf Keyword.Brem (fieldsFrom (now (b .entry)) at)) ⌝ }
+    ensures { λ r. ⌜ r ≡ Requests·whole (argumentsOf Keyword.Brem (fieldsFrom (was b) at)) ⌝ }
 {
     let first = take_handle(b, at);
     let TakenHandle::At(h, end) = first else {
@@ -171,7 +172,7 @@ fn brem(b: &[u8], at: usize) -> Request
 
 fn bqry(b: &[u8], at: usize) -> Request
     requires { ⌜ length (now b) ≤ 128 ⌝ }
-    ensures { λ r. ⌜ r ≡ Requests·whole (argumentsOf Keyword.Bqry (fieldsFrom (now (b .entry)) at)) ⌝ }
+    ensures { λ r. ⌜ r ≡ Requests·whole (argumentsOf Keyword.Bqry (fieldsFrom (was b) at)) ⌝ }
 {
     let first = take_spots(b, at);
     let TakenSpots::At(p, q, end) = first else {
@@ -183,7 +184,7 @@ fn bqry(b: &[u8], at: usize) -> Request
 // What is behind the word.
 pub fn arguments(k: Keyword, b: &[u8], at: usize) -> Request
     requires { ⌜ length (now b) ≤ 128 ⌝ }
-    ensures { λ r. ⌜ r ≡ Requests·whole (argumentsOf k (fieldsFrom (now (b .entry)) at)) ⌝ }
+    ensures { λ r. ⌜ r ≡ Requests·whole (argumentsOf k (fieldsFrom (was b) at)) ⌝ }
 {
     match k {
         Keyword::Cell => cell(b, at),

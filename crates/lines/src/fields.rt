@@ -2,6 +2,7 @@
 ghost use mathlib.Core.Path.{_≡_};
 ghost use Prim.Native.Nat.{_≤_};
 ghost use lib.ListN.{length};
+ghost use Rattle.basics.specs.Lent.{was};
 ghost use Rattle.lines.specs.Taken.{takeNumber, takeCount, takeSpot, takeSpots, takeHandle};
 ghost use Rattle.lines.specs.Cursor.{endFrom, fieldsFrom, numberTaken, countTaken, spotTaken, spotsTaken, handleTaken};
 use crate::Spot;
@@ -17,7 +18,7 @@ use slots::Handle;
 // Where the field that begins at `at` ends: at a comma, or with the record.
 pub fn field_end(b: &[u8], at: usize) -> usize
     requires { ⌜ at ≤ length (now b) ⌝ }
-    ensures { λ r. ⌜ r ≡ endFrom (now (b .entry)) at ⌝ }
+    ensures { λ r. ⌜ r ≡ endFrom (was b) at ⌝ }
 {
     let mut i = at;
     while i < b.len() {
@@ -31,7 +32,7 @@ pub fn field_end(b: &[u8], at: usize) -> usize
 
 pub fn take_number(b: &[u8], at: usize) -> TakenNumber
     requires { ⌜ length (now b) ≤ 128 ⌝ }
-    ensures { λ r. ⌜ numberTaken (now (b .entry)) r ≡ takeNumber (fieldsFrom (now (b .entry)) at) ⌝ }
+    ensures { λ r. ⌜ numberTaken (was b) r ≡ takeNumber (fieldsFrom (was b) at) ⌝ }
 {
     if b.len() < at {
         return TakenNumber::Missing;
@@ -46,7 +47,7 @@ pub fn take_number(b: &[u8], at: usize) -> TakenNumber
 
 pub fn take_count(b: &[u8], at: usize) -> TakenCount
     requires { ⌜ length (now b) ≤ 128 ⌝ }
-    ensures { λ r. ⌜ countTaken (now (b .entry)) r ≡ takeCount (fieldsFrom (now (b .entry)) at) ⌝ }
+    ensures { λ r. ⌜ countTaken (was b) r ≡ takeCount (fieldsFrom (was b) at) ⌝ }
 {
     if b.len() < at {
         return TakenCount::Missing;
@@ -61,7 +62,7 @@ pub fn take_count(b: &[u8], at: usize) -> TakenCount
 
 pub fn take_spot(b: &[u8], at: usize) -> TakenSpot
     requires { ⌜ length (now b) ≤ 128 ⌝ }
-    ensures { λ r. ⌜ spotTaken (now (b .entry)) r ≡ takeSpot (fieldsFrom (now (b .entry)) at) ⌝ }
+    ensures { λ r. ⌜ spotTaken (was b) r ≡ takeSpot (fieldsFrom (was b) at) ⌝ }
 {
     let first = take_count(b, at);
     let TakenCount::At(x, next) = first else {
@@ -76,7 +77,7 @@ pub fn take_spot(b: &[u8], at: usize) -> TakenSpot
 
 pub fn take_handle(b: &[u8], at: usize) -> TakenHandle
     requires { ⌜ length (now b) ≤ 128 ⌝ }
-    ensures { λ r. ⌜ handleTaken (now (b .entry)) r ≡ takeHandle (fieldsFrom (now (b .entry)) at) ⌝ }
+    ensures { λ r. ⌜ handleTaken (was b) r ≡ takeHandle (fieldsFrom (was b) at) ⌝ }
 {
     let first = take_number(b, at);
     let TakenNumber::At(slot, next) = first else {
@@ -91,7 +92,7 @@ pub fn take_handle(b: &[u8], at: usize) -> TakenHandle
 
 pub fn take_spots(b: &[u8], at: usize) -> TakenSpots
     requires { ⌜ length (now b) ≤ 128 ⌝ }
-    ensures { λ r. ⌜ spotsTaken (now (b .entry)) r ≡ takeSpots (fieldsFrom (now (b .entry)) at) ⌝ }
+    ensures { λ r. ⌜ spotsTaken (was b) r ≡ takeSpots (fieldsFrom (was b) at) ⌝ }
 {
     let first = take_spot(b, at);
     let TakenSpot::At(p, next) = first else {

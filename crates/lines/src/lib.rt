@@ -2,6 +2,7 @@
 ghost use mathlib.Core.Path.{_≡_};
 ghost use Prim.Native.Nat.{_≤_};
 ghost use lib.ListN.{length, take};
+ghost use Rattle.basics.specs.Lent.{was};
 ghost use Rattle.lines.specs.Requests.{requestOf};
 use slots::Handle;
 
@@ -79,7 +80,7 @@ pub enum TakenHandle {
 // A record that is not too long.
 fn read_short(b: &[u8]) -> Request
     requires { ⌜ length (now b) ≤ 128 ⌝ }
-    ensures { λ r. ⌜ r ≡ requestOf (now (b .entry)) ⌝ }
+    ensures { λ r. ⌜ r ≡ requestOf (was b) ⌝ }
 {
     let end = fields::field_end(b, 0);
     let k = words::word(b, end);
@@ -87,7 +88,7 @@ fn read_short(b: &[u8]) -> Request
 }
 
 fn read_record(b: &[u8]) -> Request
-    ensures { λ r. ⌜ r ≡ requestOf (now (b .entry)) ⌝ }
+    ensures { λ r. ⌜ r ≡ requestOf (was b) ⌝ }
 {
     if 128 < b.len() {
         return Request::Unreadable;
@@ -97,7 +98,7 @@ fn read_record(b: &[u8]) -> Request
 
 // The record that is the first `len` bytes of the line.
 pub fn read(line: &[u8], len: usize) -> Request
-    ensures { λ r. ⌜ r ≡ requestOf (take len (now (line .entry))) ⌝ }
+    ensures { λ r. ⌜ r ≡ requestOf (take len (was line)) ⌝ }
 {
     if len <= line.len() {
         return read_record(&line[..len]);

@@ -2,13 +2,14 @@
 ghost use mathlib.Core.Path.{_≡_};
 ghost use Prim.Native.Nat.{_≤_};
 ghost use lib.ListN.{length, take};
+ghost use Rattle.basics.specs.Lent.{was};
 ghost use Rattle.lines.specs.Words.{sameBytes, boxKeywords, foundIn, wordOf};
 use crate::Keyword;
 
 // Whether the first `end` bytes are the word w.
 fn same(b: &[u8], end: usize, w: &[u8]) -> bool
     requires { ⌜ end ≤ length (now b) ⌝ }
-    ensures { λ r. ⌜ r ≡ sameBytes (take end (now (b .entry))) (now (w .entry)) ⌝ }
+    ensures { λ r. ⌜ r ≡ sameBytes (take end (was b)) (was w) ⌝ }
 {
     if end != w.len() {
         return false;
@@ -26,7 +27,7 @@ fn same(b: &[u8], end: usize, w: &[u8]) -> bool
 // The words about boxes.
 fn box_word(b: &[u8], end: usize) -> Keyword
     requires { ⌜ end ≤ length (now b) ⌝ }
-    ensures { λ r. ⌜ r ≡ foundIn boxKeywords (take end (now (b .entry))) ⌝ }
+    ensures { λ r. ⌜ r ≡ foundIn boxKeywords (take end (was b)) ⌝ }
 {
     if same(b, end, b"bin") {
         return Keyword::Bin;
@@ -45,7 +46,7 @@ fn box_word(b: &[u8], end: usize) -> Keyword
 
 pub fn word(b: &[u8], end: usize) -> Keyword
     requires { ⌜ end ≤ length (now b) ⌝ }
-    ensures { λ r. ⌜ r ≡ wordOf (take end (now (b .entry))) ⌝ }
+    ensures { λ r. ⌜ r ≡ wordOf (take end (was b)) ⌝ }
 {
     if same(b, end, b"cell") {
         return Keyword::Cell;

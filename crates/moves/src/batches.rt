@@ -5,6 +5,7 @@ ghost use mathlib.Core.Bool.{_&&_};
 ghost use Prim.Native.Nat.{_≤_};
 ghost use lib.Dec.{eqb, leb};
 ghost use lib.ListN.{length};
+ghost use Rattle.basics.specs.Lent.{was, is};
 ghost use Rattle.basics.specs.Refusals.{unless, firstOf};
 ghost use Rattle.storage.specs.Keyed.{written};
 ghost use Rattle.point_tables.specs.Lent.{after, before, lent};
@@ -53,8 +54,8 @@ fn run(
 )
     requires ready { ⌜ Ready (lentPoolless nums reals ints map cells) ⌝ }
     requires long { ⌜ (length (now handles) ≡ length (now kinds)) × (length (now positions) ≡ length (now kinds)) × (length (now kinds) ≤ length (now out)) ⌝ }
-    ensures after { λ _. ⌜ lentPoolless (nums .exit) (reals .exit) (ints .exit) (map .entry) (cells .exit) ≡ heldAfter (lentPoolless (nums .entry) (reals .entry) (ints .entry) (map .entry) (cells .entry)) (callsOf (now (kinds .entry)) (now (handles .entry)) (now (positions .entry))) ⌝ }
-    ensures out { λ _. ⌜ now (out .exit) ≡ written (replyRows (heldReplies (lentPoolless (nums .entry) (reals .entry) (ints .entry) (map .entry) (cells .entry)) (callsOf (now (kinds .entry)) (now (handles .entry)) (now (positions .entry))))) (now (out .entry)) ⌝ }
+    ensures after { λ _. ⌜ lentPoolless (nums .exit) (reals .exit) (ints .exit) (map .entry) (cells .exit) ≡ heldAfter (lentPoolless (nums .entry) (reals .entry) (ints .entry) (map .entry) (cells .entry)) (callsOf (was kinds) (was handles) (was positions)) ⌝ }
+    ensures out { λ _. ⌜ is out ≡ written (replyRows (heldReplies (lentPoolless (nums .entry) (reals .entry) (ints .entry) (map .entry) (cells .entry)) (callsOf (was kinds) (was handles) (was positions)))) (was out) ⌝ }
 {
     let mut i = 0;
     while i < kinds.len() {
@@ -94,8 +95,8 @@ fn run_many(
 )
     requires grid { ⌜ Holds (lent nums reals ints map pool spots cells) ⌝ }
     requires long { ⌜ (length (now handles) ≡ length (now kinds)) × (length (now positions) ≡ length (now kinds)) × (length (now kinds) ≤ length (now out)) ⌝ }
-    ensures after { λ _. ⌜ lentPoolless (nums .exit) (reals .exit) (ints .exit) (map .entry) (cells .exit) ≡ heldAfter (lentPoolless (nums .entry) (reals .entry) (ints .entry) (map .entry) (cells .entry)) (callsOf (now (kinds .entry)) (now (handles .entry)) (now (positions .entry))) ⌝ }
-    ensures out { λ _. ⌜ now (out .exit) ≡ written (replyRows (heldReplies (lentPoolless (nums .entry) (reals .entry) (ints .entry) (map .entry) (cells .entry)) (callsOf (now (kinds .entry)) (now (handles .entry)) (now (positions .entry))))) (now (out .entry)) ⌝ }
+    ensures after { λ _. ⌜ lentPoolless (nums .exit) (reals .exit) (ints .exit) (map .entry) (cells .exit) ≡ heldAfter (lentPoolless (nums .entry) (reals .entry) (ints .entry) (map .entry) (cells .entry)) (callsOf (was kinds) (was handles) (was positions)) ⌝ }
+    ensures out { λ _. ⌜ is out ≡ written (replyRows (heldReplies (lentPoolless (nums .entry) (reals .entry) (ints .entry) (map .entry) (cells .entry)) (callsOf (was kinds) (was handles) (was positions)))) (was out) ⌝ }
 {
     let size = map[0];
     let mut i = 0;
@@ -138,7 +139,7 @@ pub fn batch(
     out: &mut [[u32; 2]],
 ) -> BatchReply
     requires { ⌜ held ≡ holds (lent nums reals ints map pool spots cells) ⌝ }
-    ensures { λ r. ⌜ outcome (batched (r .answer) (r .count) (now (out .exit))) (after nums reals ints map pool spots cells) ≡ batchOf (before nums reals ints map pool spots cells) (now (kinds .entry)) (now (handles .entry)) (now (positions .entry)) (now (out .entry)) ⌝ }
+    ensures { λ r. ⌜ outcome (batched (r .answer) (r .count) (is out)) (after nums reals ints map pool spots cells) ≡ batchOf (before nums reals ints map pool spots cells) (was kinds) (was handles) (was positions) (was out) ⌝ }
 {
     let n = kinds.len();
     let a = batch_answer(held, n, handles.len(), positions.len(), out.len());

@@ -3,6 +3,7 @@ ghost use mathlib.Core.Path.{_≡_};
 ghost use mathlib.Core.List.{[], _∷_};
 ghost use Prim.Native.Nat.{_<_};
 ghost use lib.ListN.{length};
+ghost use Rattle.basics.specs.Lent.{was, is};
 ghost use Rattle.cells.specs.Size.{SizeInDomain};
 ghost use Rattle.objects.specs.Columns.{recordAt};
 ghost use Rattle.objects.specs.Occupied.{InDomain};
@@ -23,7 +24,7 @@ fn set_refusal(
     at: Position,
 ) -> u32
     requires { ⌜ (length (now reals) ≡ length (now nums)) × (length (now ints) ≡ length (now nums)) ⌝ }
-    ensures { λ r. ⌜ r ≡ setRefusal (now (nums .entry)) (recordAt (now (nums .entry)) (now (reals .entry)) (now (ints .entry)) (h .slot) .state) h at ⌝ }
+    ensures { λ r. ⌜ r ≡ setRefusal (was nums) (recordAt (was nums) (was reals) (was ints) (h .slot) .state) h at ⌝ }
 {
     if !geometry::position_in_domain(at) {
         return 6;
@@ -40,7 +41,7 @@ fn set_refusal(
 }
 
 fn remove_refusal(nums: &[[u32; 4]], h: Handle) -> u32
-    ensures { λ r. ⌜ r ≡ removeRefusal (now (nums .entry)) h ⌝ }
+    ensures { λ r. ⌜ r ≡ removeRefusal (was nums) h ⌝ }
 {
     if !slots::is_good(nums, h) {
         return 5;
@@ -58,7 +59,7 @@ fn refusal(
     at: Position,
 ) -> u32
     requires { ⌜ (length (now reals) ≡ length (now nums)) × (length (now ints) ≡ length (now nums)) ⌝ }
-    ensures { λ r. ⌜ r ≡ refusalOf (now (nums .entry)) (recordAt (now (nums .entry)) (now (reals .entry)) (now (ints .entry)) (h .slot) .state) (Held.call kind h at) ⌝ }
+    ensures { λ r. ⌜ r ≡ refusalOf (was nums) (recordAt (was nums) (was reals) (was ints) (h .slot) .state) (Held.call kind h at) ⌝ }
 {
     if kind == 0 {
         return set_refusal(nums, reals, ints, h, at);
@@ -87,7 +88,7 @@ fn pend(
     at: Position,
 ) -> u32
     requires { ⌜ (s < length (now nums)) × (s < length (now reals)) × (s < length (now ints)) × SizeInDomain size × (kind ≡ 0 → InDomain at) ⌝ }
-    ensures { λ r. ⌜ PendedRows (now (nums .entry)) (now (reals .entry)) (now (ints .entry)) size s kind at r (now (nums .exit)) (now (reals .exit)) (now (ints .exit)) ⌝ }
+    ensures { λ r. ⌜ PendedRows (was nums) (was reals) (was ints) size s kind at r (is nums) (is reals) (is ints) ⌝ }
 {
     let n = nums[s];
     let q = reals[s];
@@ -138,7 +139,7 @@ pub fn unmarked(
     at: Position,
 ) -> Reply
     requires { ⌜ (length (now reals) ≡ length (now nums)) × (length (now ints) ≡ length (now nums)) × SizeInDomain size ⌝ }
-    ensures { λ r. ⌜ outcome r (poolless (now (nums .exit)) (now (reals .exit)) (now (ints .exit)) (size ∷ []) []) ≡ unmarkedOf (poolless (now (nums .entry)) (now (reals .entry)) (now (ints .entry)) (size ∷ []) []) (Held.call kind h at) ⌝ }
+    ensures { λ r. ⌜ outcome r (poolless (is nums) (is reals) (is ints) (size ∷ []) []) ≡ unmarkedOf (poolless (was nums) (was reals) (was ints) (size ∷ []) []) (Held.call kind h at) ⌝ }
 {
     let a = refusal(nums, reals, ints, kind, h, at);
     if a != 0 {

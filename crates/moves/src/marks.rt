@@ -2,6 +2,7 @@
 ghost use mathlib.Core.Path.{_≡_};
 ghost use mathlib.Core.List.{[], _∷_};
 ghost use lib.ListN.{length, getD};
+ghost use Rattle.basics.specs.Lent.{was, is};
 ghost use Rattle.moves.specs.Marks.{Walkable, MarkedTo};
 
 // A row with its mark set.
@@ -20,7 +21,7 @@ pub fn mark_all(
     rows: usize,
 )
     requires { ⌜ Walkable (now nums) (now pool) used (now cells) rows ⌝ }
-    ensures { λ _. ⌜ MarkedTo (now (nums .entry)) (now (pool .entry)) used (now (cells .entry)) rows (now (cells .exit)) used ⌝ }
+    ensures { λ _. ⌜ MarkedTo (was nums) (was pool) used (was cells) rows (is cells) used ⌝ }
 {
     let mut c = 0;
     let mut j = 0;

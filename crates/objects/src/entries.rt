@@ -2,6 +2,7 @@
 ghost use mathlib.Core.Path.{_≡_};
 ghost use Prim.Native.Nat.{_<_};
 ghost use lib.ListN.{length};
+ghost use Rattle.basics.specs.Lent.{was};
 ghost use Rattle.objects.specs.Listed.{spotAt, listedAt, entryRow, entrySpot};
 use crate::Entry;
 use geometry::Position;
@@ -9,7 +10,7 @@ use geometry::Position;
 // The position of the entry at place j: a test of it need not read the slot.
 pub fn spot_at(spots: &[[f32; 2]], j: usize) -> Position
     requires { ⌜ j < length (now spots) ⌝ }
-    ensures { λ r. ⌜ r ≡ spotAt (now (spots .entry)) j ⌝ }
+    ensures { λ r. ⌜ r ≡ spotAt (was spots) j ⌝ }
 {
     let spot = spots[j];
     Position {
@@ -20,7 +21,7 @@ pub fn spot_at(spots: &[[f32; 2]], j: usize) -> Position
 
 pub fn entry_at(pool: &[[u64; 2]], spots: &[[f32; 2]], j: usize) -> Entry
     requires { ⌜ (j < length (now pool)) × (j < length (now spots)) ⌝ }
-    ensures { λ r. ⌜ r ≡ listedAt (now (pool .entry)) (now (spots .entry)) j ⌝ }
+    ensures { λ r. ⌜ r ≡ listedAt (was pool) (was spots) j ⌝ }
 {
     let row = pool[j];
     let slot = basics::index_of(row[1]);

@@ -2,6 +2,7 @@
 ghost use mathlib.Core.Path.{_≡_};
 ghost use Prim.Native.Nat.{_≤_, _<_};
 ghost use lib.ListN.{length, set};
+ghost use Rattle.basics.specs.Lent.{was, is};
 ghost use Rattle.basics.specs.Says.{Says};
 ghost use Rattle.cells.specs.Size.{SizeInDomain};
 ghost use Rattle.cells.specs.CellRule.{cellAt};
@@ -59,7 +60,7 @@ fn state_of(tag: u32, p: Position, c: Cell) -> State
     State::Removed
 }
 
-fn tag_of(s: State) -> u32
+pub fn tag_of(s: State) -> u32
     ensures { λ r. ⌜ r ≡ tagOf s ⌝ }
 {
     match s {
@@ -70,7 +71,7 @@ fn tag_of(s: State) -> u32
     }
 }
 
-fn pending_of(s: State, p: Position) -> Position
+pub fn pending_of(s: State, p: Position) -> Position
     ensures { λ r. ⌜ r ≡ pendingOf s p ⌝ }
 {
     match s {
@@ -81,7 +82,7 @@ fn pending_of(s: State, p: Position) -> Position
     }
 }
 
-fn target_of(s: State, c: Cell) -> Cell
+pub fn target_of(s: State, c: Cell) -> Cell
     ensures { λ r. ⌜ r ≡ targetOf s c ⌝ }
 {
     match s {
@@ -94,7 +95,7 @@ fn target_of(s: State, c: Cell) -> Cell
 
 pub fn load(nums: &[[u32; 4]], reals: &[[f32; 4]], ints: &[[i32; 4]], i: usize) -> Record
     requires { ⌜ (i < length (now nums)) × (i < length (now reals)) × (i < length (now ints)) ⌝ }
-    ensures { λ r. ⌜ r ≡ recordAt (now (nums .entry)) (now (reals .entry)) (now (ints .entry)) i ⌝ }
+    ensures { λ r. ⌜ r ≡ recordAt (was nums) (was reals) (was ints) i ⌝ }
 {
     let n = nums[i];
     let q = reals[i];
@@ -122,7 +123,7 @@ pub fn store(
     r: Record,
 )
     requires { ⌜ (i < length (now nums)) × (i < length (now reals)) × (i < length (now ints)) ⌝ }
-    ensures { λ _. ⌜ (now (nums .exit) ≡ set (now (nums .entry)) i (numsOf r)) × (now (reals .exit) ≡ set (now (reals .entry)) i (realsOf r)) × (now (ints .exit) ≡ set (now (ints .entry)) i (intsOf r)) ⌝ }
+    ensures { λ _. ⌜ (is nums ≡ set (was nums) i (numsOf r)) × (is reals ≡ set (was reals) i (realsOf r)) × (is ints ≡ set (was ints) i (intsOf r)) ⌝ }
 {
     let p = r.position;
     let c = r.cell;

@@ -1,5 +1,6 @@
 // What the point grid of the trace answers to a request: each is one call of the grid.
 ghost use mathlib.Core.Path.{_≡_};
+ghost use Rattle.basics.specs.Lent.{was, is};
 ghost use Rattle.lines.specs.Texts.{SpotInRange, CountInRange};
 ghost use Rattle.point_tables.specs.Lent.{after, before};
 ghost use Rattle.point_tables.specs.Outcome.{outcome};
@@ -135,7 +136,7 @@ fn cir(
     places: &mut [[f32; 2]],
 ) -> Said
     requires { ⌜ SpotInRange centre × CountInRange radius ⌝ }
-    ensures { λ r. ⌜ searched r (now (handles .exit)) (now (places .exit)) ≡ aroundIn (before nums reals ints map pool spots cells) centre radius (now (handles .entry)) (now (places .entry)) ⌝ }
+    ensures { λ r. ⌜ searched r (is handles) (is places) ≡ aroundIn (before nums reals ints map pool spots cells) centre radius (was handles) (was places) ⌝ }
 {
     let p = telling::place(centre);
     let far = sixteenths::from_sixteenths(radius);
@@ -169,7 +170,7 @@ fn rec(
     places: &mut [[f32; 2]],
 ) -> Said
     requires { ⌜ SpotInRange a × SpotInRange b ⌝ }
-    ensures { λ r. ⌜ searched r (now (handles .exit)) (now (places .exit)) ≡ rectangleIn (before nums reals ints map pool spots cells) a b (now (handles .entry)) (now (places .entry)) ⌝ }
+    ensures { λ r. ⌜ searched r (is handles) (is places) ≡ rectangleIn (before nums reals ints map pool spots cells) a b (was handles) (was places) ⌝ }
 {
     let p = telling::place(a);
     let q = telling::place(b);
@@ -203,7 +204,7 @@ fn cel(
     places: &mut [[f32; 2]],
 ) -> Said
     requires { ⌜ SpotInRange ll × SpotInRange ur ⌝ }
-    ensures { λ r. ⌜ searched r (now (handles .exit)) (now (places .exit)) ≡ cellsIn (before nums reals ints map pool spots cells) ll ur (now (handles .entry)) (now (places .entry)) ⌝ }
+    ensures { λ r. ⌜ searched r (is handles) (is places) ≡ cellsIn (before nums reals ints map pool spots cells) ll ur (was handles) (was places) ⌝ }
 {
     let p = telling::place(ll);
     let q = telling::place(ur);
@@ -237,7 +238,7 @@ pub fn search_points(
     places: &mut [[f32; 2]],
 ) -> Said
     requires { ⌜ InRange r ⌝ }
-    ensures { λ said. ⌜ searched said (now (handles .exit)) (now (places .exit)) ≡ searchOf (before nums reals ints map pool spots cells) r (now (handles .entry)) (now (places .entry)) ⌝ }
+    ensures { λ said. ⌜ searched said (is handles) (is places) ≡ searchOf (before nums reals ints map pool spots cells) r (was handles) (was places) ⌝ }
 {
     match r {
         Request::Cir(centre, radius) => cir(

@@ -4,15 +4,11 @@ use mathlib.Core.List.{List}
 use lib.IntN.{ℤ}
 use lib.Ieee.{Float}
 use denote.Ref.{RefT, now}
-use denote.Triple.Both.{Both}
+use Rattle.basics.specs.Lent.{Lent}
 use Rattle.point_tables.specs.Tables.{Tables, tables}
 
 abbrev pub lent : RefT (List (List ℕ)) → RefT (List (List Float)) → RefT (List (List ℤ)) → RefT (List ℕ) → RefT (List (List ℕ)) → RefT (List (List Float)) → RefT (List (List ℕ)) → Tables
 lent a b c d e f g = tables (now a) (now b) (now c) (now d) (now e) (now f) (now g)
-
--- ---- a parameter in an `ensures` is a pair, what it was and what it is; behind a `&` the two are the same
-abbrev Lent : Type 0 → Type 0
-Lent A = Both (RefT A) (RefT A)
 
 abbrev pub before : Lent (List (List ℕ)) → Lent (List (List Float)) → Lent (List (List ℤ)) → Lent (List ℕ) → Lent (List (List ℕ)) → Lent (List (List Float)) → Lent (List (List ℕ)) → Tables
 before a b c d e f g = lent (a .entry) (b .entry) (c .entry) (d .entry) (e .entry) (f .entry) (g .entry)

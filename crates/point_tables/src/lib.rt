@@ -3,6 +3,7 @@ ghost use mathlib.Core.Path.{_≡_};
 ghost use mathlib.Core.Bool.{true, false};
 ghost use Prim.Native.Nat.{ℕ, _+_, _/_, _≤_, _<_};
 ghost use lib.ListN.{length, getD};
+ghost use Rattle.basics.specs.Lent.{was};
 ghost use Rattle.basics.specs.Says.{Says};
 ghost use Rattle.slots.specs.Map.{usable};
 ghost use Rattle.point_tables.specs.Lent.{before};
@@ -62,7 +63,7 @@ fn counts_ok(n: usize, size: u64, used: usize, rows: usize) -> bool
 // Whether a slot holds, which an entry names if it is listed; and an occupied one is listed.
 fn slot_ok(nums: &[[u32; 4]], map: &[u64], s: usize, listed: bool) -> bool
     requires { ⌜ (s < length (now nums)) × (3 + s / 64 < length (now map)) ⌝ }
-    ensures { λ b. ⌜ Says b (SlotOk (now (nums .entry)) (now (map .entry)) s listed) ⌝ }
+    ensures { λ b. ⌜ Says b (SlotOk (was nums) (was map) s listed) ⌝ }
 {
     let n = nums[s];
     let mapped = slots::is_usable(map, s);
@@ -78,7 +79,7 @@ fn slot_ok(nums: &[[u32; 4]], map: &[u64], s: usize, listed: bool) -> bool
 // Whether each slot holds, and each occupied one is marked as named by an entry.
 fn each_ok(nums: &[[u32; 4]], map: &[u64], marks: &[bool; 4096]) -> bool
     requires { ⌜ Room (now nums) (now map) ⌝ }
-    ensures { λ b. ⌜ Says b (EachOk (now (nums .entry)) (now (map .entry)) (now (marks .entry))) ⌝ }
+    ensures { λ b. ⌜ Says b (EachOk (was nums) (was map) (was marks)) ⌝ }
 {
     let mut i = 0;
     while i < nums.len() {
@@ -94,7 +95,7 @@ fn each_ok(nums: &[[u32; 4]], map: &[u64], marks: &[bool; 4096]) -> bool
 // Whether slot s is free, if the map has it.
 fn free_at(nums: &[[u32; 4]], map: &[u64], s: usize) -> bool
     requires { ⌜ (s < length (now nums)) × (3 + s / 64 < length (now map)) ⌝ }
-    ensures { λ b. ⌜ Says b (FreeAt (now (nums .entry)) (now (map .entry)) s) ⌝ }
+    ensures { λ b. ⌜ Says b (FreeAt (was nums) (was map) s) ⌝ }
 {
     if !slots::is_usable(map, s) {
         return true;
@@ -109,7 +110,7 @@ fn free_at(nums: &[[u32; 4]], map: &[u64], s: usize) -> bool
 // The next slot that the map may have: a word with no bit is passed at once.
 fn next_after(map: &[u64], s: usize) -> usize
     requires { ⌜ (s < 4096) × (3 + s / 64 < length (now map)) ⌝ }
-    ensures { λ r. ⌜ (s < r) × ((k : ℕ) → s < k → k < r → usable (now (map .entry)) k ≡ 0) ⌝ }
+    ensures { λ r. ⌜ (s < r) × ((k : ℕ) → s < k → k < r → usable (was map) k ≡ 0) ⌝ }
 {
     if map[3 + s / 64] == 0 {
         return s + 64 - s % 64;
@@ -120,7 +121,7 @@ fn next_after(map: &[u64], s: usize) -> usize
 // Whether each slot that the map has is free.
 fn free_ok(nums: &[[u32; 4]], map: &[u64]) -> bool
     requires { ⌜ Room (now nums) (now map) ⌝ }
-    ensures { λ b. ⌜ Says b ((s : ℕ) → s < length (now (nums .entry)) → FreeAt (now (nums .entry)) (now (map .entry)) s) ⌝ }
+    ensures { λ b. ⌜ Says b ((s : ℕ) → s < length (was nums) → FreeAt (was nums) (was map) s) ⌝ }
 {
     let mut i = 0;
     while i < nums.len() {
@@ -135,7 +136,7 @@ fn free_ok(nums: &[[u32; 4]], map: &[u64]) -> bool
 // Whether every slot holds, and every occupied one is marked; `used` slots are. Where these and the slots that the map has are all, it is enough that the latter are free.
 fn slots_ok(nums: &[[u32; 4]], map: &[u64], used: usize, marks: &[bool; 4096]) -> bool
     requires { ⌜ Room (now nums) (now map) × Listed (now nums) (now marks) used ⌝ }
-    ensures { λ b. ⌜ Says b (SlotsOk (now (nums .entry)) (now (map .entry)) (now (marks .entry))) ⌝ }
+    ensures { λ b. ⌜ Says b (SlotsOk (was nums) (was map) (was marks)) ⌝ }
 {
     if !slots::past_ok(map, nums.len()) {
         return false;

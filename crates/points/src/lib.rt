@@ -1,6 +1,7 @@
 // The public calls of the point grid: src/grid.rs of the Rust. Each checks the tables first and answers by document 01's numbers, listed
 // with each call in their order. No call has a `requires`, and a refused call changes no table and no output.
 ghost use mathlib.Core.Path.{_≡_};
+ghost use Rattle.basics.specs.Lent.{was, is};
 ghost use Rattle.point_tables.specs.Lent.{after, before};
 ghost use Rattle.point_tables.specs.Outcome.{outcome};
 ghost use Rattle.inserts.specs.New.{newOf};
@@ -101,7 +102,7 @@ pub fn batch(
     positions: &[[f32; 2]],
     out: &mut [[u32; 2]],
 ) -> BatchReply
-    ensures { λ r. ⌜ outcome (batched (r .answer) (r .count) (now (out .exit))) (after nums reals ints map pool spots cells) ≡ batchOf (before nums reals ints map pool spots cells) (now (kinds .entry)) (now (handles .entry)) (now (positions .entry)) (now (out .entry)) ⌝ }
+    ensures { λ r. ⌜ outcome (batched (r .answer) (r .count) (is out)) (after nums reals ints map pool spots cells) ≡ batchOf (before nums reals ints map pool spots cells) (was kinds) (was handles) (was positions) (was out) ⌝ }
 {
     let held = point_tables::check(nums, reals, ints, map, pool, spots, cells);
     moves::batch(
@@ -149,7 +150,7 @@ pub fn query(
     found: &mut [[u32; 2]],
     places: &mut [[f32; 2]],
 ) -> Count
-    ensures { λ r. ⌜ findings r (now (found .exit)) (now (places .exit)) ≡ queryOf (before nums reals ints map pool spots cells) ll ur (now (found .entry)) (now (places .entry)) ⌝ }
+    ensures { λ r. ⌜ findings r (is found) (is places) ≡ queryOf (before nums reals ints map pool spots cells) ll ur (was found) (was places) ⌝ }
 {
     let held = point_tables::check(nums, reals, ints, map, pool, spots, cells);
     queries::query(
@@ -182,7 +183,7 @@ pub fn query_around(
     found: &mut [[u32; 2]],
     places: &mut [[f32; 2]],
 ) -> Count
-    ensures { λ r. ⌜ findings r (now (found .exit)) (now (places .exit)) ≡ aroundOf (before nums reals ints map pool spots cells) centre radius (now (found .entry)) (now (places .entry)) ⌝ }
+    ensures { λ r. ⌜ findings r (is found) (is places) ≡ aroundOf (before nums reals ints map pool spots cells) centre radius (was found) (was places) ⌝ }
 {
     let held = point_tables::check(nums, reals, ints, map, pool, spots, cells);
     queries::query_around(
@@ -215,7 +216,7 @@ pub fn query_aabb(
     found: &mut [[u32; 2]],
     places: &mut [[f32; 2]],
 ) -> Count
-    ensures { λ r. ⌜ findings r (now (found .exit)) (now (places .exit)) ≡ aabbOf (before nums reals ints map pool spots cells) a b (now (found .entry)) (now (places .entry)) ⌝ }
+    ensures { λ r. ⌜ findings r (is found) (is places) ≡ aabbOf (before nums reals ints map pool spots cells) a b (was found) (was places) ⌝ }
 {
     let held = point_tables::check(nums, reals, ints, map, pool, spots, cells);
     queries::query_aabb(

@@ -4,6 +4,7 @@ ghost use mathlib.Core.Path.{_≡_};
 ghost use mathlib.Core.Bool.{true, false};
 ghost use Prim.Native.Nat.{ℕ, _≤_, _<_};
 ghost use lib.ListN.{length, getD, replicate};
+ghost use Rattle.basics.specs.Lent.{was, is};
 ghost use Rattle.basics.specs.Says.{Says};
 ghost use Rattle.cells.specs.Size.{SizeInDomain};
 ghost use Rattle.cells.specs.Key.{cellOfKey};
@@ -27,7 +28,7 @@ fn entry_ok(
     e: Entry,
 ) -> bool
     requires { ⌜ (length (now reals) ≡ length (now nums)) × (length (now ints) ≡ length (now nums)) × SizeInDomain size × Spans size (c .x) (x .lo) (x .hi) × Spans size (c .y) (y .lo) (y .hi) ⌝ }
-    ensures { λ b. ⌜ Says b (Right (now (nums .entry)) (now (reals .entry)) (now (ints .entry)) size c mark e) ⌝ }
+    ensures { λ b. ⌜ Says b (Right (was nums) (was reals) (was ints) size c mark e) ⌝ }
 {
     let s = e.slot;
     if nums.len() <= s {
@@ -77,8 +78,8 @@ fn run_end(
 ) -> usize
     requires cell { ⌜ (c ≡ cellOfKey key) × Spans size (c .y) (y .lo) (y .hi) ⌝ }
     requires { ⌜ (length (now nums) ≤ 4096) × (length (now reals) ≡ length (now nums)) × (length (now ints) ≡ length (now nums)) × (used ≤ length (now pool)) × (used ≤ length (now spots)) × SizeInDomain size × (from ≤ used) × Named (now pool) (now marks) from × (length (now marks) ≡ 4096) ⌝ }
-    ensures run { λ e. ⌜ Run (now (nums .entry)) (now (reals .entry)) (now (ints .entry)) (now (pool .entry)) (now (spots .entry)) size used key mark from e ⌝ }
-    ensures named { λ e. ⌜ Named (now (pool .entry)) (now (marks .exit)) e × (length (now (marks .exit)) ≡ 4096) ⌝ }
+    ensures run { λ e. ⌜ Run (was nums) (was reals) (was ints) (was pool) (was spots) size used key mark from e ⌝ }
+    ensures named { λ e. ⌜ Named (was pool) (is marks) e × (length (is marks) ≡ 4096) ⌝ }
 {
     let x = cells::span_of(size, c.x);
     let mut j = from;
@@ -126,8 +127,8 @@ pub fn pool_ok(
     marks: &mut [bool; 4096],
 ) -> bool
     requires { ⌜ Room (now nums) (now reals) (now ints) (now pool) (now spots) (now cells) size used rows × (now marks ≡ replicate 4096 false) ⌝ }
-    ensures says { λ b. ⌜ Says b (Passes (now (nums .entry)) (now (reals .entry)) (now (ints .entry)) (now (pool .entry)) (now (spots .entry)) (now (cells .entry)) size used rows) ⌝ }
-    ensures named { λ b. ⌜ (b ≡ true → Named (now (pool .entry)) (now (marks .exit)) used) ⌝ }
+    ensures says { λ b. ⌜ Says b (Passes (was nums) (was reals) (was ints) (was pool) (was spots) (was cells) size used rows) ⌝ }
+    ensures named { λ b. ⌜ (b ≡ true → Named (was pool) (is marks) used) ⌝ }
 {
     let mut last = 0;
     let mut y_lo = 1.0;

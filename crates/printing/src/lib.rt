@@ -3,6 +3,7 @@ ghost use mathlib.Core.Path.{_≡_};
 ghost use mathlib.Core.List.{[], _∷_, _++_};
 ghost use Prim.Native.Nat.{_+_, _*_, _≤_, _<_};
 ghost use lib.ListN.{length};
+ghost use Rattle.basics.specs.Lent.{was, is};
 ghost use Rattle.printing.specs.Said.{numberField, coordinateField, handleText, placeText, cornersText, pointsText, boxesText, saidText, recordText, Told};
 ghost use Rattle.printing.specs.Puts.{Puts};
 ghost use Rattle.decimals.specs.Text.{decimal};
@@ -19,7 +20,7 @@ pub enum Said {
 
 fn put_first(out: &mut [u8], at: usize, n: u32) -> usize
     requires { ⌜ at + 10 ≤ length (now out) ⌝ }
-    ensures { λ r. ⌜ Puts (now (out .entry)) at (now (out .exit)) r (decimal n) 10 ⌝ }
+    ensures { λ r. ⌜ Puts (was out) at (is out) r (decimal n) 10 ⌝ }
 {
     decimals::put_number(out, at, n)
 }
@@ -27,7 +28,7 @@ fn put_first(out: &mut [u8], at: usize, n: u32) -> usize
 // A number behind a comma.
 fn put_number(out: &mut [u8], at: usize, n: u32) -> usize
     requires { ⌜ at + 11 ≤ length (now out) ⌝ }
-    ensures { λ r. ⌜ Puts (now (out .entry)) at (now (out .exit)) r (numberField n) 11 ⌝ }
+    ensures { λ r. ⌜ Puts (was out) at (is out) r (numberField n) 11 ⌝ }
 {
     let next = decimals::put_byte(out, at, 44);
     decimals::put_number(out, next, n)
@@ -36,7 +37,7 @@ fn put_number(out: &mut [u8], at: usize, n: u32) -> usize
 // A coordinate behind a comma, as a count of sixteenths.
 fn put_coordinate(out: &mut [u8], at: usize, x: f32) -> usize
     requires { ⌜ at + 12 ≤ length (now out) ⌝ }
-    ensures { λ r. ⌜ Puts (now (out .entry)) at (now (out .exit)) r (coordinateField x) 12 ⌝ }
+    ensures { λ r. ⌜ Puts (was out) at (is out) r (coordinateField x) 12 ⌝ }
 {
     let k = sixteenths::sixteenths(x);
     let next = decimals::put_byte(out, at, 44);
@@ -45,7 +46,7 @@ fn put_coordinate(out: &mut [u8], at: usize, x: f32) -> usize
 
 fn put_handle(out: &mut [u8], at: usize, h: [u32; 2]) -> usize
     requires { ⌜ at + 22 ≤ length (now out) ⌝ }
-    ensures { λ r. ⌜ Puts (now (out .entry)) at (now (out .exit)) r (handleText h) 22 ⌝ }
+    ensures { λ r. ⌜ Puts (was out) at (is out) r (handleText h) 22 ⌝ }
 {
     let next = put_number(out, at, h[0]);
     put_number(out, next, h[1])
@@ -53,7 +54,7 @@ fn put_handle(out: &mut [u8], at: usize, h: [u32; 2]) -> usize
 
 fn put_corner(out: &mut [u8], at: usize, x: f32, y: f32) -> usize
     requires { ⌜ at + 24 ≤ length (now out) ⌝ }
-    ensures { λ r. ⌜ Puts (now (out .entry)) at (now (out .exit)) r (coordinateField x ++ coordinateField y) 24 ⌝ }
+    ensures { λ r. ⌜ Puts (was out) at (is out) r (coordinateField x ++ coordinateField y) 24 ⌝ }
 {
     let next = put_coordinate(out, at, x);
     put_coordinate(out, next, y)
@@ -61,7 +62,7 @@ fn put_corner(out: &mut [u8], at: usize, x: f32, y: f32) -> usize
 
 fn put_corners(out: &mut [u8], at: usize, b: [f32; 4]) -> usize
     requires { ⌜ at + 48 ≤ length (now out) ⌝ }
-    ensures { λ r. ⌜ Puts (now (out .entry)) at (now (out .exit)) r (cornersText b) 48 ⌝ }
+    ensures { λ r. ⌜ Puts (was out) at (is out) r (cornersText b) 48 ⌝ }
 {
     let next = put_corner(out, at, b[0], b[1]);
     put_corner(out, next, b[2], b[3])
@@ -69,7 +70,7 @@ fn put_corners(out: &mut [u8], at: usize, b: [f32; 4]) -> usize
 
 fn put_point(out: &mut [u8], at: usize, h: [u32; 2], p: [f32; 2]) -> usize
     requires { ⌜ at + 46 ≤ length (now out) ⌝ }
-    ensures { λ r. ⌜ Puts (now (out .entry)) at (now (out .exit)) r (handleText h ++ placeText p) 46 ⌝ }
+    ensures { λ r. ⌜ Puts (was out) at (is out) r (handleText h ++ placeText p) 46 ⌝ }
 {
     let next = put_handle(out, at, h);
     put_corner(out, next, p[0], p[1])
@@ -77,7 +78,7 @@ fn put_point(out: &mut [u8], at: usize, h: [u32; 2], p: [f32; 2]) -> usize
 
 fn put_box(out: &mut [u8], at: usize, h: [u32; 2], b: [f32; 4]) -> usize
     requires { ⌜ at + 70 ≤ length (now out) ⌝ }
-    ensures { λ r. ⌜ Puts (now (out .entry)) at (now (out .exit)) r (handleText h ++ cornersText b) 70 ⌝ }
+    ensures { λ r. ⌜ Puts (was out) at (is out) r (handleText h ++ cornersText b) 70 ⌝ }
 {
     let next = put_handle(out, at, h);
     put_corners(out, next, b)
@@ -92,7 +93,7 @@ fn put_points(
     n: usize,
 ) -> usize
     requires { ⌜ (n ≤ length (now handles)) × (n ≤ length (now places)) × (at + n * 46 ≤ length (now out)) ⌝ }
-    ensures { λ r. ⌜ Puts (now (out .entry)) at (now (out .exit)) r (pointsText (now (handles .entry)) (now (places .entry)) n) (n * 46) ⌝ }
+    ensures { λ r. ⌜ Puts (was out) at (is out) r (pointsText (was handles) (was places) n) (n * 46) ⌝ }
 {
     let mut next = at;
     let mut i = 0;
@@ -106,7 +107,7 @@ fn put_points(
 // The first n findings of the box query.
 fn put_boxes(out: &mut [u8], at: usize, handles: &[[u32; 2]], boxes: &[[f32; 4]], n: usize) -> usize
     requires { ⌜ (n ≤ length (now handles)) × (n ≤ length (now boxes)) × (at + n * 70 ≤ length (now out)) ⌝ }
-    ensures { λ r. ⌜ Puts (now (out .entry)) at (now (out .exit)) r (boxesText (now (handles .entry)) (now (boxes .entry)) n) (n * 70) ⌝ }
+    ensures { λ r. ⌜ Puts (was out) at (is out) r (boxesText (was handles) (was boxes) n) (n * 70) ⌝ }
 {
     let mut next = at;
     let mut i = 0;
@@ -120,7 +121,7 @@ fn put_boxes(out: &mut [u8], at: usize, handles: &[[u32; 2]], boxes: &[[f32; 4]]
 // 0 and a number.
 fn put_one(out: &mut [u8], at: usize, x: u32) -> usize
     requires { ⌜ at + 21 ≤ length (now out) ⌝ }
-    ensures { λ r. ⌜ Puts (now (out .entry)) at (now (out .exit)) r (decimal 0 ++ numberField x) 21 ⌝ }
+    ensures { λ r. ⌜ Puts (was out) at (is out) r (decimal 0 ++ numberField x) 21 ⌝ }
 {
     let next = put_first(out, at, 0);
     put_number(out, next, x)
@@ -135,7 +136,7 @@ fn put_said(
     boxes: &[[f32; 4]],
 ) -> usize
     requires { ⌜ Told said (length (now handles)) (length (now places)) (length (now boxes)) × (at + 11900 ≤ length (now out)) ⌝ }
-    ensures { λ r. ⌜ Puts (now (out .entry)) at (now (out .exit)) r (saidText said (now (handles .entry)) (now (places .entry)) (now (boxes .entry))) 11900 ⌝ }
+    ensures { λ r. ⌜ Puts (was out) at (is out) r (saidText said (was handles) (was places) (was boxes)) 11900 ⌝ }
 {
     match said {
         Said::Refused(a) => put_first(out, at, a),
@@ -166,7 +167,7 @@ pub fn put_record(
     boxes: &[[f32; 4]],
 ) -> usize
     requires { ⌜ Told said (length (now handles)) (length (now places)) (length (now boxes)) × (at + 12000 ≤ length (now out)) ⌝ }
-    ensures { λ r. ⌜ Puts (now (out .entry)) at (now (out .exit)) r (recordText said (now (handles .entry)) (now (places .entry)) (now (boxes .entry))) 12000 ⌝ }
+    ensures { λ r. ⌜ Puts (was out) at (is out) r (recordText said (was handles) (was places) (was boxes)) 12000 ⌝ }
 {
     let next = put_said(out, at, said, handles, places, boxes);
     let end = decimals::put_byte(out, next, 13);

@@ -3,6 +3,7 @@ ghost use mathlib.Core.Path.{_≡_};
 ghost use mathlib.Core.List.{map};
 ghost use Prim.Native.Nat.{ℕ, _≤_, _<_};
 ghost use lib.ListN.{length, getD, set, take};
+ghost use Rattle.basics.specs.Lent.{was, is};
 ghost use Rattle.cells.specs.Numbers.{Near};
 ghost use Rattle.storage.specs.Keyed.{written};
 ghost use Rattle.queries.specs.Queries.{findings};
@@ -19,7 +20,7 @@ use slots::Handle;
 // What is reported of an entry: the handle of its slot, and its position.
 fn finding_of(nums: &[[u32; 4]], e: Entry) -> Finding
     requires { ⌜ (e .slot < length (now nums)) × (length (now nums) ≤ 4096) ⌝ }
-    ensures { λ r. ⌜ r ≡ findingOf (now (nums .entry)) e ⌝ }
+    ensures { λ r. ⌜ r ≡ findingOf (was nums) e ⌝ }
 {
     let s = e.slot;
     let n = nums[s];
@@ -36,7 +37,7 @@ fn finding_of(nums: &[[u32; 4]], e: Entry) -> Finding
 // A finding goes to place k of the outputs.
 fn put_finding(handles: &mut [[u32; 2]], places: &mut [[f32; 2]], k: usize, f: Finding)
     requires { ⌜ (k < length (now handles)) × (k < length (now places)) ⌝ }
-    ensures { λ _. ⌜ (now (handles .exit) ≡ set (now (handles .entry)) k (handleOf f)) × (now (places .exit) ≡ set (now (places .entry)) k (placeOf f)) ⌝ }
+    ensures { λ _. ⌜ (is handles ≡ set (was handles) k (handleOf f)) × (is places ≡ set (was places) k (placeOf f)) ⌝ }
 {
     let h = f.handle;
     let p = f.position;
@@ -55,7 +56,7 @@ fn put_findings(
     places: &mut [[f32; 2]],
 )
     requires { ⌜ (r ≤ length (now found)) × (r ≤ length (now handles)) × (r ≤ length (now places)) × (length (now nums) ≤ 4096) × ((k : ℕ) → k < r → Findable (now nums) (now pool) (now spots) (getD (now found) k 0)) ⌝ }
-    ensures { λ _. ⌜ (now (handles .exit) ≡ written (map (handleAt (now (nums .entry)) (now (pool .entry)) (now (spots .entry))) (take r (now (found .entry)))) (now (handles .entry))) × (now (places .exit) ≡ written (map (placeAt (now (nums .entry)) (now (pool .entry)) (now (spots .entry))) (take r (now (found .entry)))) (now (places .entry))) ⌝ }
+    ensures { λ _. ⌜ (is handles ≡ written (map (handleAt (was nums) (was pool) (was spots)) (take r (was found))) (was handles)) × (is places ≡ written (map (placeAt (was nums) (was pool) (was spots)) (take r (was found))) (was places)) ⌝ }
 {
     let mut k = 0;
     while k < r {
@@ -80,7 +81,7 @@ pub fn fill(
     places: &mut [[f32; 2]],
 ) -> Count
     requires { ⌜ Stocked (now pool) (now spots) used × Near a × Near b × (length (now nums) ≤ 4096) × ((j : ℕ) → j < used → Findable (now nums) (now pool) (now spots) j) ⌝ }
-    ensures { λ r. ⌜ findings r (now (handles .exit)) (now (places .exit)) ≡ filled (now (nums .entry)) (now (pool .entry)) (now (spots .entry)) (placesOf a b test (now (pool .entry)) (now (spots .entry)) used) (now (handles .entry)) (now (places .entry)) ⌝ }
+    ensures { λ r. ⌜ findings r (is handles) (is places) ≡ filled (was nums) (was pool) (was spots) (placesOf a b test (was pool) (was spots) used) (was handles) (was places) ⌝ }
 {
     let mut found: [u32; 4096] = [0; 4096];
     let r = gather(pool, spots, used, a, b, test, &mut found);

@@ -3,6 +3,7 @@ ghost use mathlib.Core.Path.{_≡_};
 ghost use mathlib.Core.List.{_++_};
 ghost use Prim.Native.Nat.{_+_, _-_, _≤_};
 ghost use lib.ListN.{length, take};
+ghost use Rattle.basics.specs.Lent.{was, is};
 ghost use Rattle.cells.specs.Numbers.{Near};
 ghost use Rattle.storage.specs.Keyed.{written};
 ghost use Rattle.queries.specs.Queries as Queries;
@@ -32,7 +33,7 @@ fn gather_run(
     places: &mut [u32],
 ) -> usize
     requires { ⌜ (n ≤ from) × (from ≤ to) × (to ≤ length (now spots)) × (to ≤ 4096) × (to ≤ length (now places)) ⌝ }
-    ensures { λ r. ⌜ (r ≡ n + length (placesIn (spotPasses test (now (spots .entry))) from (to - from))) × (now (places .exit) ≡ written (take n (now (places .entry)) ++ placesIn (spotPasses test (now (spots .entry))) from (to - from)) (now (places .entry))) ⌝ }
+    ensures { λ r. ⌜ (r ≡ n + length (placesIn (spotPasses test (was spots)) from (to - from))) × (is places ≡ written (take n (was places) ++ placesIn (spotPasses test (was spots)) from (to - from)) (was places)) ⌝ }
 {
     let mut k = n;
     let mut j = from;
@@ -58,7 +59,7 @@ pub fn gather(
     places: &mut [u32],
 ) -> usize
     requires { ⌜ Stocked (now pool) (now spots) used × Near a × Near b × (used ≤ length (now places)) ⌝ }
-    ensures { λ r. ⌜ (r ≡ length (placesOf a b test (now (pool .entry)) (now (spots .entry)) used)) × (now (places .exit) ≡ written (placesOf a b test (now (pool .entry)) (now (spots .entry)) used) (now (places .entry))) ⌝ }
+    ensures { λ r. ⌜ (r ≡ length (placesOf a b test (was pool) (was spots) used)) × (is places ≡ written (placesOf a b test (was pool) (was spots) used) (was places)) ⌝ }
 {
     let low = cells::key_of(a);
     let high = cells::key_of(b);

@@ -1,6 +1,7 @@
 // The queries of a point grid: `query`, `query_around`, `query_aabb`. Each takes the verdict of the check on the tables, `held`.
 ghost use mathlib.Core.Path.{_≡_};
 ghost use mathlib.Core.Bool.{true};
+ghost use Rattle.basics.specs.Lent.{was, is};
 ghost use Rattle.cells.specs.CellRule.{Reached};
 ghost use Rattle.point_tables.specs.Lent.{before, lent};
 ghost use Rattle.point_tables.specs.Decide.{holds};
@@ -52,7 +53,7 @@ fn search(
 ) -> Count
     requires { ⌜ held ≡ holds (lent nums reals ints map pool spots cells) ⌝ }
     requires { ⌜ (ok ≡ true → Reached ll × Reached ur) ⌝ }
-    ensures { λ r. ⌜ findings r (now (handles .exit)) (now (places .exit)) ≡ searchOf (before nums reals ints map pool spots cells) ok ll ur test (now (handles .entry)) (now (places .entry)) ⌝ }
+    ensures { λ r. ⌜ findings r (is handles) (is places) ≡ searchOf (before nums reals ints map pool spots cells) ok ll ur test (was handles) (was places) ⌝ }
 {
     if !held {
         return replies::refused(3);
@@ -86,7 +87,7 @@ pub fn query(
     places: &mut [[f32; 2]],
 ) -> Count
     requires { ⌜ held ≡ holds (lent nums reals ints map pool spots cells) ⌝ }
-    ensures { λ r. ⌜ findings r (now (handles .exit)) (now (places .exit)) ≡ queryOf (before nums reals ints map pool spots cells) ll ur (now (handles .entry)) (now (places .entry)) ⌝ }
+    ensures { λ r. ⌜ findings r (is handles) (is places) ≡ queryOf (before nums reals ints map pool spots cells) ll ur (was handles) (was places) ⌝ }
 {
     let ok = position_in_domain(ll) & position_in_domain(ur);
     search(
@@ -123,7 +124,7 @@ pub fn query_around(
     places: &mut [[f32; 2]],
 ) -> Count
     requires { ⌜ held ≡ holds (lent nums reals ints map pool spots cells) ⌝ }
-    ensures { λ r. ⌜ findings r (now (handles .exit)) (now (places .exit)) ≡ aroundOf (before nums reals ints map pool spots cells) centre radius (now (handles .entry)) (now (places .entry)) ⌝ }
+    ensures { λ r. ⌜ findings r (is handles) (is places) ≡ aroundOf (before nums reals ints map pool spots cells) centre radius (was handles) (was places) ⌝ }
 {
     let ok = position_in_domain(centre) & radius_in_domain(radius);
     let ll = Position {
@@ -168,7 +169,7 @@ pub fn query_aabb(
     places: &mut [[f32; 2]],
 ) -> Count
     requires { ⌜ held ≡ holds (lent nums reals ints map pool spots cells) ⌝ }
-    ensures { λ r. ⌜ findings r (now (handles .exit)) (now (places .exit)) ≡ aabbOf (before nums reals ints map pool spots cells) a b (now (handles .entry)) (now (places .entry)) ⌝ }
+    ensures { λ r. ⌜ findings r (is handles) (is places) ≡ aabbOf (before nums reals ints map pool spots cells) a b (was handles) (was places) ⌝ }
 {
     let ok = position_in_domain(a) & position_in_domain(b);
     let ll = lower_corner(a, b);

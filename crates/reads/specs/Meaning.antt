@@ -1,14 +1,11 @@
 -- `get`, `len` and `handles`: recorded position and data; removed objects count until maintain. Assumes nothing.
 use Prim.Native.Nat.{ℕ}
-use mathlib.Core.Bool.{Bool}
 use mathlib.Core.List.{List, [], _∷_}
 use lib.Dec.{eqb, leb}
-use lib.IntN.{pos}
-use lib.Ieee.{Float, fin}
-use mathlib.Core.Bool.{false}
 use lib.ListN.{length}
-use Rattle.basics.specs.Refusals.{Refusal, unless, firstOf, pick}
+use Rattle.basics.specs.Refusals.{Refusal, unless, pick, byTests}
 use Rattle.geometry.specs.declared.Position.{Position}
+use Rattle.geometry.specs.Zero.{zero-position}
 use Rattle.slots.specs.declared.Handle.{Handle}
 use Rattle.slots.specs.Slot.{good}
 use Rattle.storage.specs.Keyed.{written}
@@ -19,15 +16,8 @@ use Rattle.reads.specs.declared.Got.{Got}
 use Rattle.replies.specs.declared.Count.{Count}
 use Rattle.replies.specs.Replies.{count}
 
-abbrev pub zero-position : Position
-zero-position = record { x = fin false 0 (pos 0); y = fin false 0 (pos 0) }
-
 abbrev pub got : ℕ → Position → ℕ → Got
 got a p d = record { answer = a; position = p; obj = d }
-
--- what a call gives: what it does if its tests pass, else what it says to the first that does not (belongs in basics/specs/Refusals)
-abbrev pub byTests : {R : Type 0} → List Refusal → R → (ℕ → R) → R
-byTests rs done refused = pick (eqb (firstOf rs) 0) done (refused (firstOf rs))
 
 -- ---- get
 abbrev pub getTests : Tables → Handle → List Refusal

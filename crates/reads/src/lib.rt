@@ -1,5 +1,6 @@
 // Reading a point grid: `get`, `len`, `handles`. Each checks the tables first.
 ghost use mathlib.Core.Path.{_≡_};
+ghost use Rattle.basics.specs.Lent.{was, is};
 ghost use Rattle.point_tables.specs.Lent.{before};
 ghost use Rattle.reads.specs.Meaning.{getOf, lenOf, handlesOf, listing};
 use geometry::Position;
@@ -85,7 +86,7 @@ pub fn handles(
     cells: &[[u64; 2]],
     out: &mut [[u32; 2]],
 ) -> Count
-    ensures { λ r. ⌜ listing r (now (out .exit)) ≡ handlesOf (before nums reals ints map pool spots cells) (now (out .entry)) ⌝ }
+    ensures { λ r. ⌜ listing r (is out) ≡ handlesOf (before nums reals ints map pool spots cells) (was out) ⌝ }
 {
     let found = len(nums, reals, ints, map, pool, spots, cells);
     if found.answer != 0 {

@@ -3,6 +3,7 @@ ghost use mathlib.Core.Path.{_≡_};
 ghost use mathlib.Core.Bool.{true};
 ghost use Prim.Native.Nat.{_+_, _≤_, _<_};
 ghost use lib.ListN.{length, getD};
+ghost use Rattle.basics.specs.Lent.{was, is};
 ghost use Rattle.slots.specs.Map.{wordsFor};
 ghost use Rattle.storage.specs.Keyed.{written};
 ghost use Rattle.point_tables.specs.Lent.{before, after};
@@ -30,7 +31,7 @@ fn short_of(n: usize, places: usize, objs: usize) -> u32
 // The answer, with the number of objects: each has one entry, so the entries in use are as many.
 fn answer(map: &[u64], held: bool, places: usize, objs: usize) -> Count
     requires { ⌜ (held ≡ true → (1 < length (now map)) × (getD (now map) 1 0 ≤ 4096)) ⌝ }
-    ensures { λ r. ⌜ r ≡ countBy held (getD (now (map .entry)) 1 0) places objs ⌝ }
+    ensures { λ r. ⌜ r ≡ countBy held (getD (was map) 1 0) places objs ⌝ }
 {
     if !held {
         return Count {
@@ -49,8 +50,8 @@ fn answer(map: &[u64], held: bool, places: usize, objs: usize) -> Count
 // The recorded position and the data of each live slot, from place 0 of the outputs on.
 fn put_objects(nums: &[[u32; 4]], reals: &[[f32; 4]], places: &mut [[f32; 2]], objs: &mut [u32])
     requires { ⌜ (length (now reals) ≡ length (now nums)) × (length (now nums) ≤ 4096) × (length (liveFrom 0 (now nums)) ≤ length (now places)) × (length (liveFrom 0 (now nums)) ≤ length (now objs)) ⌝ }
-    ensures places { λ _. ⌜ now (places .exit) ≡ written (placesOf (now (reals .entry)) (liveFrom 0 (now (nums .entry)))) (now (places .entry)) ⌝ }
-    ensures objs { λ _. ⌜ now (objs .exit) ≡ written (objsOf (now (nums .entry)) (liveFrom 0 (now (nums .entry)))) (now (objs .entry)) ⌝ }
+    ensures places { λ _. ⌜ is places ≡ written (placesOf (was reals) (liveFrom 0 (was nums))) (was places) ⌝ }
+    ensures objs { λ _. ⌜ is objs ≡ written (objsOf (was nums) (liveFrom 0 (was nums))) (was objs) ⌝ }
 {
     let mut k = 0;
     let mut i = 0;
@@ -69,8 +70,8 @@ fn put_objects(nums: &[[u32; 4]], reals: &[[f32; 4]], places: &mut [[f32; 2]], o
 // No entry and no row of a cell is in use.
 fn empty_all(nums: &mut [[u32; 4]], map: &mut [u64])
     requires { ⌜ length (now map) ≡ 3 + wordsFor (length (now nums)) ⌝ }
-    ensures nums { λ _. ⌜ now (nums .exit) ≡ clearedRows (now (nums .entry)) ⌝ }
-    ensures map { λ _. ⌜ now (map .exit) ≡ counting (clearedMap 0 (now (nums .entry)) (now (map .entry))) 0 0 ⌝ }
+    ensures nums { λ _. ⌜ is nums ≡ clearedRows (was nums) ⌝ }
+    ensures map { λ _. ⌜ is map ≡ counting (clearedMap 0 (was nums) (was map)) 0 0 ⌝ }
 {
     slot_walks::empty_slots(nums, map);
     map[1] = 0;
@@ -88,7 +89,7 @@ pub fn clear(
     places: &mut [[f32; 2]],
     objs: &mut [u32],
 ) -> Count
-    ensures { λ r. ⌜ outcome (wrote r (now (places .exit)) (now (objs .exit))) (after nums reals ints map pool spots cells) ≡ clearOf (before nums reals ints map pool spots cells) (now (places .entry)) (now (objs .entry)) ⌝ }
+    ensures { λ r. ⌜ outcome (wrote r (is places) (is objs)) (after nums reals ints map pool spots cells) ≡ clearOf (before nums reals ints map pool spots cells) (was places) (was objs) ⌝ }
 {
     let held = point_tables::check(nums, reals, ints, map, pool, spots, cells);
     let c = answer(map, held, places.len(), objs.len());

@@ -3,6 +3,7 @@ ghost use mathlib.Core.Path.{_≡_};
 ghost use mathlib.Core.List.{[], _∷_};
 ghost use Prim.Native.Nat.{_+_, _/_, _≤_, _<_};
 ghost use lib.ListN.{length, take};
+ghost use Rattle.basics.specs.Lent.{was, is};
 ghost use Rattle.basics.specs.Refusals.{unless, firstOf};
 ghost use Rattle.slots.specs.Slot.{good, emptiedNums, emptiedMap};
 ghost use Rattle.storage.specs.Keyed.{Sorted, under, written};
@@ -18,7 +19,7 @@ use slots::Handle;
 
 // The answer: the first refusal that applies, or 0. The object's state is not looked at.
 fn answer(nums: &[[u32; 4]], held: bool, h: Handle) -> u32
-    ensures { λ r. ⌜ r ≡ firstOf (unless held 3 ∷ unless (good (now (nums .entry)) (h .slot) (h .version)) 5 ∷ []) ⌝ }
+    ensures { λ r. ⌜ r ≡ firstOf (unless held 3 ∷ unless (good (was nums) (h .slot) (h .version)) 5 ∷ []) ⌝ }
 {
     if !held {
         return 3;
@@ -39,7 +40,7 @@ fn drop_empty(
 ) -> usize
     requires cells { ⌜ (rows ≤ length (now cells)) × Rising rowKey (take rows (now cells)) ⌝ }
     requires pool { ⌜ (used ≤ length (now pool)) × Sorted rowKey (take used (now pool)) ⌝ }
-    ensures { λ r. ⌜ (r ≡ length (rowsBy (isEmpty (under rowKey key (take used (now (pool .entry))))) key (take rows (now (cells .entry))))) × (now (cells .exit) ≡ written (rowsBy (isEmpty (under rowKey key (take used (now (pool .entry))))) key (take rows (now (cells .entry)))) (now (cells .entry))) ⌝ }
+    ensures { λ r. ⌜ (r ≡ length (rowsBy (isEmpty (under rowKey key (take used (was pool)))) key (take rows (was cells)))) × (is cells ≡ written (rowsBy (isEmpty (under rowKey key (take used (was pool)))) key (take rows (was cells))) (was cells)) ⌝ }
 {
     if storage::has_key(pool, used, key) {
         return rows;
@@ -50,8 +51,8 @@ fn drop_empty(
 // Slot s is emptied, and the head words of the map have the counts.
 fn empty(nums: &mut [[u32; 4]], map: &mut [u64], s: usize, used: usize, rows: usize)
     requires { ⌜ (s < length (now nums)) × (3 + s / 64 < length (now map)) ⌝ }
-    ensures nums { λ _. ⌜ now (nums .exit) ≡ emptiedNums (now (nums .entry)) s ⌝ }
-    ensures map { λ _. ⌜ now (map .exit) ≡ counting (emptiedMap (now (nums .entry)) (now (map .entry)) s) used rows ⌝ }
+    ensures nums { λ _. ⌜ is nums ≡ emptiedNums (was nums) s ⌝ }
+    ensures map { λ _. ⌜ is map ≡ counting (emptiedMap (was nums) (was map) s) used rows ⌝ }
 {
     slots::empty(nums, map, s);
     map[1] = basics::word_of(used);

@@ -2,6 +2,7 @@
 ghost use mathlib.Core.Path.{_≡_};
 ghost use Prim.Native.Nat.{_+_, _≤_};
 ghost use lib.ListN.{length, take};
+ghost use Rattle.basics.specs.Lent.{was, is};
 ghost use Rattle.decimals.specs.Written.{written};
 ghost use Rattle.point_tables.specs.Lent as Points;
 ghost use Rattle.box_tables.specs.Lent as Boxes;
@@ -60,7 +61,7 @@ pub fn answer_record(
     at: usize,
 ) -> usize
     requires { ⌜ at + 12000 ≤ length (now out) ⌝ }
-    ensures { λ r. ⌜ replayed (grids (Points.after nums reals ints map pool spots cells) (Boxes.after bnums breals bmap bpool)) (written (now (out .exit)) r) ≡ replayOf (grids (Points.before nums reals ints map pool spots cells) (Boxes.before bnums breals bmap bpool)) (take len (now (line .entry))) (written (now (out .entry)) at) ⌝ }
+    ensures { λ r. ⌜ replayed (grids (Points.after nums reals ints map pool spots cells) (Boxes.after bnums breals bmap bpool)) (written (is out) r) ≡ replayOf (grids (Points.before nums reals ints map pool spots cells) (Boxes.before bnums breals bmap bpool)) (take len (was line)) (written (was out) at) ⌝ }
     ensures { λ r. ⌜ r ≤ at + 12000 ⌝ }
 {
     let mut handles = [[0u32; 2]; 256];

@@ -1,6 +1,7 @@
 // The records of the input out of its blocks, so that a record may begin in one block and end in another.
 ghost use mathlib.Core.Path.{_≡_};
 ghost use lib.ListN.{length, drop};
+ghost use Rattle.basics.specs.Lent.{was, is};
 ghost use Rattle.splits.specs.Sofar.{sofar};
 ghost use Rattle.replay.specs.Next.{found, nextOf};
 use crate::Found;
@@ -8,7 +9,7 @@ use splits::Splitter;
 
 // From place `from` of the block up to the end of a record, or of the block.
 pub fn next_record(line: &mut [u8], state: Splitter, block: &[u8], from: usize) -> Found
-    ensures { λ r. ⌜ found (now (line .exit)) r ≡ nextOf (length (now (line .entry))) (sofar (now (line .entry)) state) from (drop from (now (block .entry))) ⌝ }
+    ensures { λ r. ⌜ found (is line) r ≡ nextOf (length (was line)) (sofar (was line) state) from (drop from (was block)) ⌝ }
 {
     let mut so_far = state;
     let mut at = from;

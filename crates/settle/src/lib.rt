@@ -3,6 +3,7 @@ ghost use mathlib.Core.Path.{_≡_};
 ghost use mathlib.Core.List.{[], _∷_};
 ghost use Prim.Native.Nat.{_+_, _≤_, _<_};
 ghost use lib.ListN.{length, set};
+ghost use Rattle.basics.specs.Lent.{was, is};
 ghost use Rattle.cells.specs.Key.{keyOf};
 ghost use Rattle.objects.specs.Columns.{numsOf, realsOf, intsOf};
 ghost use Rattle.maintain.specs.Walk.{placed, settled};
@@ -31,7 +32,7 @@ fn place(
     c: Cell,
 )
     requires { ⌜ (s < length (now nums)) × (s < length (now reals)) × (s < length (now ints)) ⌝ }
-    ensures { λ _. ⌜ (now (nums .exit) ≡ set (now (nums .entry)) s (numsOf (placed r p c))) × (now (reals .exit) ≡ set (now (reals .entry)) s (realsOf (placed r p c))) × (now (ints .exit) ≡ set (now (ints .entry)) s (intsOf (placed r p c))) ⌝ }
+    ensures { λ _. ⌜ (is nums ≡ set (was nums) s (numsOf (placed r p c))) × (is reals ≡ set (was reals) s (realsOf (placed r p c))) × (is ints ≡ set (was ints) s (intsOf (placed r p c))) ⌝ }
 {
     let q = Record {
         version: r.version,
@@ -69,7 +70,7 @@ pub fn settle_slot(
 // The row of slot s under the key of cell c, at a place of the pool. Returns 1, the rows put.
 fn put_row(pool: &mut [[u64; 2]], at: usize, c: Cell, s: usize) -> usize
     requires { ⌜ at < length (now pool) ⌝ }
-    ensures { λ r. ⌜ (r ≡ 1) × (now (pool .exit) ≡ set (now (pool .entry)) at (keyOf c ∷ s ∷ [])) ⌝ }
+    ensures { λ r. ⌜ (r ≡ 1) × (is pool ≡ set (was pool) at (keyOf c ∷ s ∷ [])) ⌝ }
 {
     let key = cells::key_of(c);
     let item = basics::word_of(s);
@@ -80,7 +81,7 @@ fn put_row(pool: &mut [[u64; 2]], at: usize, c: Cell, s: usize) -> usize
 // A relocated object of slot s has its row, under the key of its target cell, put at a place of the pool. Returns the rows put.
 fn put_target(pool: &mut [[u64; 2]], at: usize, s: usize, state: State) -> usize
     requires { ⌜ at + length (targetRows s state) ≤ length (now pool) ⌝ }
-    ensures { λ r. ⌜ (r ≡ length (targetRows s state)) × (now (pool .exit) ≡ putAt at (targetRows s state) (now (pool .entry))) ⌝ }
+    ensures { λ r. ⌜ (r ≡ length (targetRows s state)) × (is pool ≡ putAt at (targetRows s state) (was pool)) ⌝ }
 {
     match state {
         State::Unchanged => 0,
@@ -102,7 +103,7 @@ fn turn(
 ) -> usize
     requires { ⌜ Slotted (lentRecords nums reals ints map) s × (at + length (turnedRows (lentRecords nums reals ints map) s) ≤ length (now pool)) ⌝ }
     ensures records { λ _. ⌜ lentRecords (nums .exit) (reals .exit) (ints .exit) (map .exit) ≡ turned (lentRecords (nums .entry) (reals .entry) (ints .entry) (map .entry)) s ⌝ }
-    ensures rows { λ r. ⌜ (r ≡ length (turnedRows (lentRecords (nums .entry) (reals .entry) (ints .entry) (map .entry)) s)) × (now (pool .exit) ≡ putAt at (turnedRows (lentRecords (nums .entry) (reals .entry) (ints .entry) (map .entry)) s) (now (pool .entry))) ⌝ }
+    ensures rows { λ r. ⌜ (r ≡ length (turnedRows (lentRecords (nums .entry) (reals .entry) (ints .entry) (map .entry)) s)) × (is pool ≡ putAt at (turnedRows (lentRecords (nums .entry) (reals .entry) (ints .entry) (map .entry)) s) (was pool)) ⌝ }
 {
     let r = objects::load(nums, reals, ints, s);
     if r.phase != 1 {
@@ -125,7 +126,7 @@ pub fn settle_slots(
     w: usize,
 ) -> usize
     requires { ⌜ Ready (lentRecords nums reals ints map) × (w + length (relocatedBelow (length (now nums)) (lentRecords nums reals ints map)) ≤ length (now pool)) ⌝ }
-    ensures { λ r. ⌜ Passed (lentRecords (nums .entry) (reals .entry) (ints .entry) (map .entry)) (lentRecords (nums .exit) (reals .exit) (ints .exit) (map .exit)) w (now (pool .entry)) (now (pool .exit)) r ⌝ }
+    ensures { λ r. ⌜ Passed (lentRecords (nums .entry) (reals .entry) (ints .entry) (map .entry)) (lentRecords (nums .exit) (reals .exit) (ints .exit) (map .exit)) w (was pool) (is pool) r ⌝ }
 {
     let mut k = 0;
     let mut i = 0;
@@ -169,7 +170,7 @@ fn one_removed(row: [u32; 4]) -> u32
 // The two counts of `maintain`, from the states before it.
 pub fn count_moves(nums: &[[u32; 4]]) -> Counts
     requires { ⌜ length (now nums) ≤ 4096 ⌝ }
-    ensures { λ r. ⌜ r ≡ counts (movedIn (numbered (now (nums .entry))) (length (now (nums .entry)))) (removedIn (numbered (now (nums .entry))) (length (now (nums .entry)))) ⌝ }
+    ensures { λ r. ⌜ r ≡ counts (movedIn (numbered (was nums)) (length (was nums))) (removedIn (numbered (was nums)) (length (was nums))) ⌝ }
 {
     let mut moved: u32 = 0;
     let mut removed: u32 = 0;

@@ -2,6 +2,7 @@
 ghost use mathlib.Core.Path.{_≡_};
 ghost use Prim.Native.Nat.{_+_, _≤_};
 ghost use lib.ListN.{length};
+ghost use Rattle.basics.specs.Lent.{was, is};
 ghost use Rattle.slots.specs.Map.{wordsFor};
 ghost use Rattle.storage.specs.Keyed.{written};
 ghost use Rattle.slot_walks.specs.Live.{rowLive, liveFrom, handlesIn};
@@ -17,7 +18,7 @@ pub fn is_live(row: [u32; 4]) -> bool
 // The number of live slots.
 pub fn count_live(nums: &[[u32; 4]]) -> u32
     requires { ⌜ length (now nums) ≤ 4096 ⌝ }
-    ensures { λ r. ⌜ r ≡ length (liveFrom 0 (now (nums .entry))) ⌝ }
+    ensures { λ r. ⌜ r ≡ length (liveFrom 0 (was nums)) ⌝ }
 {
     let mut k = 0u32;
     let mut i = 0;
@@ -34,7 +35,7 @@ pub fn count_live(nums: &[[u32; 4]]) -> u32
 // The handles of the live slots, from place 0 of the output on.
 pub fn put_handles(nums: &[[u32; 4]], out: &mut [[u32; 2]])
     requires { ⌜ (length (now nums) ≤ 4096) × (length (liveFrom 0 (now nums)) ≤ length (now out)) ⌝ }
-    ensures { λ _. ⌜ now (out .exit) ≡ written (handlesIn (now (nums .entry))) (now (out .entry)) ⌝ }
+    ensures { λ _. ⌜ is out ≡ written (handlesIn (was nums)) (was out) ⌝ }
 {
     let mut k = 0;
     let mut i = 0;
@@ -51,8 +52,8 @@ pub fn put_handles(nums: &[[u32; 4]], out: &mut [[u32; 2]])
 // Every live slot is emptied.
 pub fn empty_slots(nums: &mut [[u32; 4]], map: &mut [u64])
     requires { ⌜ length (now map) ≡ 3 + wordsFor (length (now nums)) ⌝ }
-    ensures nums { λ _. ⌜ now (nums .exit) ≡ clearedRows (now (nums .entry)) ⌝ }
-    ensures map { λ _. ⌜ now (map .exit) ≡ clearedMap 0 (now (nums .entry)) (now (map .entry)) ⌝ }
+    ensures nums { λ _. ⌜ is nums ≡ clearedRows (was nums) ⌝ }
+    ensures map { λ _. ⌜ is map ≡ clearedMap 0 (was nums) (was map) ⌝ }
 {
     let mut i = 0;
     while i < nums.len() {

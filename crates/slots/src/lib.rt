@@ -3,6 +3,7 @@ ghost use mathlib.Core.Path.{_≡_};
 ghost use Prim.Native.Nat.{_+_, _*_, _/_, _%_, _^_, _≤_, _<_};
 ghost use lib.Dec.{eqb};
 ghost use lib.ListN.{length};
+ghost use Rattle.basics.specs.Lent.{was, is};
 ghost use Rattle.basics.specs.Says.{Says};
 ghost use Rattle.basics.specs.Refusals.{pick};
 ghost use Rattle.slots.specs.Map.{wordsFor, usable, taken, givenBack, lowestUsable, usableBelow, NonePast};
@@ -21,7 +22,7 @@ pub enum Usable {
 
 // Whether the handle's slot is occupied at its version.
 pub fn is_good(nums: &[[u32; 4]], h: Handle) -> bool
-    ensures { λ r. ⌜ r ≡ good (now (nums .entry)) (h .slot) (h .version) ⌝ }
+    ensures { λ r. ⌜ r ≡ good (was nums) (h .slot) (h .version) ⌝ }
 {
     let s = basics::wide(h.slot);
     if s >= nums.len() {
@@ -52,7 +53,7 @@ fn bit_of(s: usize) -> u64
 // The lowest usable slot of n: the lowest bit of the first word that has one.
 pub fn lowest(map: &[u64], n: usize) -> Usable
     requires { ⌜ (length (now map) ≡ 3 + wordsFor n) × (n ≤ 4096) × NonePast (now map) n ⌝ }
-    ensures { λ r. ⌜ r ≡ lowestUsable (now (map .entry)) n ⌝ }
+    ensures { λ r. ⌜ r ≡ lowestUsable (was map) n ⌝ }
 {
     let words = words_for(n);
     let mut w = 0;
@@ -70,7 +71,7 @@ pub fn lowest(map: &[u64], n: usize) -> Usable
 // How many of n slots are usable: the ones of the words.
 pub fn count_usable(map: &[u64], n: usize) -> usize
     requires { ⌜ (length (now map) ≡ 3 + wordsFor n) × (n ≤ 4096) ⌝ }
-    ensures { λ r. ⌜ r ≡ usableBelow (now (map .entry)) (wordsFor n * 64) ⌝ }
+    ensures { λ r. ⌜ r ≡ usableBelow (was map) (wordsFor n * 64) ⌝ }
 {
     let words = words_for(n);
     let mut count = 0;
@@ -86,7 +87,7 @@ pub fn count_usable(map: &[u64], n: usize) -> usize
 // Whether the map has slot s as usable.
 pub fn is_usable(map: &[u64], s: usize) -> bool
     requires { ⌜ 3 + s / 64 < length (now map) ⌝ }
-    ensures { λ r. ⌜ Says r (usable (now (map .entry)) s ≡ 1) ⌝ }
+    ensures { λ r. ⌜ Says r (usable (was map) s ≡ 1) ⌝ }
 {
     let w = 3 + s / 64;
     let b = s % 64;
@@ -100,7 +101,7 @@ pub fn is_usable(map: &[u64], s: usize) -> bool
 // Slot s is usable no more.
 pub fn take(map: &mut [u64], s: usize)
     requires { ⌜ 3 + s / 64 < length (now map) ⌝ }
-    ensures { λ _. ⌜ now (map .exit) ≡ taken (now (map .entry)) s ⌝ }
+    ensures { λ _. ⌜ is map ≡ taken (was map) s ⌝ }
 {
     let w = 3 + s / 64;
     let m = bit_of(s);
@@ -111,7 +112,7 @@ pub fn take(map: &mut [u64], s: usize)
 // Slot s is usable again.
 pub fn give_back(map: &mut [u64], s: usize)
     requires { ⌜ 3 + s / 64 < length (now map) ⌝ }
-    ensures { λ _. ⌜ now (map .exit) ≡ givenBack (now (map .entry)) s ⌝ }
+    ensures { λ _. ⌜ is map ≡ givenBack (was map) s ⌝ }
 {
     let w = 3 + s / 64;
     let m = bit_of(s);
@@ -141,7 +142,7 @@ pub fn next_phase(v: u32) -> u32
 // Slot s gives its bit back to the map, unless its version was the last.
 fn release(map: &mut [u64], s: usize, v: u32)
     requires { ⌜ 3 + s / 64 < length (now map) ⌝ }
-    ensures { λ _. ⌜ now (map .exit) ≡ pick (eqb v lastVersion) (now (map .entry)) (givenBack (now (map .entry)) s) ⌝ }
+    ensures { λ _. ⌜ is map ≡ pick (eqb v lastVersion) (was map) (givenBack (was map) s) ⌝ }
 {
     if v != 4294967295 {
         give_back(map, s);
@@ -161,8 +162,8 @@ fn emptied_row(row: [u32; 4]) -> [u32; 4]
 // Slot s is emptied: its version rises and the map has it again, or it is retired.
 pub fn empty(nums: &mut [[u32; 4]], map: &mut [u64], s: usize)
     requires { ⌜ (s < length (now nums)) × (3 + s / 64 < length (now map)) ⌝ }
-    ensures nums { λ _. ⌜ now (nums .exit) ≡ emptiedNums (now (nums .entry)) s ⌝ }
-    ensures map { λ _. ⌜ now (map .exit) ≡ emptiedMap (now (nums .entry)) (now (map .entry)) s ⌝ }
+    ensures nums { λ _. ⌜ is nums ≡ emptiedNums (was nums) s ⌝ }
+    ensures map { λ _. ⌜ is map ≡ emptiedMap (was nums) (was map) s ⌝ }
 {
     let row = nums[s];
     nums[s] = emptied_row(row);
@@ -196,7 +197,7 @@ pub fn slot_ok(version: u32, phase: u32, mapped: bool) -> bool
 // Whether no bit past the last of n slots is set: only the last word can have one.
 pub fn past_ok(map: &[u64], n: usize) -> bool
     requires { ⌜ length (now map) ≡ 3 + wordsFor n ⌝ }
-    ensures { λ r. ⌜ Says r (NonePast (now (map .entry)) n) ⌝ }
+    ensures { λ r. ⌜ Says r (NonePast (was map) n) ⌝ }
 {
     let b = n % 64;
     if b == 0 {

@@ -5,6 +5,7 @@ ghost use mathlib.Core.List.{List, [], _∷_, _++_};
 ghost use Prim.Native.Nat.{ℕ, _-_, min};
 ghost use lib.Dec.{eqb};
 ghost use lib.ListN.{length, take};
+ghost use Rattle.basics.specs.Lent.{was, is};
 ghost use Rattle.splits.specs.Sofar.{sofar, fed, begun, feed, finished};
 
 // How many bytes stand in the line since the last line end, and whether the last byte was a CR.
@@ -50,7 +51,7 @@ fn ends(cr: bool, byte: u8) -> bool
 
 // A byte more in the line, if there is room.
 fn push(line: &mut [u8], len: usize, byte: u8) -> usize
-    ensures { λ r. ⌜ take r (now (line .exit)) ≡ take (length (now (line .entry))) (take len (now (line .entry)) ++ byte ∷ []) ⌝ }
+    ensures { λ r. ⌜ take r (is line) ≡ take (length (was line)) (take len (was line) ++ byte ∷ []) ⌝ }
 {
     if len < line.len() {
         line[len] = byte;
@@ -67,7 +68,7 @@ pub fn start() -> Splitter
 }
 
 pub fn step(line: &mut [u8], s: Splitter, byte: u8) -> Stepped
-    ensures { λ r. ⌜ fed (now (line .exit)) r ≡ feed (length (now (line .entry))) (sofar (now (line .entry)) s) byte ⌝ }
+    ensures { λ r. ⌜ fed (is line) r ≡ feed (length (was line)) (sofar (was line) s) byte ⌝ }
 {
     if ends(s.cr, byte) {
         let n = lesser(s.len, line.len());
@@ -90,7 +91,7 @@ pub fn step(line: &mut [u8], s: Splitter, byte: u8) -> Stepped
 
 // The input's end: what stands in the line is a record, if anything does.
 pub fn finish(line: &[u8], s: Splitter) -> Stepped
-    ensures { λ r. ⌜ fed (now (line .entry)) r ≡ finished (length (now (line .entry))) (sofar (now (line .entry)) s) ⌝ }
+    ensures { λ r. ⌜ fed (was line) r ≡ finished (length (was line)) (sofar (was line) s) ⌝ }
 {
     let n = lesser(s.len, line.len());
     let most = one_less(line.len());

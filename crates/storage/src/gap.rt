@@ -3,11 +3,12 @@ ghost use mathlib.Core.Path.{_≡_};
 ghost use mathlib.Core.List.{[]};
 ghost use Prim.Native.Nat.{_≤_, _<_};
 ghost use lib.ListN.{length, getD, set};
+ghost use Rattle.basics.specs.Lent.{was, is};
 ghost use Rattle.storage.specs.Places.{opened, closed};
 
 pub fn open_row(s: &mut [[u64; 2]], p: usize, k: usize, v: [u64; 2])
     requires { ⌜ (p ≤ k) × (k < length (now s)) ⌝ }
-    ensures { λ _. ⌜ now (s .exit) ≡ opened (now (s .entry)) p k v ⌝ }
+    ensures { λ _. ⌜ is s ≡ opened (was s) p k v ⌝ }
 {
     let mut j = k;
     while p < j {
@@ -19,7 +20,7 @@ pub fn open_row(s: &mut [[u64; 2]], p: usize, k: usize, v: [u64; 2])
 
 pub fn open_spot(s: &mut [[f32; 2]], p: usize, k: usize, v: [f32; 2])
     requires { ⌜ (p ≤ k) × (k < length (now s)) ⌝ }
-    ensures { λ _. ⌜ now (s .exit) ≡ opened (now (s .entry)) p k v ⌝ }
+    ensures { λ _. ⌜ is s ≡ opened (was s) p k v ⌝ }
 {
     let mut j = k;
     while p < j {
@@ -31,7 +32,7 @@ pub fn open_spot(s: &mut [[f32; 2]], p: usize, k: usize, v: [f32; 2])
 
 pub fn close_row(s: &mut [[u64; 2]], p: usize, k: usize)
     requires { ⌜ (p < k) × (k ≤ length (now s)) ⌝ }
-    ensures { λ _. ⌜ now (s .exit) ≡ closed (now (s .entry)) p k ⌝ }
+    ensures { λ _. ⌜ is s ≡ closed (was s) p k ⌝ }
 {
     let mut j = p;
     while j + 1 < k {
@@ -42,7 +43,7 @@ pub fn close_row(s: &mut [[u64; 2]], p: usize, k: usize)
 
 pub fn close_spot(s: &mut [[f32; 2]], p: usize, k: usize)
     requires { ⌜ (p < k) × (k ≤ length (now s)) ⌝ }
-    ensures { λ _. ⌜ now (s .exit) ≡ closed (now (s .entry)) p k ⌝ }
+    ensures { λ _. ⌜ is s ≡ closed (was s) p k ⌝ }
 {
     let mut j = p;
     while j + 1 < k {
@@ -54,7 +55,7 @@ pub fn close_spot(s: &mut [[f32; 2]], p: usize, k: usize)
 // The row at j goes to place i, and its own place is closed.
 pub fn pull_row(s: &mut [[u64; 2]], i: usize, j: usize, k: usize)
     requires { ⌜ (i ≤ j) × (j < k) × (k ≤ length (now s)) ⌝ }
-    ensures { λ _. ⌜ now (s .exit) ≡ closed (set (now (s .entry)) i (getD (now (s .entry)) j [])) j k ⌝ }
+    ensures { λ _. ⌜ is s ≡ closed (set (was s) i (getD (was s) j [])) j k ⌝ }
 {
     s[i] = s[j];
     close_row(s, j, k);
@@ -62,7 +63,7 @@ pub fn pull_row(s: &mut [[u64; 2]], i: usize, j: usize, k: usize)
 
 pub fn pull_spot(s: &mut [[f32; 2]], i: usize, j: usize, k: usize)
     requires { ⌜ (i ≤ j) × (j < k) × (k ≤ length (now s)) ⌝ }
-    ensures { λ _. ⌜ now (s .exit) ≡ closed (set (now (s .entry)) i (getD (now (s .entry)) j [])) j k ⌝ }
+    ensures { λ _. ⌜ is s ≡ closed (set (was s) i (getD (was s) j [])) j k ⌝ }
 {
     s[i] = s[j];
     close_spot(s, j, k);

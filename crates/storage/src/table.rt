@@ -2,6 +2,7 @@
 ghost use mathlib.Core.Path.{_≡_};
 ghost use Prim.Native.Nat.{_≤_, _<_};
 ghost use lib.ListN.{length, take};
+ghost use Rattle.basics.specs.Lent.{was, is};
 ghost use Rattle.basics.specs.Says.{Says};
 ghost use Rattle.storage.specs.Keyed.{Sorted, under, written};
 ghost use Rattle.storage.specs.Entries.{rowKey};
@@ -18,7 +19,7 @@ use crate::gap::open_row;
 // Whether the row at a place is there and has the key.
 fn is_key(rows: &[[u64; 2]], k: usize, at: usize, key: u64) -> bool
     requires { ⌜ k ≤ length (now rows) ⌝ }
-    ensures { λ b. ⌜ Says b ((at < k) × (first (now (rows .entry)) at ≡ key)) ⌝ }
+    ensures { λ b. ⌜ Says b ((at < k) × (first (was rows) at ≡ key)) ⌝ }
 {
     if k <= at {
         return false;
@@ -29,7 +30,7 @@ fn is_key(rows: &[[u64; 2]], k: usize, at: usize, key: u64) -> bool
 // Whether some row has the key.
 pub fn has_key(rows: &[[u64; 2]], k: usize, key: u64) -> bool
     requires { ⌜ (k ≤ length (now rows)) × Sorted rowKey (take k (now rows)) ⌝ }
-    ensures { λ b. ⌜ Says b (Filled (under rowKey key (take k (now (rows .entry))))) ⌝ }
+    ensures { λ b. ⌜ Says b (Filled (under rowKey key (take k (was rows)))) ⌝ }
 {
     let at = lower_bound(rows, k, key);
     is_key(rows, k, at, key)
@@ -38,7 +39,7 @@ pub fn has_key(rows: &[[u64; 2]], k: usize, key: u64) -> bool
 // The cell has a row: a new one has no mark. Returns how many rows there are.
 pub fn enter_cell(cells: &mut [[u64; 2]], rows: usize, key: u64) -> usize
     requires { ⌜ (rows < length (now cells)) × Sorted rowKey (take rows (now cells)) ⌝ }
-    ensures { λ r. ⌜ (r ≡ length (entered key (take rows (now (cells .entry))))) × (now (cells .exit) ≡ written (entered key (take rows (now (cells .entry)))) (now (cells .entry))) ⌝ }
+    ensures { λ r. ⌜ (r ≡ length (entered key (take rows (was cells)))) × (is cells ≡ written (entered key (take rows (was cells))) (was cells)) ⌝ }
 {
     let at = lower_bound(cells, rows, key);
     if is_key(cells, rows, at, key) {
@@ -51,7 +52,7 @@ pub fn enter_cell(cells: &mut [[u64; 2]], rows: usize, key: u64) -> usize
 // The cell has no row. Returns how many rows there are.
 pub fn drop_cell(cells: &mut [[u64; 2]], rows: usize, key: u64) -> usize
     requires { ⌜ (rows ≤ length (now cells)) × Rising rowKey (take rows (now cells)) ⌝ }
-    ensures { λ r. ⌜ (r ≡ length (dropped key (take rows (now (cells .entry))))) × (now (cells .exit) ≡ written (dropped key (take rows (now (cells .entry)))) (now (cells .entry))) ⌝ }
+    ensures { λ r. ⌜ (r ≡ length (dropped key (take rows (was cells)))) × (is cells ≡ written (dropped key (take rows (was cells))) (was cells)) ⌝ }
 {
     let at = lower_bound(cells, rows, key);
     if is_key(cells, rows, at, key) {
@@ -64,7 +65,7 @@ pub fn drop_cell(cells: &mut [[u64; 2]], rows: usize, key: u64) -> usize
 // The cell's mark is set, if it has a row.
 pub fn mark_cell(cells: &mut [[u64; 2]], rows: usize, key: u64)
     requires { ⌜ (rows ≤ length (now cells)) × Rising rowKey (take rows (now cells)) ⌝ }
-    ensures { λ _. ⌜ now (cells .exit) ≡ written (marked key (take rows (now (cells .entry)))) (now (cells .entry)) ⌝ }
+    ensures { λ _. ⌜ is cells ≡ written (marked key (take rows (was cells))) (was cells) ⌝ }
 {
     let at = lower_bound(cells, rows, key);
     if is_key(cells, rows, at, key) {
@@ -75,7 +76,7 @@ pub fn mark_cell(cells: &mut [[u64; 2]], rows: usize, key: u64)
 // Whether an entry begins a list.
 fn begins(pool: &[[u64; 2]], j: usize) -> bool
     requires { ⌜ j < length (now pool) ⌝ }
-    ensures { λ b. ⌜ Says b (Begins (now (pool .entry)) j) ⌝ }
+    ensures { λ b. ⌜ Says b (Begins (was pool) j) ⌝ }
 {
     if j == 0 {
         return true;
@@ -86,7 +87,7 @@ fn begins(pool: &[[u64; 2]], j: usize) -> bool
 // The table of the pool, with no mark set. Returns how many rows there are.
 pub fn rebuild(cells: &mut [[u64; 2]], pool: &[[u64; 2]], used: usize) -> usize
     requires { ⌜ (used ≤ length (now pool)) × (length (fresh (take used (now pool))) ≤ length (now cells)) ⌝ }
-    ensures { λ r. ⌜ (r ≡ length (fresh (take used (now (pool .entry))))) × (now (cells .exit) ≡ written (fresh (take used (now (pool .entry)))) (now (cells .entry))) ⌝ }
+    ensures { λ r. ⌜ (r ≡ length (fresh (take used (was pool)))) × (is cells ≡ written (fresh (take used (was pool))) (was cells)) ⌝ }
 {
     let mut rows = 0;
     let mut j = 0;

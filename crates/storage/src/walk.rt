@@ -4,14 +4,16 @@ ghost use mathlib.Core.Path.{_≡_};
 ghost use mathlib.Core.Bool.{true};
 ghost use Prim.Native.Nat.{_≤_, _<_};
 ghost use lib.ListN.{length, take};
+ghost use Rattle.basics.specs.Lent.{was};
 ghost use Rattle.storage.specs.Keyed.{Sorted};
 ghost use Rattle.storage.specs.Entries.{rowKey};
 ghost use Rattle.storage.specs.Packed.{first};
-ghost use Rattle.storage.specs.Window.{columnOf, lineOf, inWindow};
+ghost use Rattle.storage.specs.Window.{inWindow};
 ghost use Rattle.storage.specs.Run.{NextKey, FirstIn, RunEnd, NextRun, ListEnd};
 use crate::Run;
 use crate::find::key_at;
 use crate::find::lower_bound_from;
+ghost use Rattle.cells.specs.Key.{columnOf, lineOf};
 
 // The key itself if it is in the range; else the next one that may be.
 fn next_key(key: u64, low: u64, high: u64) -> u64
@@ -36,7 +38,7 @@ fn next_key(key: u64, low: u64, high: u64) -> u64
 // The first place from `i` on whose entry is in the range, or `used`.
 fn first_in(pool: &[[u64; 2]], used: usize, i: usize, low: u64, high: u64) -> usize
     requires { ⌜ (i ≤ used) × (used ≤ length (now pool)) × Sorted rowKey (take used (now pool)) ⌝ }
-    ensures { λ r. ⌜ FirstIn (now (pool .entry)) used i (columnOf low) (lineOf low) (columnOf high) (lineOf high) r ⌝ }
+    ensures { λ r. ⌜ FirstIn (was pool) used i (columnOf low) (lineOf low) (columnOf high) (lineOf high) r ⌝ }
 {
     let mut p = i;
     while p < used {
@@ -56,7 +58,7 @@ fn first_in(pool: &[[u64; 2]], used: usize, i: usize, low: u64, high: u64) -> us
 // The end of the entries from `from` on that are in the row of cells of that entry, and in the range.
 fn run_end(pool: &[[u64; 2]], used: usize, from: usize, low: u64, high: u64) -> usize
     requires { ⌜ (from < used) × (used ≤ length (now pool)) × Sorted rowKey (take used (now pool)) × (inWindow (columnOf low) (lineOf low) (columnOf high) (lineOf high) (first (now pool) from) ≡ true) ⌝ }
-    ensures { λ r. ⌜ RunEnd (now (pool .entry)) used from (columnOf low) (lineOf low) (columnOf high) (lineOf high) r ⌝ }
+    ensures { λ r. ⌜ RunEnd (was pool) used from (columnOf low) (lineOf low) (columnOf high) (lineOf high) r ⌝ }
 {
     let last = key_at(pool, from) / 4294967296 * 4294967296 + high % 4294967296;
     let mut to = from + 1;
@@ -72,7 +74,7 @@ fn run_end(pool: &[[u64; 2]], used: usize, from: usize, low: u64, high: u64) -> 
 // The next entries of the range from place `i` on: a stretch of the pool within one row of cells.
 pub fn next_run(pool: &[[u64; 2]], used: usize, i: usize, low: u64, high: u64) -> Run
     requires { ⌜ (i ≤ used) × (used ≤ length (now pool)) × Sorted rowKey (take used (now pool)) ⌝ }
-    ensures { λ r. ⌜ NextRun (now (pool .entry)) used i (columnOf low) (lineOf low) (columnOf high) (lineOf high) r ⌝ }
+    ensures { λ r. ⌜ NextRun (was pool) used i (columnOf low) (lineOf low) (columnOf high) (lineOf high) r ⌝ }
 {
     let from = first_in(pool, used, i, low, high);
     if from == used {
@@ -88,7 +90,7 @@ pub fn next_run(pool: &[[u64; 2]], used: usize, i: usize, low: u64, high: u64) -
 // The end of the entries of the key that stand from `from` on.
 pub fn list_end(pool: &[[u64; 2]], from: usize, used: usize, key: u64) -> usize
     requires { ⌜ (from ≤ used) × (used ≤ length (now pool)) ⌝ }
-    ensures { λ r. ⌜ ListEnd (now (pool .entry)) from used key r ⌝ }
+    ensures { λ r. ⌜ ListEnd (was pool) from used key r ⌝ }
 {
     let mut to = from;
     while to < used {

@@ -3,6 +3,7 @@
 ghost use mathlib.Core.Path.{_≡_};
 ghost use Prim.Native.Nat.{_+_, _-_, _≤_, _<_};
 ghost use lib.ListN.{length};
+ghost use Rattle.basics.specs.Lent.{was, is};
 ghost use Rattle.storage.specs.Pooled.{Columns};
 ghost use Rattle.point_tables.specs.Lent.{before, lent};
 ghost use Rattle.point_tables.specs.Holds.{Holds};
@@ -33,7 +34,7 @@ pub fn walk_run(
     start: usize,
 ) -> usize
     requires { ⌜ Room (now pool) (now spots) from to start × Slotted (now nums) (now reals) (now pool) from to ⌝ }
-    ensures { λ r. ⌜ Laid (kept (fateIn (now (nums .entry)) (now (reals .entry))) (listAt (now (pool .entry)) (now (spots .entry)) from to)) (now (pool .entry)) (now (spots .entry)) start to r (now (pool .exit)) (now (spots .exit)) ⌝ }
+    ensures { λ r. ⌜ Laid (kept (fateIn (was nums) (was reals)) (listAt (was pool) (was spots) from to)) (was pool) (was spots) start to r (is pool) (is spots) ⌝ }
 {
     let mut at = from;
     let mut i = from;
@@ -68,7 +69,7 @@ fn move_run(
     start: usize,
 ) -> usize
     requires { ⌜ Room (now pool) (now spots) from to start ⌝ }
-    ensures { λ r. ⌜ Laid (listAt (now (pool .entry)) (now (spots .entry)) from to) (now (pool .entry)) (now (spots .entry)) start to r (now (pool .exit)) (now (spots .exit)) ⌝ }
+    ensures { λ r. ⌜ Laid (listAt (was pool) (was spots) from to) (was pool) (was spots) start to r (is pool) (is spots) ⌝ }
 {
     let mut i = from;
     let mut w = start;
@@ -93,7 +94,7 @@ fn sweep_run(
     dirty: bool,
 ) -> usize
     requires { ⌜ Room (now pool) (now spots) from to start × Slotted (now nums) (now reals) (now pool) from to ⌝ }
-    ensures { λ r. ⌜ Laid (keptIf dirty (now (nums .entry)) (now (reals .entry)) (listAt (now (pool .entry)) (now (spots .entry)) from to)) (now (pool .entry)) (now (spots .entry)) start to r (now (pool .exit)) (now (spots .exit)) ⌝ }
+    ensures { λ r. ⌜ Laid (keptIf dirty (was nums) (was reals) (listAt (was pool) (was spots) from to)) (was pool) (was spots) start to r (is pool) (is spots) ⌝ }
 {
     if dirty {
         return walk_run(nums, reals, pool, spots, from, to, start);
@@ -115,7 +116,7 @@ pub fn sweep_lists(
     cells: &[[u64; 2]],
 ) -> usize
     requires { ⌜ Holds (lent nums reals ints map pool spots cells) ⌝ }
-    ensures { λ r. ⌜ (r ≡ length (keptEntries (before nums reals ints map pool spots cells))) × Columns (keptEntries (before nums reals ints map pool spots cells)) (now (pool .entry)) (now (spots .entry)) (now (pool .exit)) (now (spots .exit)) ⌝ }
+    ensures { λ r. ⌜ (r ≡ length (keptEntries (before nums reals ints map pool spots cells))) × Columns (keptEntries (before nums reals ints map pool spots cells)) (was pool) (was spots) (is pool) (is spots) ⌝ }
 {
     let used = basics::index_of(map[1]);
     let rows = basics::index_of(map[2]);

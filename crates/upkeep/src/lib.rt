@@ -1,6 +1,7 @@
 // `maintain` of a point grid: one sweep over the lists, one pass over the slots, one merge, and the cell table anew.
 // The caller has checked whether the tables hold a grid, and hands the verdict down as `held`.
 ghost use mathlib.Core.Path.{_≡_};
+ghost use Rattle.basics.specs.Lent.{was, is};
 ghost use Rattle.point_tables.specs.Lent.{after, before, lent};
 ghost use Rattle.point_tables.specs.Holds.{Holds};
 ghost use Rattle.point_tables.specs.Decide.{holds};
@@ -14,7 +15,7 @@ use maintain::Maintained;
 // The numbers of entries and cells in use.
 fn count(map: &mut [u64], used: usize, rows: usize)
     requires { ⌜ 2 < length (now map) ⌝ }
-    ensures { λ _. ⌜ now (map .exit) ≡ set (set (now (map .entry)) 1 used) 2 rows ⌝ }
+    ensures { λ _. ⌜ is map ≡ set (set (was map) 1 used) 2 rows ⌝ }
 {
     map[1] = basics::word_of(used);
     map[2] = basics::word_of(rows);
