@@ -2,10 +2,11 @@
 use Prim.Native.Nat.{ℕ, _/_, _<_}
 use mathlib.Core.List.{List, map}
 use lib.Seq.{slice}
+use Rattle.cells.specs.Key.{columnOf, lineOf}
 use Rattle.storage.specs.Keyed.{filter}
 use Rattle.storage.specs.Entries.{rowKey}
 use Rattle.storage.specs.Packed.{second}
-use Rattle.storage.specs.Window.{columnOf, lineOf, inWindow}
+use Rattle.storage.specs.Window.{inWindow}
 use Rattle.box_tables.specs.Tables.{slotOf}
 
 -- the entries before place `to` name slots below 256

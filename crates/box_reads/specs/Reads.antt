@@ -1,14 +1,11 @@
 -- `get`, `len` and `handles` of a box grid: box and data, the number of objects, their handles ascending by slot. Assumes nothing.
 use Prim.Native.Nat.{ℕ}
-use mathlib.Core.Bool.{false}
 use mathlib.Core.List.{List, [], _∷_}
 use lib.Dec.{eqb}
-use lib.IntN.{pos}
-use lib.Ieee.{fin}
 use lib.ListN.{length}
 use Rattle.basics.specs.Refusals.{unless, firstOf, pick}
-use Rattle.geometry.specs.declared.Position.{Position}
 use Rattle.geometry.specs.declared.Aabb.{Aabb}
+use Rattle.geometry.specs.Zero.{zero-aabb}
 use Rattle.slots.specs.declared.Handle.{Handle}
 use Rattle.slots.specs.Slot.{good}
 use Rattle.storage.specs.Keyed.{written}
@@ -19,12 +16,6 @@ use Rattle.box_reads.specs.declared.Got.{Got}
 use Rattle.replies.specs.declared.Count.{Count}
 use Rattle.box_reads.specs.Live.{liveSlots, listAnswer, listCount}
 use Rattle.replies.specs.Replies.{count}
-
-abbrev pub zero-position : Position
-zero-position = record { x = fin false 0 (pos 0); y = fin false 0 (pos 0) }
-
-abbrev pub zero-aabb : Aabb
-zero-aabb = record { ll = zero-position; ur = zero-position }
 
 abbrev pub got : ℕ → Aabb → ℕ → Got
 got a b d = record { answer = a; aabb = b; obj = d }

@@ -14,7 +14,7 @@ use lib.Ieee.{Float, nan, inf, fin, Format, binary32, low, up, down, neg, lt, le
 use lib.Ieee.Fits.{down-pos, and-i, and-l, and-r}
 use lib.Ieee.Nearest.{div-same}
 use lib.Ieee.Scale.{finite, overflow}
-use Rattle.basics.specs.Says.{Says, says-t, says-via}
+use Rattle.basics.specs.Says.{Says, says-t, says-via, says-and}
 use Rattle.geometry.specs.Domain.{within}
 use Rattle.geometry.specs.Value.{Num, scaled-zero, lt-num, le-num, either}
 use Rattle.geometry.proofs.laws.Sums.{neg-num}
@@ -25,7 +25,7 @@ use Rattle.cells.specs.CellRuleLaws.{zero-or}
 use Rattle.cells.specs.CellSignLaws.{cell-pos, cell-neg, cell-zero}
 
 pub says-both : (a b : Bool) → Says (a && b) (T a × T b)
-says-both a b = says-via (λ t. (and-l a b t, and-r a b t)) (λ t. and-i a b (t .0) (t .1)) (says-t (a && b))
+says-both a b = says-and a b (says-t a) (says-t b)
 
 -- ---- a quotient by two numbers is k exactly from k times both on, and below the next
 module _ (p u b k : ℕ) (U : 0 < u) (B : 0 < b) where

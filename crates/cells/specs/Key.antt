@@ -15,12 +15,12 @@ keyOf c = upward (c .y) * 4294967296 + upward (c .x)
 abbrev pub downward : ℕ → ℤ
 downward n = pos n -ℤ pos 2147483648
 
--- the column and the row, both counted from the least
+-- the column and the line, both counted from the least
 abbrev pub columnOf : ℕ → ℕ
 columnOf key = key % 4294967296
 
-abbrev pub rowOf : ℕ → ℕ
-rowOf key = key / 4294967296
+abbrev pub lineOf : ℕ → ℕ
+lineOf key = key / 4294967296
 
 unfoldable pub cellOfKey : ℕ → Cell
-cellOfKey key = record { x = downward (columnOf key); y = downward (rowOf key) }
+cellOfKey key = record { x = downward (columnOf key); y = downward (lineOf key) }

@@ -10,7 +10,6 @@ pub mod Edge
 pub mod Range
 pub mod Rising
 pub mod Key
-pub mod CircleRange
 pub mod ReachLaws
 pub mod EdgeRule
 pub mod Patterns

@@ -5,16 +5,15 @@ use mathlib.Core.Bool.{true, false, _&&_}
 use native.Mathlib.Omega.{arith}
 use lib.Dec.{T, eqb, eqb→eq}
 use lib.IntN.{pos}
-use lib.Ieee.{Float, nan, inf, fin, binary32, up, down, lt, eq, le, fits}
+use lib.Ieee.{Float, nan, inf, fin, up, down, lt, eq, le}
 use lib.Ieee.Fits.{and-i, and-l, and-r}
 use Rattle.geometry.specs.declared.Position.{Position}
 use Rattle.geometry.specs.Domain.{within, inDomain, positionInDomain, radiusInDomain}
 use Rattle.geometry.proofs.laws.Back.{le-ff, le-tt, le-tf}
 use Rattle.geometry.proofs.laws.DomainLaws.{domain-within, position-parts, radius-in-domain, low-within, high-within}
-use Rattle.geometry.proofs.laws.CircleLaws.{HeldPosition}
+use Rattle.geometry.specs.Circle.{cornerBelow, cornerAbove}
 use Rattle.cells.specs.CellRule.{Reached}
 use Rattle.cells.specs.CellRuleLaws.{le-of-tests}
-use Rattle.cells.specs.CircleRange.{circleLow, circleHigh}
 
 wider : (a d : ℕ) → a * 1 ≤ 1 * 1048576 * d → a * 1 ≤ 1 * 2097152 * d
 wider a d h = omega arith
@@ -45,15 +44,15 @@ domain-reached x h = within-wider x (domain-within x h)
 pub position-reached : (p : Position) → T (positionInDomain p) → Reached p
 position-reached p h = let (x, y) = position-parts p h in (domain-reached (p .x) x, domain-reached (p .y) y)
 
-module _ (c : Position) (r : Float) (fc : HeldPosition c) (fr : T (fits binary32 r)) (hc : T (positionInDomain c)) (hr : T (radiusInDomain r)) where
-  pub low-reached : Reached (circleLow c r)
+module _ (c : Position) (r : Float) (hc : T (positionInDomain c)) (hr : T (radiusInDomain r)) where
+  pub low-reached : Reached (cornerBelow c r)
   low-reached =
       let (x, y) = position-parts c hc in
       let d = radius-in-domain r hr in
-      (low-within (c .x) r (fc .0) fr x d, low-within (c .y) r (fc .1) fr y d)
+      (low-within (c .x) r x d, low-within (c .y) r y d)
 
-  pub high-reached : Reached (circleHigh c r)
+  pub high-reached : Reached (cornerAbove c r)
   high-reached =
       let (x, y) = position-parts c hc in
       let d = radius-in-domain r hr in
-      (high-within (c .x) r (fc .0) fr x d, high-within (c .y) r (fc .1) fr y d)
+      (high-within (c .x) r x d, high-within (c .y) r y d)

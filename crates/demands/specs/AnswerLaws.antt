@@ -6,7 +6,7 @@ use mathlib.Core.List.{List, [], _∷_}
 use lib.Dec.{eqb}
 use lib.ListN.{drop}
 use borrow.Author.Tests.{eqb-true}
-use Rattle.basics.specs.Says.{apart}
+use Rattle.basics.specs.Says.{apart, both-true, untrue}
 use Rattle.basics.specs.Refusals.{Refusal, orElse, firstOf, pick}
 use Rattle.demands.specs.Answers.{order, applies, firstIn, firstThat}
 
@@ -23,14 +23,6 @@ abbrev pub ordered : List ℕ → List Refusal → Bool
 ordered ns [] = true
 ordered [] (r ∷ rs) = false
 ordered (n ∷ ns) (r ∷ rs) = pick (eqb (r .number) n) (ordered ns rs) (ordered ns (r ∷ rs))
-
-both : (a b : Bool) → (a && b) ≡ true → (a ≡ true) × (b ≡ true)
-both true b e = (refl, e)
-both false b e = absurd (apart e)
-
-untrue : (a : Bool) → not a ≡ true → a ≡ false
-untrue true e = absurd (apart e)
-untrue false e = refl
 
 -- a number that is not among them is no test's
 none : (ns : List ℕ) (rs : List Refusal) (n : ℕ) → ordered ns rs ≡ true → among n ns ≡ false → applies rs n ≡ false
@@ -57,9 +49,9 @@ passed (n ∷ ns) r rs e = (λ i. pick (same (eqb (r .number) n) i) n (passed ns
 first-in : (ns : List ℕ) (rs : List Refusal) → distinct ns ≡ true → ordered ns rs ≡ true → firstOf rs ≡ firstIn ns rs
 first-in [] [] d o = refl
 first-in [] (r ∷ rs) d o = absurd (apart o)
-first-in (n ∷ ns) [] d o = first-in ns [] (both (not (among n ns)) (distinct ns) d .1) refl
+first-in (n ∷ ns) [] d o = first-in ns [] (both-true (not (among n ns)) (distinct ns) d .1) refl
 first-in (n ∷ ns) (r ∷ rs) d o =
-    let w = both (not (among n ns)) (distinct ns) d in
+    let w = both-true (not (among n ns)) (distinct ns) d in
     go (first-in ns rs (w .1)) (first-in ns (r ∷ rs) (w .1)) (untrue (among n ns) (w .0)) (eqb (r .number) n) refl o (r .passes) refl
   where
     go : (ordered ns rs ≡ true → firstOf rs ≡ firstIn ns rs) → (ordered ns (r ∷ rs) ≡ true → firstOf (r ∷ rs) ≡ firstIn ns (r ∷ rs)) → among n ns ≡ false

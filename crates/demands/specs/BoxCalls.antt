@@ -17,7 +17,8 @@ use Rattle.box_changes.specs.SetAabb.{setAabbOf}
 use Rattle.box_changes.specs.Remove.{removeOf}
 use Rattle.box_reads.specs.declared.Got.{Got}
 use Rattle.box_reads.specs.Live.{liveSlots}
-use Rattle.box_reads.specs.Reads.{zero-aabb, Listing, getOf, lenOf, handlesOf}
+use Rattle.box_reads.specs.Reads.{Listing, getOf, lenOf, handlesOf}
+use Rattle.geometry.specs.Zero.{zero-aabb}
 use Rattle.box_reads.specs.Clear.{Written, clearOf}
 use Rattle.box_queries.specs.Queries.{Handles, Findings, broad, narrow, roomOf, broadOf, queryOf}
 use Rattle.basics.specs.Refusals.{Refusal}

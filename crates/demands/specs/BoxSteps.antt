@@ -18,7 +18,8 @@ use Rattle.box_inserts.specs.Insert.{insertAnswer, insertOf}
 use Rattle.box_changes.specs.Remove.{removeAnswer, removeOf}
 use Rattle.box_changes.specs.SetAabb.{setAabbAnswer, setAabbOf}
 use Rattle.box_reads.specs.Live.{liveSlots, answerBy, listAnswer, listCount}
-use Rattle.box_reads.specs.Reads.{zero-aabb, got, listing, getAnswer, getOf, lenOf, handlesOf}
+use Rattle.box_reads.specs.Reads.{got, listing, getAnswer, getOf, lenOf, handlesOf}
+use Rattle.geometry.specs.Zero.{zero-aabb}
 use Rattle.box_reads.specs.Clear.{wrote, clearOf}
 use Rattle.box_queries.specs.Queries as Queries
 use Rattle.box_queries.specs.Queries.{findings, broad, narrow, answerOf, broadOf, queryOf}

@@ -1,7 +1,7 @@
 -- The right lengths of the tables exist for every number of slots and every pool of the domain: `new` answers 0 on tables of these lengths,
 -- at every cell size of the domain. Assumes nothing.
 use Prim.Native.Nat.{ℕ, _+_, _≤_}
-use mathlib.Core.Path.{_≡_, ap}
+use mathlib.Core.Path.{_≡_}
 use mathlib.Core.List.{List, [], _∷_}
 use mathlib.Core.Bool.{false}
 use lib.IntN.{pos}
@@ -9,14 +9,13 @@ use lib.Ieee.{Float, fin}
 use lib.ListN.{replicate, length-replicate}
 use Rattle.cells.specs.Size.{SizeInDomain}
 use Rattle.slots.specs.Map.{head, wordsFor}
+use Rattle.blank.proofs.laws.BlankLaws.{size-says}
 use Rattle.point_tables.specs.Tables as Points
-use Rattle.point_tables.specs.Outcome as PointOutcome
+use Rattle.point_tables.specs.Decide as PointDecide
 use Rattle.inserts.specs.New as PointNew
-use Rattle.inserts.proofs.laws.NewLaws as PointLaws
 use Rattle.box_tables.specs.Tables as Boxes
-use Rattle.box_tables.specs.Outcome as BoxOutcome
+use Rattle.box_tables.specs.Decide as BoxDecide
 use Rattle.box_inserts.specs.New as BoxNew
-use Rattle.box_inserts.proofs.laws.NewLaws as BoxLaws
 
 abbrev two : {A : Type 0} → A → List A
 two a = a ∷ a ∷ []
@@ -48,7 +47,8 @@ point-sized n some most =
     })
 
 pub point-lengths : (n size : ℕ) → 1 ≤ n → n ≤ 4096 → SizeInDomain size → PointNew.newOf (pointTables n) size .result ≡ 0
-point-lengths n size some most d = ap (λ (o : PointOutcome.Outcome ℕ). o .result) (PointLaws.new-done (pointTables n) size (point-sized n some most) d)
+unfolding PointNew.newOf PointNew.newAnswer
+point-lengths n size some most d = rw (PointDecide.sized-says (pointTables n) .no (point-sized n some most), size-says size .no d)
 
 -- ---- and for n slots and a pool
 abbrev pub boxTables : ℕ → ℕ → Boxes.Tables
@@ -68,5 +68,5 @@ box-sized n pool some most more few =
     })
 
 pub box-lengths : (n pool size : ℕ) → 1 ≤ n → n ≤ 256 → 1 ≤ pool → pool ≤ 8192 → SizeInDomain size → BoxNew.newOf (boxTables n pool) size .result ≡ 0
-box-lengths n pool size some most more few d =
-    ap (λ (o : BoxOutcome.Outcome ℕ). o .result) (BoxLaws.new-done (boxTables n pool) size (box-sized n pool some most more few) d)
+unfolding BoxNew.newOf BoxNew.newAnswer
+box-lengths n pool size some most more few d = rw (BoxDecide.sized-says (boxTables n pool) .no (box-sized n pool some most more few), size-says size .no d)

@@ -24,7 +24,8 @@ use Rattle.inserts.specs.Insert.{usableSlot}
 use Rattle.moves.specs.Batch.{even}
 use Rattle.removals.specs.Meaning.Clear.{liveSlots}
 use Rattle.queries.specs.declared.Test.the-variants.{Any, Circle, Rectangle}
-use Rattle.queries.specs.Queries.{mostCells, found, cornerBelow, cornerAbove}
+use Rattle.queries.specs.Queries.{mostCells, found}
+use Rattle.geometry.specs.Circle.{cornerBelow, cornerAbove}
 
 -- ---- the tests of each call, with their numbers
 abbrev pub newApplies : Tables → ℕ → List Refusal

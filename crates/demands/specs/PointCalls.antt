@@ -21,7 +21,8 @@ use Rattle.maintain.specs.Maintain.{maintainOf}
 use Rattle.removals.specs.Meaning.RemoveMaintain.{removeMaintainOf}
 use Rattle.removals.specs.Meaning.Clear.{Written, liveSlots, clearOf}
 use Rattle.reads.specs.declared.Got.{Got}
-use Rattle.reads.specs.Meaning.{zero-position, Listing, getOf, lenOf, handlesOf}
+use Rattle.reads.specs.Meaning.{Listing, getOf, lenOf, handlesOf}
+use Rattle.geometry.specs.Zero.{zero-position}
 use Rattle.queries.specs.Queries.{Findings, queryOf, aroundOf, aabbOf}
 use Rattle.basics.specs.Refusals.{Refusal}
 use Rattle.demands.specs.Left.{Outputs, outputs, none, zeros, theCount, theHandle, theData, theChanges, theObject, Left, left, refused}

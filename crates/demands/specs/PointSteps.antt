@@ -23,10 +23,12 @@ use Rattle.moves.specs.Batch.{batched, batchAnswer, batchOf}
 use Rattle.maintain.specs.Maintain.{maintainedCounts, maintainOf}
 use Rattle.removals.specs.Meaning.RemoveMaintain.{removeMaintainAnswer, removeMaintainOf}
 use Rattle.removals.specs.Meaning.Clear.{wrote, liveSlots, clearAnswer, clearOf}
-use Rattle.reads.specs.Meaning.{zero-position, got, listing, liveHandles, getOf, lenOf, handlesOf}
+use Rattle.reads.specs.Meaning.{got, listing, liveHandles, getOf, lenOf, handlesOf}
+use Rattle.geometry.specs.Zero.{zero-position}
 use Rattle.queries.specs.declared.Test.{Test}
 use Rattle.queries.specs.declared.Test.the-variants.{Any, Circle, Rectangle}
-use Rattle.queries.specs.Queries.{findings, found, cornerBelow, cornerAbove, searchAnswer, searchOf, queryOf, aroundOf, aabbOf}
+use Rattle.queries.specs.Queries.{findings, found, searchAnswer, searchOf, queryOf, aroundOf, aabbOf}
+use Rattle.geometry.specs.Circle.{cornerBelow, cornerAbove}
 use Rattle.demands.specs.Tested.{Tested, tested, tested-held, no-nine, at-nine}
 use Rattle.demands.specs.Left.{outputs, none, refused}
 use Rattle.demands.specs.PointCalls.{PointCall, new, insert, setPosition, remove, batch, maintain, removeMaintain, clear}

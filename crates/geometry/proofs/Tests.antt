@@ -8,14 +8,6 @@ use Rattle.geometry.specs.Domain.{reach}
 pub both : {a b p q : Bool} → a ≡ p → b ≡ q → (a && b) ≡ (p && q)
 both e g = cc
 
--- a test that always passes may stand before another
-pub also : {a b : Bool} → a ≡ true → b ≡ (a && b)
-also e = rw e
-
-pub both-true : (a b : Bool) → (a && b) ≡ true → (a ≡ true) × (b ≡ true)
-both-true true b e = (refl, e)
-both-true false b e = (e, cc)
-
 pub least : neg (ofBits binary32 0x49800000) ≡ fin true 1 (pos reach)
 unfolding ofBits neg
 least = refl

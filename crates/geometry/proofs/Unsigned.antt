@@ -10,7 +10,7 @@ use lib.Pow.{pow-lt}
 use lib.Ieee.{Float, nan, inf, fin, binary32, up, down, eq, lt, neg, fits}
 use lib.Ieee.Fits.{up-pos}
 use borrow.Author.Tests.{eq-eqb, eqb-true, ltb-true, ltb-false}
-use Rattle.basics.specs.Says.{apart}
+use Rattle.basics.specs.Says.{apart, both-true}
 use Rattle.geometry.specs.Intersects.{absolute}
 
 abbrev none : Float
@@ -24,11 +24,7 @@ no-less : (a d : ℕ) → a < 0 * d → ⊥
 no-less a d h = omega (arith, zero-mul d)
 
 not-none : (a d : ℕ) (t : Bool) → 0 < a → (eqb a (0 * d) && t) ≡ true → ⊥
-not-none a d t h e = omega (arith, zero-mul d, eqb-true a (0 * d) (first (eqb a (0 * d)) t e))
-  where
-    first : (p q : Bool) → (p && q) ≡ true → p ≡ true
-    first true q e = refl
-    first false q e = e
+not-none a d t h e = omega (arith, zero-mul d, eqb-true a (0 * d) (both-true (eqb a (0 * d)) t e .0))
 
 -- of two that add up to nothing neither differs from 0
 some-none : (a d : ℕ) → (eqb a (0 * d) && (false || eqb a 0)) ≡ false → ltb 0 (a + 0 * d) ≡ false → ⊥

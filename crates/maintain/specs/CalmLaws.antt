@@ -17,13 +17,14 @@ use Rattle.storage.proofs.laws.PackedLaws.{all-first, place-filled}
 use Rattle.objects.specs.declared.State.{State}
 use Rattle.objects.specs.declared.State.the-variants.{Unchanged, NewPos, Relocate, Removed}
 use Rattle.objects.specs.Columns.{tagOf}
-use Rattle.point_tables.specs.Tables.{Tables, sizeOf, rowsOf, slotsOf, recordOn, cellRows}
+use Rattle.point_tables.specs.Tables.{Tables, sizeOf, rowsOf, slotsOf, recordOn, cellRows, slotOf}
 use Rattle.point_tables.specs.Holds.{Pending, Holds}
-use Rattle.maintain.specs.Walk.{slotOf, stays, fateBy, fate}
+use Rattle.point_tables.proofs.laws.HoldsLaws.{rows-in-cells}
+use Rattle.maintain.specs.Walk.{stays, fateBy, fate}
 use Rattle.maintain.specs.Maintain.{isDirty}
 use Rattle.maintain.specs.SettleLaws.{settled-calm}
 use Rattle.maintain.specs.Settle.{settledOver}
-use Rattle.maintain.specs.ListedLaws.{cellKey, in-cells}
+use Rattle.maintain.specs.TallyLaws.{cellKey}
 
 -- nothing is pending for slot i
 abbrev pub Calm : Tables → ℕ → Type 0
@@ -58,10 +59,10 @@ module _ (t : Tables) (h : Holds t) where
   cell-row i l p =
       let w = h .lists .every i l p in
       let r = h .packed .has-row (w .0) (w .1) in
-      place-filled (rowsOf t) (t .cells) (in-cells t h) (cellKey t i) (r .0) (r .1) (r .2 ∙ h .lists .each (w .0) (w .1) .key ∙ ap (cellKey t) (w .2))
+      place-filled (rowsOf t) (t .cells) (rows-in-cells t h) (cellKey t i) (r .0) (r .1) (r .2 ∙ h .lists .each (w .0) (w .1) .key ∙ ap (cellKey t) (w .2))
 
   pending-dirty : (i : ℕ) → i < slotsOf t → Pending t i → isDirty (cellRows t) (cellKey t i) ≡ true
-  pending-dirty i l p = dirty-rows (cellKey t i) (cellRows t) (cell-row i l (p .occupied)) (all-first (rowsOf t) (t .cells) (in-cells t h) _ (h .dirty i l p))
+  pending-dirty i l p = dirty-rows (cellKey t i) (cellRows t) (cell-row i l (p .occupied)) (all-first (rowsOf t) (t .cells) (rows-in-cells t h) _ (h .dirty i l p))
 
   pub clean-calm : (i : ℕ) → i < slotsOf t → phaseAt (t .nums) i ≡ live → isDirty (cellRows t) (cellKey t i) ≡ false → Calm t i
   clean-calm i l p e =

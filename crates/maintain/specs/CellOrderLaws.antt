@@ -16,15 +16,15 @@ use Rattle.storage.specs.Tables.{Rising}
 use Rattle.storage.specs.FilterLaws.{by-test, all-map, all-append, all-over, filter-append}
 use Rattle.storage.specs.KeyedLaws.{whole-under, none-under, sorted-flat, sorted-join}
 use Rattle.storage.proofs.laws.PackedLaws.{ascending-rising}
-use Rattle.point_tables.specs.Tables.{Tables, rowsOf, entriesIn, cellRows}
+use Rattle.point_tables.specs.Tables.{Tables, rowsOf, entriesIn, cellRows, slotOf}
 use Rattle.point_tables.specs.Holds.{Holds}
-use Rattle.maintain.specs.Walk.{slotOf}
 use Rattle.maintain.specs.Maintain.{isDirty, cellKeys}
 use Rattle.maintain.specs.Settle.{among, Distinct}
-use Rattle.maintain.specs.ListedLaws.{Named, listing, in-cells}
 use Rattle.maintain.specs.Closed.{Order, joined}
 use Rattle.maintain.specs.CalmLaws.{cell-row}
 use Rattle.maintain.specs.SweepLaws.{listUnder}
+use Rattle.point_tables.proofs.laws.HoldsLaws.{rows-in-cells}
+use Rattle.point_tables.proofs.laws.ListedLaws.{Named, listing}
 
 abbrev Up : List ℕ → Type 0
 Up ks = Rising (λ k. k) ks
@@ -77,7 +77,7 @@ dirty-among k (r ∷ rows) d = by-test (eqb (rowKey r) k) (λ e. rw e) (λ e. rw
 
 module _ (t : Tables) (h : Holds t) where
   pub keys-up : Rising (λ k. k) (cellKeys t)
-  keys-up = up-rows (cellRows t) (ascending-rising (rowsOf t) (t .cells) (in-cells t h) (h .packed .ascending))
+  keys-up = up-rows (cellRows t) (ascending-rising (rowsOf t) (t .cells) (rows-in-cells t h) (h .packed .ascending))
 
   pub keys-distinct : Distinct (cellKeys t)
   keys-distinct = up-distinct (cellKeys t) keys-up

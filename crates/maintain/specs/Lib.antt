@@ -11,8 +11,7 @@ pub mod TotalLaws
 pub mod Kept
 pub mod KeptLaws
 pub mod WalkLaws
-pub mod EntryLaws
-pub mod ListedLaws
+pub mod TallyLaws
 pub mod Closed
 pub mod VisitLaws
 pub mod CalmLaws

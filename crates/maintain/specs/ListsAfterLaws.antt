@@ -25,17 +25,16 @@ use Rattle.objects.specs.declared.State.the-variants.{Unchanged, NewPos, Reloca
 use Rattle.objects.specs.declared.Record.{Record}
 use Rattle.objects.specs.Occupied.{Agrees}
 use Rattle.objects.specs.States.{isRemoved}
-use Rattle.point_tables.specs.Tables.{Tables, sizeOf, slotsOf, recordOn, entriesIn}
+use Rattle.point_tables.specs.Tables.{Tables, sizeOf, slotsOf, recordOn, entriesIn, slotOf}
 use Rattle.point_tables.specs.Holds.{Holds}
 use Rattle.point_tables.specs.CountLaws.{isLive}
-use Rattle.maintain.specs.Walk.{slotOf, moved, entryAt, fateBy, fate, staying}
+use Rattle.maintain.specs.Walk.{moved, entryAt, fateBy, fate, staying}
 use Rattle.maintain.specs.Maintain.{cellKeys}
 use Rattle.maintain.specs.SettleForm.{settledAs}
 use Rattle.maintain.specs.Settle.{among, settledAll}
 use Rattle.maintain.specs.Totals.{total, times}
 use Rattle.maintain.specs.TotalLaws.{total-append, total-same, total-appendAll}
 use Rattle.maintain.specs.KeptLaws.{kept-all, kept-total}
-use Rattle.maintain.specs.ListedLaws.{Named, Listing, listing, entries-sorted}
 use Rattle.maintain.specs.Closed.{joined, keptUnder, keptEntries, relocatedBy, relocatedAt, relocatedBelow, settledEntries}
 use Rattle.maintain.specs.VisitLaws.{joined-all}
 use Rattle.maintain.specs.SweepLaws.{listUnder, list-named}
@@ -43,6 +42,9 @@ use Rattle.maintain.specs.RelocatedLaws.{joined-totals, total-times}
 use Rattle.maintain.specs.CellOrderLaws.{joined-under, joined-sorted, keys-up, keys-distinct, no-list}
 use Rattle.maintain.specs.SettledForm.{kept-sorted}
 use Rattle.maintain.specs.RecordsAfterLaws.{all-slots, all-live, all-records}
+use Rattle.maintain.specs.TallyLaws.{tally, Tally}
+use Rattle.point_tables.proofs.laws.HoldsLaws.{entries-sorted}
+use Rattle.point_tables.proofs.laws.ListedLaws.{Named}
 
 -- ---- the pool is its lists, one after the other
 module _ (t : Tables) (h : Holds t) where
@@ -124,7 +126,7 @@ module _ (t : Tables) (h : Holds t) where
       kept-entries-total t h (λ e. one (eqb (slotOf e) i))
       ∙ total-same (λ e. times slotOf i (staying (fate t e))) (λ e. pick (eqb (slotOf e) i) (stay (recordOn t i .state)) 0) (entriesIn t) (all-any _ (staying-count t i) (entriesIn t))
       ∙ total-times (λ e. eqb (slotOf e) i) (stay (recordOn t i .state)) (entriesIn t)
-      ∙ ap (λ (k : ℕ). k * stay (recordOn t i .state)) (listing t h .once i l)
+      ∙ ap (λ (k : ℕ). k * stay (recordOn t i .state)) (tally t h .once i l)
 
   pub after-once : (i : ℕ) → i < slotsOf t → times slotOf i (settledEntries t) ≡ one (isLive (settledAll t) i)
   unfolding settledEntries
@@ -178,8 +180,8 @@ module _ (t : Tables) (h : Holds t) where
       (joined-all (Named (settledAll t)) (keptUnder t) (λ k. unfold keptUnder in kept-all (fate t) (Named t) (Named (settledAll t)) named-stays (listUnder t k) (list-named t h k)) (cellKeys t))
       (moves-named (slotsOf t) (omega arith))
 
-  pub after-listing : Listing (settledAll t) (settledEntries t)
-  after-listing = record { each = after-each; once = λ i l. after-once i (rw (all-slots t h) at l) }
+  pub after-tally : Tally (settledAll t) (settledEntries t)
+  after-tally = record { each = after-each; once = λ i l. after-once i (rw (all-slots t h) at l) }
 
   pub after-sorted : Sorted entryKey (settledEntries t)
   unfolding settledEntries

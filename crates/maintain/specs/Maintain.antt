@@ -13,11 +13,11 @@ use Rattle.storage.specs.CellTable.{fresh}
 use Rattle.objects.specs.declared.State.{State}
 use Rattle.objects.specs.declared.State.the-variants.{Unchanged, NewPos, Relocate, Removed}
 use Rattle.objects.specs.States.{isRemoved}
-use Rattle.point_tables.specs.Tables.{Tables, tables, counting, slotsOf, recordOn, entriesIn, cellRows}
+use Rattle.point_tables.specs.Tables.{Tables, tables, counting, slotsOf, recordOn, entriesIn, cellRows, slotOf}
 use Rattle.point_tables.specs.Decide.{holds}
 use Rattle.point_tables.specs.Outcome.{Outcome, outcome}
 use Rattle.maintain.specs.declared.Maintained.{Maintained}
-use Rattle.maintain.specs.Walk.{slotOf, Walked, walk}
+use Rattle.maintain.specs.Walk.{Walked, walk}
 
 -- ---- the lists, one after the other
 -- whether cell k is marked dirty

@@ -1,14 +1,13 @@
 -- Maintain leaves tables that hold a grid, with nothing pending and no mark set; and what it leaves of each object. Assumes nothing.
-use Prim.Native.Nat.{ℕ, _+_, _/_, _≤_, _<_}
+use Prim.Native.Nat.{ℕ, _≤_, _<_}
 use mathlib.Core.Path.{_≡_, refl, sym, _∙_, ap}
 use mathlib.Core.Bool.{true}
 use mathlib.Core.List.{List, [], _∷_, map}
 use native.Mathlib.Omega.{arith}
-use lib.ListN.{length, getD, set, drop, length-set, length-map, List·getD-append}
-use lib.Seq.{getD-set-same, getD-set-other}
+use lib.ListN.{length, getD, drop, length-map, List·getD-append}
 use borrow.Author.Tests.{eq-eqb}
 use Rattle.basics.specs.Counting.{one}
-use Rattle.slots.specs.Map.{head, usable}
+use Rattle.slots.specs.Map.{head}
 use Rattle.slots.specs.Slot.{live, phaseAt, SlotsHold}
 use Rattle.storage.specs.Keyed.{All}
 use Rattle.storage.specs.Entries.{Entry, rowKey, rowItem, rowOf, spotOf, entriesOf}
@@ -20,41 +19,21 @@ use Rattle.storage.specs.FilterLaws.{all-map, all-any, all-at, all-over}
 use Rattle.objects.specs.declared.State.the-variants.{Unchanged}
 use Rattle.objects.specs.declared.Record.{Record}
 use Rattle.objects.specs.Columns.{tagOf}
-use Rattle.point_tables.specs.Tables.{Tables, counting, sizeOf, usedOf, rowsOf, slotsOf, recordOn, entriesIn, Sized}
+use Rattle.point_tables.specs.Tables.{Tables, sizeOf, usedOf, rowsOf, slotsOf, recordOn, entriesIn, Sized, slotOf}
 use Rattle.point_tables.specs.Holds.{Counted, RecordHolds, Pending, ListsHold, Holds}
 use Rattle.point_tables.specs.CountLaws.{isLive}
-use Rattle.maintain.specs.Walk.{slotOf}
 use Rattle.maintain.specs.Maintain.{maintained}
 use Rattle.maintain.specs.Totals.{times}
 use Rattle.maintain.specs.Settle.{settledAll}
-use Rattle.maintain.specs.EntryLaws.{written-entries}
-use Rattle.maintain.specs.ListedLaws.{Named, Listing, from-listing}
 use Rattle.maintain.specs.Closed.{settledEntries, settledTables}
 use Rattle.maintain.specs.SettledForm.{maintained-is}
 use Rattle.maintain.specs.RecordsAfterLaws.{all-slots, all-shaped, all-size, slots-hold, occupied-after, calm-after, tag-after}
-use Rattle.maintain.specs.ListsAfterLaws.{after-listing}
+use Rattle.maintain.specs.ListsAfterLaws.{after-tally}
 use Rattle.maintain.specs.SpaceLaws.{after-most, after-rows-most, after-tabled}
-
--- ---- the head words written anew
-module _ (m : List ℕ) (used rows : ℕ) (h : head ≤ length m) where
-  counted-used : getD (counting m used rows) 1 0 ≡ used
-  counted-used = getD-set-other (set m 1 used) 2 1 rows 0 (λ e. omega arith) ∙ getD-set-same m 1 used 0 (omega arith)
-
-  counted-rows : getD (counting m used rows) 2 0 ≡ rows
-  counted-rows = getD-set-same (set m 1 used) 2 rows 0 (rw length-set (omega arith))
-
-  counted-size : getD (counting m used rows) 0 0 ≡ getD m 0 0
-  counted-size = getD-set-other (set m 1 used) 2 0 rows 0 (λ e. omega arith) ∙ getD-set-other m 1 0 used 0 (λ e. omega arith)
-
-  counted-usable : (s : ℕ) → usable (counting m used rows) s ≡ usable m s
-  counted-usable s = rw (getD-set-other (set m 1 used) 2 (head + s / 64) rows 0 (λ e. omega arith), getD-set-other m 1 (head + s / 64) used 0 (λ e. omega arith))
-
-  counted-length : length (counting m used rows) ≡ length m
-  counted-length = simp length-set
-
--- a map with the same bits
-same-slots : (nums : List (List ℕ)) (m k : List ℕ) → ((s : ℕ) → usable k s ≡ usable m s) → SlotsHold nums m → SlotsHold nums k
-same-slots nums m k same h = record { each = λ s l. rw (same s) (h .each s l); past = λ s l g. same s ∙ h .past s l g }
+use Rattle.maintain.specs.TallyLaws.{Tally, from-tally}
+use Rattle.point_tables.specs.EntryLaws.{written-entries}
+use Rattle.point_tables.proofs.laws.ListedLaws.{Named, from-listing}
+use Rattle.point_tables.proofs.laws.HeadLaws.{counted-used, counted-rows, counted-size, counted-length, counted-slots}
 
 module _ (t : Tables) (h : Holds t) where
   heads : head ≤ length (settledAll t .map)
@@ -103,7 +82,7 @@ module _ (t : Tables) (h : Holds t) where
   -- ---- the slots and the rows
   after-hold : SlotsHold (settledTables t .nums) (settledTables t .map)
   unfolding settledTables
-  after-hold = same-slots (settledAll t .nums) (settledAll t .map) _ (counted-usable (settledAll t .map) _ _ heads) (slots-hold t h)
+  after-hold = counted-slots (settledAll t .map) _ _ heads (settledAll t .nums) (slots-hold t h)
 
   after-packed : Packed (usedOf (settledTables t)) (rowsOf (settledTables t)) (settledTables t .pool) (settledTables t .cells)
   after-packed = rw (after-used, after-rows) written-rows
@@ -121,21 +100,21 @@ module _ (t : Tables) (h : Holds t) where
       as-written : entriesOf (settledTables t .pool) (settledTables t .spots) (length (settledEntries t)) ≡ settledEntries t
       as-written = unfold settledTables in written-entries (settledEntries t) (t .pool) (t .spots)
 
-  new-listing : Listing (settledTables t) (settledEntries t)
-  new-listing = record { each = all-map (Named (settledAll t)) (Named (settledTables t)) same-records (settledEntries t) (after-listing t h .each); once = counted }
+  new-tally : Tally (settledTables t) (settledEntries t)
+  new-tally = record { each = all-map (Named (settledAll t)) (Named (settledTables t)) same-records (settledEntries t) (after-tally t h .each); once = counted }
     where
       same-records : (e : Entry) → Named (settledAll t) e → Named (settledTables t) e
       same-records e n = unfold settledTables in record { inside = n .inside; occupied = n .occupied; key = n .key; at-x = n .at-x; at-y = n .at-y }
 
       counted : (i : ℕ) → i < slotsOf (settledTables t) → times slotOf i (settledEntries t) ≡ one (isLive (settledTables t) i)
-      counted = unfold settledTables in after-listing t h .once
+      counted = unfold settledTables in after-tally t h .once
 
   after-lists : ListsHold (settledTables t)
   after-lists =
       from-listing (settledTables t)
       (omega (arith, after-counted .used-most, after-sized .of-pool))
       (omega (arith, after-counted .used-most, after-sized .of-spots))
-      (rw after-entries new-listing)
+      (rw after-entries (from-tally (settledTables t) (settledEntries t) new-tally))
 
   -- ---- the records: nothing is pending
   was : (i : ℕ) → i < slotsOf (settledTables t) → i < slotsOf t

@@ -8,7 +8,7 @@ use lib.Dec.{eqb}
 use lib.ListN.{getD}
 use borrow.Author.Tests.{eqb-true}
 use Rattle.basics.specs.Refusals.{pick}
-use Rattle.basics.specs.Says.{apart}
+use Rattle.basics.specs.Says.{apart, untrue}
 use Rattle.slots.specs.Slot.{live, lastVersion, phaseAt, SlotsHold}
 use Rattle.slots.proofs.laws.SlotLaws.{row-holds, emptied-holds}
 use Rattle.storage.specs.FilterLaws.{by-test}
@@ -85,6 +85,11 @@ all-hold t shape h (suc n) l =
     (λ e. rw e (all-hold t shape h n (omega arith)))
 
 -- ---- the tables with every live slot settled
+-- the two tests of an object that is still live
+pub live-parts : (a b : Bool) → pick a (not b) false ≡ true → (a ≡ true) × (b ≡ false)
+live-parts true b e = (refl, untrue b e)
+live-parts false b e = absurd (apart e)
+
 module _ (t : Tables) (h : Holds t) where
   pub all-slots : slotsOf (settledAll t) ≡ slotsOf t
   unfolding settledAll
@@ -128,16 +133,11 @@ module _ (t : Tables) (h : Holds t) where
         go false e = e
 
     module _ (p : isLive (settledAll t) i ≡ true) where
-      both-said : (a b : Bool) → pick a (not b) false ≡ true → (a ≡ true) × (b ≡ false)
-      both-said true true e = absurd (apart e)
-      both-said true false e = (refl, refl)
-      both-said false b e = absurd (apart e)
-
       pub was-live : isLive t i ≡ true
-      was-live = both-said (isLive t i) (isRemoved (recordOn t i .state)) (sym all-live ∙ p) .0
+      was-live = live-parts (isLive t i) (isRemoved (recordOn t i .state)) (sym all-live ∙ p) .0
 
       pub not-removed : isRemoved (recordOn t i .state) ≡ false
-      not-removed = both-said (isLive t i) (isRemoved (recordOn t i .state)) (sym all-live ∙ p) .1
+      not-removed = live-parts (isLive t i) (isRemoved (recordOn t i .state)) (sym all-live ∙ p) .1
 
       pub record-after : recordOn (settledAll t) i ≡ settledRecord (recordOn t i)
       record-after = all-records ∙ rw was-live

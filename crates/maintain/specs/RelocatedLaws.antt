@@ -17,20 +17,21 @@ use Rattle.storage.specs.Entries.{Entry}
 use Rattle.storage.specs.FilterLaws.{by-test, all-map, all-any, all-both, filter-all, filter-gives}
 use Rattle.objects.specs.declared.State.{State}
 use Rattle.objects.specs.declared.State.the-variants.{Unchanged, NewPos, Relocate, Removed}
-use Rattle.point_tables.specs.Tables.{Tables, sizeOf, slotsOf, recordOn, entriesIn, cellRows}
+use Rattle.point_tables.specs.Tables.{Tables, sizeOf, slotsOf, recordOn, entriesIn, cellRows, slotOf}
 use Rattle.point_tables.specs.Holds.{Holds}
 use Rattle.point_tables.specs.CountLaws.{isLive}
-use Rattle.maintain.specs.Walk.{slotOf, fateBy, fate, leaving}
+use Rattle.point_tables.proofs.laws.ListedLaws.{Named, listing}
+use Rattle.maintain.specs.Walk.{fateBy, fate, leaving}
 use Rattle.maintain.specs.Maintain.{isDirty, bySlot}
 use Rattle.maintain.specs.Settle.{among}
 use Rattle.maintain.specs.Totals.{total, times}
 use Rattle.maintain.specs.TotalLaws.{total-append, total-same, total-filter, total-length}
 use Rattle.maintain.specs.KeptLaws.{moving-all, moving-total}
-use Rattle.maintain.specs.ListedLaws.{cellKey, Named, listing}
 use Rattle.maintain.specs.Closed.{Order, joined, relocatedBy, relocatedAt, relocatedBelow}
 use Rattle.maintain.specs.VisitLaws.{joined-all, visited-times}
 use Rattle.maintain.specs.CalmLaws.{Calm, clean-calm}
 use Rattle.maintain.specs.SweepLaws.{listUnder, movingUnder, list-named}
+use Rattle.maintain.specs.TallyLaws.{tally, cellKey}
 
 -- a list of as many elements as r, each of which is all of r
 only-one : {A : Type 0} (r m : List A) → length m ≡ length r → All (λ x. r ≡ x ∷ []) m → m ≡ r
@@ -59,7 +60,7 @@ total-times test c (x ∷ l) =
     (λ e. rw (e, total-times test c l) (simp zero-add))
 
 -- ---- one entry
-none-either : (b : Bool) → _≡_ {A = ℕ} 0 (pick b 0 0)
+pub none-either : (b : Bool) → _≡_ {A = ℕ} 0 (pick b 0 0)
 none-either true = refl
 none-either false = refl
 
@@ -106,7 +107,7 @@ module _ (t : Tables) (h : Holds t) (ks : List ℕ) (o : Order ks t) where
   pub visited-once : (i : ℕ) → i < slotsOf t → times slotOf i (joined (listUnder t) ks) ≡ pick (among (cellKey t i) ks) (one (isLive t i)) 0
   visited-once i l =
       visited-times t (entriesIn t) (all-map (Named t) _ (λ x m. m .key) (entriesIn t) (listing t h .each)) ks (o .distinct) i
-      ∙ rw (listing t h .once i l)
+      ∙ rw (tally t h .once i l)
 
   moving-times : (i : ℕ) → i < slotsOf t → times slotOf i all-moving ≡ length (relocatedAt t i)
   moving-times i l =

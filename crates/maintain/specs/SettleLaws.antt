@@ -14,7 +14,7 @@ use Rattle.objects.specs.declared.State.the-variants.{Unchanged}
 use Rattle.point_tables.specs.Tables.{Tables, sizeOf, slotsOf, recordOn, Sized}
 use Rattle.maintain.specs.Walk.{settled}
 use Rattle.maintain.specs.GivenBackLaws.{given-back-swap}
-use Rattle.maintain.specs.SettleForm.{Rows, rowsAt, recordIn, rowsAfter, comesBack, placedRows, settled-form}
+use Rattle.maintain.specs.SettleForm.{Rows, rowsAt, recordIn, rowsAfter, comesBack, settledRecord, placedRows, settled-form, rows-record}
 
 -- a row of each kind for each slot, and a bit
 pub record Shaped (t : Tables) : Type 0 where
@@ -61,6 +61,15 @@ module _ (t : Tables) (s : ℕ) where
   pub settled-size : sizeOf (settled t s) ≡ sizeOf t
   settled-size = settled-head 0 (omega arith)
 
+  pub settled-pool : settled t s .pool ≡ t .pool
+  settled-pool = ap (λ (w : Tables). w .pool) (settled-form t s)
+
+  pub settled-spots : settled t s .spots ≡ t .spots
+  settled-spots = ap (λ (w : Tables). w .spots) (settled-form t s)
+
+  pub settled-cells : settled t s .cells ≡ t .cells
+  settled-cells = ap (λ (w : Tables). w .cells) (settled-form t s)
+
   -- ---- every other slot
   pub settled-rows-other : (j : ℕ) → (j ≡ s → ⊥) → rowsAt (settled t s) j ≡ rowsAt t j
   settled-rows-other j n =
@@ -76,6 +85,9 @@ module _ (t : Tables) (s : ℕ) where
     settled-rows-same =
         let w = rowsAfter (rowsAt t s) in
         rw (settled-form t s, getD-set-same (t .nums) s (w .nums) [] inside, getD-set-same (t .reals) s (w .reals) [] (rw (shape .of-reals) inside), getD-set-same (t .ints) s (w .ints) [] (rw (shape .of-ints) inside))
+
+    pub settled-same : recordOn (settled t s) s ≡ settledRecord (recordOn t s)
+    settled-same = ap recordIn settled-rows-same ∙ rows-record (rowsAt t s)
 
   -- nothing is pending: nothing changes
   pub settled-calm : recordOn t s .state ≡ Unchanged → settled t s ≡ t

@@ -13,23 +13,23 @@ use Rattle.storage.specs.Keyed.{All, Sorted, under, appendAll}
 use Rattle.storage.specs.Entries.{Entry, entryKey}
 use Rattle.storage.specs.FilterLaws.{all-map, all-over}
 use Rattle.storage.specs.KeyedLaws.{sorted-determined}
-use Rattle.point_tables.specs.Tables.{Tables, slotsOf, entriesIn}
+use Rattle.point_tables.specs.Tables.{Tables, slotsOf, entriesIn, slotOf}
 use Rattle.point_tables.specs.Holds.{Holds}
 use Rattle.point_tables.specs.CountLaws.{isLive}
-use Rattle.maintain.specs.Walk.{slotOf}
+use Rattle.point_tables.proofs.laws.ListedLaws.{Named, listing}
 use Rattle.maintain.specs.Maintain.{swept, bySlot, entriesAfter, maintainedBy, cellKeys, maintained}
 use Rattle.maintain.specs.Settle.{among, settledAll}
 use Rattle.maintain.specs.SettleAllLaws.{in-agree, over-in}
 use Rattle.maintain.specs.Totals.{Alone, times}
 use Rattle.maintain.specs.Kept.{kept}
 use Rattle.maintain.specs.WalkLaws.{some, among-times, alone-distinct}
-use Rattle.maintain.specs.ListedLaws.{cellKey, Named, listing, entries-alone}
 use Rattle.maintain.specs.Closed.{Order, joined, keptUnder, keptEntries, relocatedBelow, relisted, settledEntries, settledTables}
 use Rattle.maintain.specs.VisitLaws.{joined-all, visited-times}
 use Rattle.maintain.specs.CalmLaws.{Calm, clean-calm}
 use Rattle.maintain.specs.SweepLaws.{listUnder, list-named, kept-own, kept-clean, swept-all}
 use Rattle.maintain.specs.RelocatedLaws.{unvisited-clean, visited-once, by-slot}
 use Rattle.maintain.specs.CellOrderLaws.{joined-under, joined-sorted, keys-up, keys-distinct, no-list, table-order}
+use Rattle.maintain.specs.TallyLaws.{cellKey, entries-alone}
 
 -- ---- each list walked by itself, in the order of the table
 module _ (t : Tables) (h : Holds t) where

@@ -18,9 +18,9 @@ use Rattle.storage.specs.KeyedLaws.{all-under, under-onList, under-other, sorte
 use Rattle.objects.specs.declared.State.{State}
 use Rattle.objects.specs.declared.State.the-variants.{Unchanged, NewPos, Relocate, Removed}
 use Rattle.objects.specs.declared.Record.{Record}
-use Rattle.point_tables.specs.Tables.{Tables, sizeOf, slotsOf, recordOn, entriesIn, cellRows}
+use Rattle.point_tables.specs.Tables.{Tables, sizeOf, slotsOf, recordOn, entriesIn, cellRows, slotOf}
 use Rattle.point_tables.specs.Holds.{Holds}
-use Rattle.maintain.specs.Walk.{slotOf, settled, stays, fateBy, fate, staying, walk}
+use Rattle.maintain.specs.Walk.{settled, stays, fateBy, fate, staying, walk}
 use Rattle.maintain.specs.Maintain.{isDirty, Sweep, visit, sweep, swept}
 use Rattle.maintain.specs.SettleLaws.{settled-size, settled-other}
 use Rattle.maintain.specs.Settle.{among, Distinct, settledOver}
@@ -30,10 +30,12 @@ use Rattle.maintain.specs.TotalLaws.{filter-most}
 use Rattle.maintain.specs.Kept.{kept, moving}
 use Rattle.maintain.specs.KeptLaws.{kept-all, kept-same, moving-same, kept-calm, moving-calm}
 use Rattle.maintain.specs.WalkLaws.{some, among-times, list-kept, list-moving, list-records}
-use Rattle.maintain.specs.ListedLaws.{Named, listing, entries-alone, entries-sorted}
 use Rattle.maintain.specs.Closed.{joined, keptUnder}
 use Rattle.maintain.specs.VisitLaws.{among-append, distinct-front, distinct-new, joined-one, visited-times}
 use Rattle.maintain.specs.CalmLaws.{Calm, calm-fate, calm-over, clean-calm}
+use Rattle.maintain.specs.TallyLaws.{entries-alone}
+use Rattle.point_tables.proofs.laws.HoldsLaws.{entries-sorted}
+use Rattle.point_tables.proofs.laws.ListedLaws.{Named, listing}
 
 -- ---- a slot that is not among those settled is as it was
 pub over-other : (t : Tables) (ss : List ℕ) (j : ℕ) → among j ss ≡ false → recordOn (settledOver t ss) j ≡ recordOn t j

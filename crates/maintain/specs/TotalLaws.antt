@@ -1,20 +1,20 @@
 -- Laws of sums over lists: no order matters, and how often a name stands in a list. Assumes nothing.
-use Prim.Native.Nat.{ℕ, zero, suc, _+_, _≤_, _<_}
+use Prim.Native.Nat.{ℕ, _+_, _≤_}
 use mathlib.Core.Path.{_≡_, refl, sym, _∙_, ap}
 use mathlib.Core.Bool.{Bool}
 use mathlib.Core.List.{List, [], _∷_, _++_}
-use mathlib.Core.Logic.{⊎-elim}
+use mathlib.Core.Logic.{inl, inr}
 use native.Mathlib.Omega.{arith}
-use native.Mathlib.Nat.{not-suc-le-zero, le-of-suc-le-suc}
+use native.Mathlib.Nat.{not-suc-le-zero}
 use lib.Dec.{eqb}
-use lib.ListN.{length, getD}
+use lib.ListN.{length}
 use borrow.Author.Tests.{eqb-true, eq-eqb, ne-eqb, lt-ltb, le-ltb}
 use Rattle.basics.specs.Counting.{one}
 use Rattle.basics.specs.Refusals.{pick}
-use Rattle.basics.specs.Says.{d-le}
 use Rattle.storage.specs.Keyed.{All, filter, under, below, above, onList, append1, appendAll, last, front, close}
-use Rattle.storage.specs.FilterLaws.{by-test, by-order}
+use Rattle.storage.specs.FilterLaws.{by-test, by-order, all-map}
 use Rattle.storage.specs.TakeOutLaws.{front-last}
+use Rattle.point_tables.proofs.laws.Members.{Some, Pairs}
 use Rattle.maintain.specs.Totals.{total, times, Alone}
 
 module _ {A : Type 0} where
@@ -93,35 +93,26 @@ module _ {A : Type 0} (name : A → ℕ) where
   times-none i [] e = tt
   times-none i (x ∷ l) e = ((λ q. omega (arith, times-here i x q)), times-none i l (omega arith))
 
-  -- ---- by places
-  module _ (d : A) where
-    pub times-place : (l : List A) (j : ℕ) → j < length l → 1 ≤ times name (name (getD l j d)) l
-    times-place [] j h = absurd (not-suc-le-zero h)
-    times-place (x ∷ l) zero h = omega (arith, times-here (name x) x refl)
-    times-place (x ∷ l) (suc j) h = omega (arith, times-place l j (le-of-suc-le-suc h))
+  -- ---- a name that some element has, and elements with names of their own
+  pub times-some : (i : ℕ) (l : List A) → Some (λ x. name x ≡ i) l → 1 ≤ times name i l
+  times-some i [] s = absurd s
+  times-some i (x ∷ l) (inl e) = omega (arith, times-here i x e)
+  times-some i (x ∷ l) (inr s) = omega (arith, times-some i l s)
 
-    pub place-times : (i : ℕ) (l : List A) → 1 ≤ times name i l → (j : ℕ) × (j < length l) × (name (getD l j d) ≡ i)
-    place-times i [] h = absurd (not-suc-le-zero h)
-    place-times i (x ∷ l) h =
-        by-test (eqb (name x) i)
-        (λ e. (0, omega arith, eqb-true (name x) i e))
-        (λ e. let p = place-times i l (omega (arith, rw e at h)) in (suc (p .0), omega (arith, p .1), p .2))
+  pub some-times : (i : ℕ) (l : List A) → 1 ≤ times name i l → Some (λ x. name x ≡ i) l
+  some-times i [] h = not-suc-le-zero h
+  some-times i (x ∷ l) h =
+      by-test (eqb (name x) i)
+      (λ e. inl (eqb-true (name x) i e))
+      (λ e. inr (some-times i l (omega (arith, rw e at h))))
 
-    pub alone-places : (l : List A) → Alone name l → (i j : ℕ) → j < length l → i < j → name (getD l i d) ≡ name (getD l j d) → ⊥
-    alone-places [] a i j h g e = not-suc-le-zero h
-    alone-places (x ∷ l) a i zero h g e = not-suc-le-zero g
-    alone-places (x ∷ l) a zero (suc j) h g e = omega (arith, rw (← e) at (times-place l j (le-of-suc-le-suc h)), alone-head x l a)
-    alone-places (x ∷ l) a (suc i) (suc j) h g e = alone-places l (alone-tail x l a) i j (le-of-suc-le-suc h) (le-of-suc-le-suc g) e
+  pub pairs-alone : (l : List A) → Pairs (λ x y. name x ≡ name y → ⊥) l → Alone name l
+  pairs-alone [] p i = omega arith
+  pairs-alone (x ∷ l) p i =
+      by-test (eqb (name x) i)
+      (λ e. rw e (omega (arith, total-none _ l (all-map _ (λ y. one (eqb (name y) i) ≡ 0) (λ y n. ap one (ne-eqb (name y) i (λ q. n (eqb-true (name x) i e ∙ sym q)))) l (p .0)))))
+      (λ e. rw e (omega (arith, pairs-alone l (p .1) i)))
 
-    pub places-alone : (l : List A) → ((i j : ℕ) → j < length l → i < j → name (getD l i d) ≡ name (getD l j d) → ⊥) → Alone name l
-    places-alone [] f i = omega arith
-    places-alone (x ∷ l) f i =
-        let rest : Alone name l = places-alone l (λ a b h g. f (suc a) (suc b) (omega arith) (omega arith)) in
-        by-test (eqb (name x) i)
-        (λ e.
-        rw e
-        (⊎-elim
-        (λ h. let p = place-times i l h in absurd (f 0 (suc (p .0)) (omega (arith, p .1)) (omega arith) (eqb-true (name x) i e ∙ sym (p .2))))
-        (λ h. omega (arith, h))
-        (d-le 1 (times name i l))))
-        (λ e. rw e (omega (arith, rest i)))
+  pub alone-pairs : (l : List A) → Alone name l → Pairs (λ x y. name x ≡ name y → ⊥) l
+  alone-pairs [] a = tt
+  alone-pairs (x ∷ l) a = (all-map _ (λ y. name x ≡ name y → ⊥) (λ y n q. n (sym q)) l (times-none (name x) l (alone-head x l a)), alone-pairs l (alone-tail x l a))

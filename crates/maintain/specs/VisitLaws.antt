@@ -12,13 +12,12 @@ use Rattle.basics.specs.Says.{apart}
 use Rattle.storage.specs.Keyed.{All, under}
 use Rattle.storage.specs.Entries.{Entry, entryKey}
 use Rattle.storage.specs.FilterLaws.{by-test, all-map, all-any, all-append}
-use Rattle.point_tables.specs.Tables.{Tables}
-use Rattle.maintain.specs.Walk.{slotOf}
+use Rattle.point_tables.specs.Tables.{Tables, slotOf}
 use Rattle.maintain.specs.Settle.{among, Distinct}
 use Rattle.maintain.specs.Closed.{joined}
 use Rattle.maintain.specs.Totals.{total, times}
 use Rattle.maintain.specs.TotalLaws.{total-append, total-same, total-none, total-plus, total-filter}
-use Rattle.maintain.specs.ListedLaws.{cellKey}
+use Rattle.maintain.specs.TallyLaws.{cellKey}
 
 -- ---- orders
 pub among-append : (k : ℕ) (a b : List ℕ) → among k (a ++ b) ≡ pick (among k a) true (among k b)

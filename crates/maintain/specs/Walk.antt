@@ -12,11 +12,8 @@ use Rattle.storage.specs.Entries.{Entry, entry, rowItem}
 use Rattle.objects.specs.declared.State.{State}
 use Rattle.objects.specs.declared.State.the-variants.{Unchanged, NewPos, Relocate, Removed}
 use Rattle.objects.specs.declared.Record.{Record}
-use Rattle.point_tables.specs.Tables.{Tables, tables, sizeOf, recordOn}
+use Rattle.point_tables.specs.Tables.{Tables, tables, sizeOf, recordOn, slotOf}
 use Rattle.point_tables.specs.Outcome.{stored}
-
-abbrev pub slotOf : Entry → ℕ
-slotOf e = rowItem (e .row)
 
 -- an entry's row stays, and it takes a position
 abbrev pub moved : Entry → Position → Entry

@@ -13,8 +13,8 @@ use Rattle.storage.specs.Keyed.{All}
 use Rattle.storage.specs.Entries.{Entry}
 use Rattle.storage.specs.FilterLaws.{by-test, all-map, all-over}
 use Rattle.objects.specs.declared.Record.{Record}
-use Rattle.point_tables.specs.Tables.{Tables}
-use Rattle.maintain.specs.Walk.{slotOf, settled, Fate, fateBy, fate, staying, leaving, rest, walk}
+use Rattle.point_tables.specs.Tables.{Tables, slotOf}
+use Rattle.maintain.specs.Walk.{settled, Fate, fateBy, fate, staying, leaving, rest, walk}
 use Rattle.maintain.specs.SettleLaws.{settled-size, settled-other}
 use Rattle.maintain.specs.Settle.{among, Distinct, settledOver}
 use Rattle.maintain.specs.SettleAllLaws.{in-same, over-in}

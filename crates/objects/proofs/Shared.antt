@@ -4,14 +4,14 @@ use mathlib.Core.Path.{_≡_, refl, ap}
 use lib.Dec.{T}
 use lib.Ieee.{Float}
 use lib.Ieee.Fits.{and-i}
-use mathlib.Core.Bool.{Bool, true, false, _&&_}
+use mathlib.Core.Bool.{Bool, _&&_}
 use lib.IntN.{ℤ, pos}
 use lib.Signed.{mag}
 use mir.Syntax.{w32}
 use mir.Val.{toZ, ofZ, hbits}
 use mir.Facts.{toZ-ofZ}
 use borrow.Author.Needs.{sfits-of}
-use Rattle.basics.specs.Says.{Says, apart, says-via}
+use Rattle.basics.specs.Says.{Says, said-says, says-via, not-said, says-and}
 use Rattle.geometry.specs.declared.Position.{Position}
 use Rattle.cells.specs.declared.Cell.{Cell}
 use Rattle.geometry.specs.Domain.{inDomain}
@@ -25,10 +25,6 @@ pub back : {z : ℤ} → mag z < 2 ^ hbits w32 → toZ w32 (ofZ w32 z) ≡ z
 back p = toZ-ofZ (sfits-of p)
 
 -- ---- a position by the spans of a cell
-says-and : {P Q : Type 0} (a b : Bool) → Says a P → Says b Q → Says (a && b) (P × Q)
-says-and true b p q = record { yes = λ e. (p .yes refl, q .yes e); no = λ x. q .no (x .1) }
-says-and false b p q = record { yes = λ e. absurd (apart e); no = λ x. p .no (x .0) }
-
 module _ (size : ℕ) (c : Cell) (p : Position) where
   abbrev On : ℤ → Float → Type 0
   On k x = T (inDomain x) × (cellOf (pos size) x ≡ k)

@@ -7,17 +7,15 @@ use Rattle.geometry.specs.declared.Position.{Position}
 use Rattle.geometry.specs.Domain.{positionInDomain}
 use Rattle.cells.specs.declared.Cell.{Cell}
 use Rattle.cells.specs.CellRule.{cellAt}
+use Rattle.cells.specs.Numbers.{cell-ext}
 use Rattle.objects.specs.declared.State.{State}
 use Rattle.objects.specs.declared.State.the-variants.{Unchanged, NewPos, Relocate, Removed}
 use Rattle.objects.specs.declared.Record.{Record}
 use Rattle.objects.specs.Occupied.{InDomain, Agrees, Occupied}
 
-both : (a b : Cell) → a .x ≡ b .x → a .y ≡ b .y → a ≡ b
-both a b ex ey = λ z. record { x = ex z; y = ey z }
-
 pub d-cell : (a b : Cell) → Decided (a ≡ b)
 d-cell a b =
-    d-via (λ p. both a b (p .0) (p .1)) (λ e. (ap (λ (c : Cell). c .x) e, ap (λ (c : Cell). c .y) e))
+    d-via (λ p. cell-ext (p .0) (p .1)) (λ e. (ap (λ (c : Cell). c .x) e, ap (λ (c : Cell). c .y) e))
     (d-and (d-eqz (a .x) (b .x)) (d-eqz (a .y) (b .y)))
 
 d-three : {P Q R : Type 0} → Decided P → Decided Q → Decided R → Decided (P × Q × R)

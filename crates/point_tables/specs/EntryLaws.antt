@@ -17,7 +17,10 @@ zipped-length [] spots e = refl
 zipped-length (r ∷ rows) [] e = absurd (omega arith)
 zipped-length (r ∷ rows) (s ∷ spots) e = ap suc (zipped-length rows spots (omega arith))
 
-zipped-at : (rows : List (List ℕ)) (spots : List (List Float)) (j : ℕ) → j < length rows → j < length spots → getD (zipped rows spots) j (entry [] []) ≡ entry (getD rows j []) (getD spots j [])
+abbrev pub noEntry : Entry
+noEntry = entry [] []
+
+zipped-at : (rows : List (List ℕ)) (spots : List (List Float)) (j : ℕ) → j < length rows → j < length spots → getD (zipped rows spots) j noEntry ≡ entry (getD rows j []) (getD spots j [])
 zipped-at [] spots j h g = absurd (not-suc-le-zero h)
 zipped-at (r ∷ rows) [] j h g = absurd (not-suc-le-zero g)
 zipped-at (r ∷ rows) (s ∷ spots) zero h g = refl
@@ -31,17 +34,17 @@ module _ (pool : List (List ℕ)) (spots : List (List Float)) (used : ℕ) (u : 
   pub entries-length : length (entriesOf pool spots used) ≡ used
   entries-length = zipped-length (take used pool) (take used spots) (length-take-le used pool u ∙ sym (length-take-le used spots v)) ∙ length-take-le used pool u
 
-  pub entries-at : (j : ℕ) → j < used → getD (entriesOf pool spots used) j (entry [] []) ≡ entryAt pool spots j
+  pub entries-at : (j : ℕ) → j < used → getD (entriesOf pool spots used) j noEntry ≡ entryAt pool spots j
   entries-at j h =
       zipped-at (take used pool) (take used spots) j (rw (length-take-le used pool u) h) (rw (length-take-le used spots v) h)
       ∙ rw (getD-take used pool j [] h, getD-take used spots j [] h)
 
   -- a fact of every place is a fact of every entry
   pub all-entries : (P : Entry → Type 0) → ((j : ℕ) → j < used → P (entryAt pool spots j)) → All P (entriesOf pool spots used)
-  all-entries P f = all-of P (entry [] []) (entriesOf pool spots used) (λ j h. let l : j < used = rw entries-length at h in rw (entries-at j l) (f j l))
+  all-entries P f = all-of P noEntry (entriesOf pool spots used) (λ j h. let l : j < used = rw entries-length at h in rw (entries-at j l) (f j l))
 
   pub entries-all : (P : Entry → Type 0) → All P (entriesOf pool spots used) → (j : ℕ) → j < used → P (entryAt pool spots j)
-  entries-all P a j h = rw (entries-at j h) at (all-at P (entry [] []) (entriesOf pool spots used) j (rw entries-length h) a)
+  entries-all P a j h = rw (entries-at j h) at (all-at P noEntry (entriesOf pool spots used) j (rw entries-length h) a)
 
 -- ---- entries that are written are the entries in use
 pub written-entries : (es : List Entry) (pool : List (List ℕ)) (spots : List (List Float)) → entriesOf (written (map rowOf es) pool) (written (map spotOf es) spots) (length es) ≡ es

@@ -8,7 +8,7 @@ use lib.ListN.{length, getD, set, take}
 use Rattle.objects.specs.declared.Record.{Record}
 use Rattle.objects.specs.Columns.{recordAt}
 use Rattle.slots.specs.Map.{head, wordsFor}
-use Rattle.storage.specs.Entries.{Entry, entriesOf}
+use Rattle.storage.specs.Entries.{Entry, entriesOf, rowItem}
 
 -- nums: version, phase, obj, state tag; reals: recorded x, y, pending x, y; ints: recorded cell x, y, target cell x, y: a row for each slot.
 -- map: cell size, entries in use, cells in use, then the usable bits. pool: cell key, slot, and spots: x, y: a row for each list entry.
@@ -48,6 +48,10 @@ recordOn t s = recordAt (t .nums) (t .reals) (t .ints) s
 
 abbrev pub entriesIn : Tables → List Entry
 entriesIn t = entriesOf (t .pool) (t .spots) (usedOf t)
+
+-- the slot that an entry names
+abbrev pub slotOf : Entry → ℕ
+slotOf e = rowItem (e .row)
 
 abbrev pub cellRows : Tables → List (List ℕ)
 cellRows t = take (rowsOf t) (t .cells)

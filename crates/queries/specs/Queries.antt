@@ -4,12 +4,12 @@ use Prim.Native.Nat.{ℕ, min}
 use mathlib.Core.Bool.{Bool, true, _&&_}
 use mathlib.Core.List.{List, [], _∷_, map}
 use lib.Dec.{eqb, leb}
-use lib.Ieee.{Float, binary32, add, sub}
+use lib.Ieee.{Float}
 use lib.ListN.{length}
 use Rattle.basics.specs.Refusals.{unless, firstOf, pick}
 use Rattle.geometry.specs.declared.Position.{Position}
 use Rattle.geometry.specs.Domain.{positionInDomain, radiusInDomain}
-use Rattle.geometry.specs.Circle.{inCircle}
+use Rattle.geometry.specs.Circle.{inCircle, cornerBelow, cornerAbove}
 use Rattle.geometry.specs.Rectangle.{lowerCorner, upperCorner, inRectangle}
 use Rattle.cells.specs.CellRule.{cellAt}
 use Rattle.cells.specs.Range.{cellsIn}
@@ -82,13 +82,6 @@ searchOf t ok ll ur test handles places =
 unfoldable pub queryOf : Tables → Position → Position → List (List ℕ) → List (List Float) → Findings
 unfolding searchOf
 queryOf t ll ur = searchOf t (positionInDomain ll && positionInDomain ur) ll ur Any
-
--- from x-r, y-r to x+r, y+r, in binary32; these corners may leave the domain
-abbrev pub cornerBelow : Position → Float → Position
-cornerBelow c r = record { x = sub binary32 (c .x) r; y = sub binary32 (c .y) r }
-
-abbrev pub cornerAbove : Position → Float → Position
-cornerAbove c r = record { x = add binary32 (c .x) r; y = add binary32 (c .y) r }
 
 unfoldable pub aroundOf : Tables → Position → Float → List (List ℕ) → List (List Float) → Findings
 unfolding searchOf

@@ -8,18 +8,14 @@ use native.Mathlib.Numerals.{add-one}
 use lib.Dec.{eqb}
 use lib.ListN.{getD}
 use borrow.Author.Tests.{eqb-false, eq-eqb, ne-eqb}
-use Rattle.basics.specs.Refusals.{pick}
 use Rattle.slots.specs.Slot.{live}
 use Rattle.objects.specs.Columns.{pickState}
 use Rattle.objects.specs.declared.State.the-variants.{Unchanged, Removed}
 use Rattle.objects.specs.States.{isRemoved}
 use Rattle.maintain.specs.Maintain.{isMoving}
+use Rattle.maintain.specs.RelocatedLaws.{none-either}
 use Rattle.settle.specs.Counts.{numbered, movedIn, removedIn, stateIn, oneMoved, oneRemoved}
 use Rattle.settle.proofs.laws.CountsLaws.{count-most}
-
-none : (b : Bool) → _≡_ {A = ℕ} 0 (pick b 0 0)
-none true = refl
-none false = refl
 
 module _ (row : List ℕ) where
   abbrev phase : ℕ
@@ -37,14 +33,14 @@ module _ (row : List ℕ) where
 
   -- a row whose state is neither
   pub not-moved : (tag ≡ 1 → ⊥) → (tag ≡ 2 → ⊥) → 0 ≡ oneMoved row
-  not-moved a b = rw (ne-eqb tag 1 a, ne-eqb tag 2 b, still (eqb tag 0)) (none (eqb phase live))
+  not-moved a b = rw (ne-eqb tag 1 a, ne-eqb tag 2 b, still (eqb tag 0)) (none-either (eqb phase live))
     where
       still : (z : Bool) → isMoving (pickState z Unchanged Removed) ≡ false
       still true = refl
       still false = refl
 
   pub not-removed : tag < 3 → 0 ≡ oneRemoved row
-  not-removed l = rw (stays (eqb tag 0) refl (eqb tag 1) refl (eqb tag 2) refl) (none (eqb phase live))
+  not-removed l = rw (stays (eqb tag 0) refl (eqb tag 1) refl (eqb tag 2) refl) (none-either (eqb phase live))
     where
       stays : (x : Bool) → eqb tag 0 ≡ x → (y : Bool) → eqb tag 1 ≡ y → (z : Bool) → eqb tag 2 ≡ z → isRemoved (stateIn row) ≡ false
       stays true e y f z g = rw e

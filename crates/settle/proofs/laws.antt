@@ -1,5 +1,4 @@
 -- Laws, and what the proofs share.
-pub mod Spots
 pub mod SpotLaws
 pub mod PutLaws
 pub mod BareLaws

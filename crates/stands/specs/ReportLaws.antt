@@ -15,10 +15,8 @@ use Rattle.basics.specs.Refusals.{orElse}
 use Rattle.basics.specs.Says.{d-eq, d-lt}
 use Rattle.geometry.specs.declared.Position.{Position}
 use Rattle.geometry.specs.Domain.{positionInDomain, radiusInDomain}
-use Rattle.geometry.proofs.laws.DomainLaws.{radius-fits}
 use Rattle.geometry.proofs.laws.BitsLaws.{same-by-axes}
-use Rattle.geometry.specs.Circle.{inCircle}
-use Rattle.geometry.proofs.laws.CircleLaws.{position-held}
+use Rattle.geometry.specs.Circle.{inCircle, cornerBelow, cornerAbove}
 use Rattle.cells.specs.CellRule.{cellAt, Reached}
 use Rattle.cells.specs.Range.{inRange, cellsIn}
 use Rattle.cells.specs.ReachLaws.{low-reached, high-reached}
@@ -28,16 +26,16 @@ use Rattle.slots.specs.Slot.{versionAt, good}
 use Rattle.storage.specs.Keyed.{All, written}
 use Rattle.storage.specs.Entries.{Entry, entry}
 use Rattle.storage.specs.FilterLaws.{all-at, filter-passes}
-use Rattle.point_tables.specs.Tables.{Tables, sizeOf, recordOn, entriesIn}
+use Rattle.point_tables.specs.Tables.{Tables, sizeOf, recordOn, entriesIn, slotOf}
 use Rattle.point_tables.specs.Holds.{Holds}
 use Rattle.point_tables.specs.Decide.{holds}
 use Rattle.moves.specs.Batch.{Call}
 use Rattle.moves.proofs.laws.MovesLaws.{Named, named}
 use Rattle.queries.specs.declared.Test.{Test}
 use Rattle.queries.specs.declared.Test.the-variants.{Circle}
-use Rattle.queries.specs.Queries.{Findings, findings, mostCells, positionOf, found, handleRow, placeRow, searchAnswer, searchOf, aroundOf, cornerBelow, cornerAbove}
+use Rattle.queries.specs.Queries.{Findings, findings, mostCells, positionOf, found, handleRow, placeRow, searchAnswer, searchOf, aroundOf}
 use Rattle.queries.proofs.laws.FoundLaws.{Standing}
-use Rattle.queries.proofs.laws.OnceLaws.{slotOf, Once, standing-good, found-once, found-standing, finds}
+use Rattle.queries.proofs.laws.OnceLaws.{Once, standing-good, found-once, found-standing, finds}
 use Rattle.queries.proofs.laws.ScanLaws.{circle-scan}
 use Rattle.stands.specs.StandsLaws.{Settled, nextMaintain, next-holds, stands, stands-at}
 use Rattle.stands.specs.Report.{ReportedAt, Reports, Due}
@@ -118,10 +116,10 @@ module _ (m : Tables) (h : Holds m) (c : Position) (r : Float) (handles : List (
   dr = and-r (positionInDomain c) (radiusInDomain r) both
 
   rl : Reached low
-  rl = low-reached c r (position-held c dc) (radius-fits r dr) dc dr
+  rl = low-reached c r dc dr
 
   ru : Reached high
-  ru = high-reached c r (position-held c dc) (radius-fits r dr) dc dr
+  ru = high-reached c r dc dr
 
   is-done : aroundOf m c r handles places ≡ findings (count 0 (length es)) (written (map (handleRow m) es) handles) (written (map placeRow es) places)
   unfolding aroundOf
@@ -186,7 +184,7 @@ module _ (m : Tables) (h : Holds m) (c : Position) (r : Float) (handles : List (
     q-covered : inRange (cellAt (sizeOf m) low) (cellAt (sizeOf m) high) (cellAt (sizeOf m) q) ≡ true
     q-covered =
         let o = h .records (g .slot) (n .inside) (n .occupied) .occupied .in-domain in
-        circle-cover (sizeOf m) (h .counted .size .0) q c r (position-held q o) (position-held c dc) (radius-fits r dr) o dc dr q-near
+        circle-cover (sizeOf m) (h .counted .size .0) q c r o dc dr q-near
 
     shown-at : (j : ℕ) → j < length es → slotOf (at j) ≡ g .slot → Shown j g p
     shown-at j l v =

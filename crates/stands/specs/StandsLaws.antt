@@ -2,11 +2,10 @@
 -- accepted call sent it, or where it was. Assumes nothing.
 use Prim.Native.Nat.{ℕ, _<_}
 use mathlib.Core.Path.{_≡_, refl, sym, ap, _∙_}
-use mathlib.Core.Bool.{Bool, true, false, not, _||_}
+use mathlib.Core.Bool.{true, false, _||_}
 use mathlib.Core.List.{List}
 use borrow.Author.Tests.{eqb-true, eq-eqb}
-use Rattle.basics.specs.Refusals.{pick}
-use Rattle.basics.specs.Says.{Says, apart}
+use Rattle.basics.specs.Says.{Says}
 use Rattle.slots.specs.declared.Handle.{Handle}
 use Rattle.slots.specs.Slot.{live, phaseAt, good}
 use Rattle.slots.proofs.laws.HandleLaws.{good-says}
@@ -27,6 +26,7 @@ use Rattle.maintain.specs.Walk.{placed}
 use Rattle.maintain.specs.Maintain.{maintained, maintainOf}
 use Rattle.maintain.specs.MaintainLaws.{maintain-done, maintain-accepted, maintain-keeps}
 use Rattle.maintain.specs.MaintainedLaws.{maintained-slots, maintained-live, maintained-object, all-calm}
+use Rattle.maintain.specs.RecordsAfterLaws.{live-parts}
 use Rattle.stands.specs.Whereabouts.{removedBy, lastAt}
 use Rattle.stands.specs.CallLaws.{Follows, calls-kept, calls-slots, calls-follow}
 
@@ -40,11 +40,6 @@ maintain-settles t e =
     let h = maintain-accepted t e in
     let d = ap (λ (o : Outcome Maintained). o .after) (maintain-done t h) in
     record { holds = maintain-keeps t h; calm = rw d (λ i l. all-calm t h i (rw (maintained-slots t h) at l)) }
-
-live-parts : (a b : Bool) → pick a (not b) false ≡ true → (a ≡ true) × (b ≡ false)
-live-parts true true e = absurd (apart e)
-live-parts true false e = (refl, refl)
-live-parts false b e = absurd (apart e)
 
 -- ---- the deferred calls cs on such tables, and the next maintain
 abbrev pub nextMaintain : Tables → List Call → Outcome Maintained

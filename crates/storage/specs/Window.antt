@@ -1,14 +1,9 @@
 -- A range of cells as four numbers, each counted upward from the least: lowest column, lowest row, highest column, highest row.
 -- A key is a row and a column, and it lies in the window if both do. Assumes nothing.
-use Prim.Native.Nat.{ℕ, _/_, _%_}
+use Prim.Native.Nat.{ℕ}
 use mathlib.Core.Bool.{Bool, _&&_}
 use lib.Dec.{leb}
-
-abbrev pub columnOf : ℕ → ℕ
-columnOf key = key % 4294967296
-
-abbrev pub lineOf : ℕ → ℕ
-lineOf key = key / 4294967296
+use Rattle.cells.specs.Key.{columnOf, lineOf}
 
 unfoldable pub inWindow : ℕ → ℕ → ℕ → ℕ → ℕ → Bool
 inWindow x0 y0 x1 y1 key = (leb x0 (columnOf key) && leb (columnOf key) x1) && (leb y0 (lineOf key) && leb (lineOf key) y1)

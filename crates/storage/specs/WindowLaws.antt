@@ -2,14 +2,14 @@
 use Prim.Native.Nat.{ℕ, _<_}
 use mathlib.Core.Path.{_≡_, refl, sym, _∙_, ap}
 use mathlib.Core.Logic.{⊎-elim}
-use mathlib.Core.Bool.{Bool, true, false, _&&_}
+use mathlib.Core.Bool.{Bool, true, _&&_}
 use mathlib.Core.List.{List, [], _∷_, List·Memᴰ, List·Memᴰ·head, List·Memᴰ·tail, List·Memᴰ·cases-cons, List·Memᴰ·not-nil}
 use native.Mathlib.Omega.{arith}
 use lib.Dec.{eqb}
 use lib.IntN.{ℤ, pos, negsuc}
 use lib.Signed.{mag, leZ}
 use borrow.Author.Tests.{leb-true, eqb-true, eq-eqb}
-use Rattle.basics.specs.Says.{Says, says-same, apart}
+use Rattle.basics.specs.Says.{Says, says-same, apart, both-true}
 use Rattle.cells.specs.declared.Cell.{Cell}
 use Rattle.cells.specs.Numbers.{Fits}
 use Rattle.cells.specs.Range.{rangeCells, inRange}
@@ -44,10 +44,6 @@ between a (pos c) (negsuc b) p q ha hb = absurd (apart q)
 between (pos a) (negsuc c) b p q ha hb = absurd (apart p)
 between (negsuc a) (negsuc c) b p q ha hb = omega (arith, leb-true c a p)
 
-both : (p q : Bool) → (p && q) ≡ true → (p ≡ true) × (q ≡ true)
-both true q h = (refl, h)
-both false q h = absurd (apart h)
-
 -- a key in the window of the range from a to b
 abbrev pub windowOf : Cell → Cell → ℕ → Bool
 windowOf a b k = inWindow (upward (a .x)) (upward (a .y)) (upward (b .x)) (upward (b .y)) k
@@ -60,9 +56,9 @@ module _ (a b : Cell) (fa : Fits a) (fb : Fits b) where
   pub range-fits : (c : Cell) → inRange a b c ≡ true → Fits c
   unfolding inRange
   range-fits c h =
-      let p = both (leZ (a .x) (c .x) && leZ (c .x) (b .x)) (leZ (a .y) (c .y) && leZ (c .y) (b .y)) h in
-      let x = both (leZ (a .x) (c .x)) (leZ (c .x) (b .x)) (p .0) in
-      let y = both (leZ (a .y) (c .y)) (leZ (c .y) (b .y)) (p .1) in
+      let p = both-true (leZ (a .x) (c .x) && leZ (c .x) (b .x)) (leZ (a .y) (c .y) && leZ (c .y) (b .y)) h in
+      let x = both-true (leZ (a .x) (c .x)) (leZ (c .x) (b .x)) (p .0) in
+      let y = both-true (leZ (a .y) (c .y)) (leZ (c .y) (b .y)) (p .1) in
       record { x = between (a .x) (c .x) (b .x) (x .0) (x .1) (fa .x) (fb .x); y = between (a .y) (c .y) (b .y) (y .0) (y .1) (fa .y) (fb .y) }
 
   pub window-cell : (c : Cell) → Fits c → windowOf a b (keyOf c) ≡ inRange a b c

@@ -8,9 +8,9 @@ use lib.ListN.{length, getD, set}
 use Rattle.storage.specs.Entries.{Entry, entry}
 use Rattle.storage.specs.Packed.{second}
 use Rattle.storage.specs.FilterLaws.{all-any}
+use Rattle.point_tables.specs.EntryLaws.{entryAt}
 use Rattle.maintain.specs.Walk.{Fate, stays}
 use Rattle.maintain.specs.KeptLaws.{kept-calm}
-use Rattle.sweep.specs.Runs.{entryIn}
 use Rattle.sweep.specs.Tags.{spotBy, fateOfTag, fateIn}
 use Rattle.sweep.proofs.laws.TagLaws.{tag-stays, tag-leaves}
 use Rattle.sweep.proofs.laws.RunLaws.{run-length, entries-more}
@@ -47,19 +47,19 @@ module _ (nums : List (List ℕ)) (reals : List (List Float)) (P : List (List �
       (s .inside p (omega (arith, k)) (k .inside h))
 
   module _ (s : ℕ) (q : s ≡ second pool p) where
-    fate-at : fateIn nums reals (entryIn pool spots p) ≡ fateOfTag (getD (getD nums s []) 3 0) (getD reals s []) (entryIn pool spots p)
-    fate-at = ap (λ (x : ℕ). fateOfTag (getD (getD nums x []) 3 0) (getD reals x []) (entryIn pool spots p)) (sym q)
+    fate-at : fateIn nums reals (entryAt pool spots p) ≡ fateOfTag (getD (getD nums s []) 3 0) (getD reals s []) (entryAt pool spots p)
+    fate-at = ap (λ (x : ℕ). fateOfTag (getD (getD nums x []) 3 0) (getD reals x []) (entryAt pool spots p)) (sym q)
 
     pub walk-stays : getD (getD nums s []) 3 0 < 2 → (spot : List Float) → spot ≡ spotBy (getD (getD nums s []) 3 0) (getD reals s []) (getD spots p [])
         → Walking (fateIn nums reals) P S from to w₀ (i + 1) (i + 1) end (w + 1) (set pool w (getD pool p [])) (set spots w spot)
     walk-stays g spot e =
         walking-stays (fateIn nums reals) P S from to w₀ room p i end w pool spots k h (getD pool p []) spot
-        (fate-at ∙ tag-stays (getD (getD nums s []) 3 0) (getD reals s []) (entryIn pool spots p) g ∙ ap (λ (x : List Float). stays (entry (getD pool p []) x)) (sym e))
+        (fate-at ∙ tag-stays (getD (getD nums s []) 3 0) (getD reals s []) (entryAt pool spots p) g ∙ ap (λ (x : List Float). stays (entry (getD pool p []) x)) (sym e))
 
     pub walk-leaves : 2 ≤ getD (getD nums s []) 3 0 → Walking (fateIn nums reals) P S from to w₀ (end - 1) i (end - 1) w pool spots
     walk-leaves g =
         walking-leaves (fateIn nums reals) P S from to w₀ room p i end w pool spots k h []
-        (fate-at ∙ tag-leaves (getD (getD nums s []) 3 0) (getD reals s []) (entryIn pool spots p) g)
+        (fate-at ∙ tag-leaves (getD (getD nums s []) 3 0) (getD reals s []) (entryAt pool spots p) g)
 
 -- ---- a list of which all stay
 pub move-done : (P : List (List ℕ)) (S : List (List Float)) (from to w₀ : ℕ) → Room P S from to w₀
@@ -73,7 +73,7 @@ move-done P S from to w₀ room p i end w pool spots k g =
 pub stay-done : (P : List (List ℕ)) (S : List (List Float)) (from to w : ℕ) → Room P S from to w → w ≡ from → Laid (listAt P S from to) P S w to to P S
 stay-done P S from to w room e =
     record {
-      count = sym (ap (λ (n : ℕ). w + n) (run-length (entryIn P S) from (to - from)) ∙ omega (arith, room));
+      count = sym (ap (λ (n : ℕ). w + n) (run-length (entryAt P S) from (to - from)) ∙ omega (arith, room));
       low = omega arith;
       columns = rw (← e, entries-more P S w to (omega (arith, room)) (room .in-pool) (room .in-spots)) (laid-start P S to (room .in-pool) (room .in-spots));
     }

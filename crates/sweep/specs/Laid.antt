@@ -9,8 +9,9 @@ use Rattle.basics.specs.Refusals.{pick}
 use Rattle.storage.specs.Entries.{Entry, entriesOf}
 use Rattle.storage.specs.Packed.{second}
 use Rattle.storage.specs.Pooled.{Columns}
+use Rattle.point_tables.specs.EntryLaws.{entryAt}
 use Rattle.maintain.specs.Kept.{kept}
-use Rattle.sweep.specs.Runs.{entryIn, run}
+use Rattle.sweep.specs.Runs.{run}
 use Rattle.sweep.specs.Tags.{fateIn}
 
 -- the list at the places from..to is in both columns, and what it keeps is laid at place w or later, not behind where the list begins
@@ -33,7 +34,7 @@ pub record Laid (es : List Entry) (pool : List (List ℕ)) (spots : List (List F
 
 -- the list at the places from..to
 abbrev pub listAt : List (List ℕ) → List (List Float) → ℕ → ℕ → List Entry
-listAt pool spots from to = run (entryIn pool spots) from (to - from)
+listAt pool spots from to = run (entryAt pool spots) from (to - from)
 
 -- what a list keeps: it is walked if its cell is dirty
 abbrev pub keptIf : Bool → List (List ℕ) → List (List Float) → List Entry → List Entry

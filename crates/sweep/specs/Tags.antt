@@ -7,7 +7,8 @@ use lib.Ieee.{Float, nan}
 use lib.ListN.{getD}
 use Rattle.basics.specs.Refusals.{pick}
 use Rattle.storage.specs.Entries.{Entry, entry}
-use Rattle.maintain.specs.Walk.{slotOf, Fate, stays, leaves}
+use Rattle.point_tables.specs.Tables.{slotOf}
+use Rattle.maintain.specs.Walk.{Fate, stays, leaves}
 
 -- the position that an entry of a slot with row q has, if it stays
 abbrev pub spotBy : ℕ → List Float → List Float → List Float

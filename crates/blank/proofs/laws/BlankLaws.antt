@@ -1,13 +1,12 @@
 -- Slots that are all free hold; none is occupied, and every one is usable. Assumes nothing.
 use Prim.Native.Nat.{ℕ, _+_, _≤_, _<_}
 use mathlib.Core.Path.{_≡_, refl}
-use mathlib.Core.Bool.{Bool, true, false, _&&_}
 use mathlib.Core.List.{[], _∷_}
 use native.Mathlib.Omega.{arith}
 use lib.Dec.{leb}
 use lib.ListN.{length, getD, length-replicate, getD-replicate}
 use borrow.Author.Tests.{leb-true, le-leb}
-use Rattle.basics.specs.Says.{Says, apart}
+use Rattle.basics.specs.Says.{Says, both-true}
 use Rattle.cells.specs.Size.{SizeInDomain}
 use Rattle.slots.specs.Map.{head, wordsFor, usable}
 use Rattle.slots.specs.Slot.{free, live, versionAt, phaseAt, SlotHolds, SlotsHold}
@@ -48,17 +47,9 @@ module _ (n size : ℕ) where
   blank-not-live s h e = omega (arith, rw (blank-row s (rw blank-slots at h)) at e)
 
 -- ---- the tests of building
-pub not-said : {P : Type 0} {b : Bool} → Says b P → (P → ⊥) → b ≡ false
-not-said {b = true} s n = absurd (n (s .yes refl))
-not-said {b = false} s n = refl
-
-and-both : (a b : Bool) → (a && b) ≡ true → (a ≡ true) × (b ≡ true)
-and-both true b e = (refl, e)
-and-both false b e = absurd (apart e)
-
 pub size-says : (size : ℕ) → Says (sizeOk size) (SizeInDomain size)
 size-says size =
     record {
-      yes = λ e. let b = and-both (leb 1 size) (leb size 1048576) e in (leb-true 1 size (b .0), leb-true size 1048576 (b .1));
+      yes = λ e. let b = both-true (leb 1 size) (leb size 1048576) e in (leb-true 1 size (b .0), leb-true size 1048576 (b .1));
       no = λ d. rw (le-leb 1 size (d .0), le-leb size 1048576 (d .1));
     }

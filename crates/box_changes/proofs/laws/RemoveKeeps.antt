@@ -20,7 +20,7 @@ use Rattle.box_tables.specs.Holds.{Counted, Holds}
 use Rattle.box_tables.proofs.laws.HeadLaws.{counted-used, counted-size, counted-length, counted-slots}
 use Rattle.box_inserts.proofs.laws.ChangeLaws.{Others, changed-holds}
 use Rattle.box_changes.specs.Remove.{entriesWithout, takenOut}
-use Rattle.box_changes.proofs.laws.WithoutLaws.{without-sorted, without-length, without-other, without-keeps}
+use Rattle.box_changes.proofs.laws.WithoutLaws.{without-sorted, without-length, without-other, without-keeps, without-fits}
 
 -- the row of the slot after it
 pub taken-row : (t : Tables) (s : ℕ) → (row : List ℕ) × (getD row 1 0 ≡ live → ⊥) × (takenOut t s .nums ≡ set (t .nums) s row)
@@ -72,12 +72,9 @@ module _ (t : Tables) (h : Holds t) (s : ℕ) (inside : s < slotsOf t) (is-live 
       as-written : take (length (entriesWithout t s)) (takenOut t s .pool) ≡ entriesWithout t s
       as-written = unfold takenOut in take-append-seam (entriesWithout t s) (drop (length (entriesWithout t s)) (t .pool))
 
-  fits : length (entriesWithout t s) ≤ length (t .pool)
-  fits = omega (arith, without-length t h s inside is-live, h .counted .used-most)
-
   pool-length : length (takenOut t s .pool) ≡ length (t .pool)
   unfolding takenOut
-  pool-length = length-written (entriesWithout t s) (t .pool) fits
+  pool-length = length-written (entriesWithout t s) (t .pool) (without-fits t h s inside is-live)
 
   taken-sized : Sized (takenOut t s)
   unfolding takenOut
@@ -93,7 +90,7 @@ module _ (t : Tables) (h : Holds t) (s : ℕ) (inside : s < slotsOf t) (is-live 
       })
 
   taken-counted : Counted (takenOut t s)
-  taken-counted = record { size = rw taken-size (h .counted .size); used-most = rw (taken-used, pool-length) fits }
+  taken-counted = record { size = rw taken-size (h .counted .size); used-most = rw (taken-used, pool-length) (without-fits t h s inside is-live) }
 
   pub taken-keeps : Holds (takenOut t s)
   taken-keeps =

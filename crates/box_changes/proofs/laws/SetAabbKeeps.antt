@@ -30,7 +30,7 @@ use Rattle.box_tables.proofs.laws.HeadLaws.{counted-used, counted-size, counted
 use Rattle.box_inserts.proofs.laws.ChangeLaws.{Others, Kept, changed-holds}
 use Rattle.box_changes.specs.Remove.{entriesWithout}
 use Rattle.box_changes.specs.SetAabb.{d-stay, cellsStay, recorded, entriesMoved, moved, placed}
-use Rattle.box_changes.proofs.laws.WithoutLaws.{without-sorted, without-length, without-other, without-none, without-keeps}
+use Rattle.box_changes.proofs.laws.WithoutLaws.{without-sorted, without-length, without-other, without-none, without-keeps, without-fits}
 
 -- ---- box b takes the place of the box of slot s, which is live
 module _ (t : Tables) (h : Holds t) (s : ℕ) (inside : s < slotsOf t) (is-live : phaseAt (t .nums) s ≡ live) (b : Aabb) where
@@ -158,9 +158,6 @@ module _ (t : Tables) (h : Holds t) (s : ℕ) (inside : s < slotsOf t) (is-live 
       as-written : take (length (entriesMoved t s b)) (moved t s b .pool) ≡ entriesMoved t s b
       as-written = unfold moved in take-append-seam (entriesMoved t s b) (drop (length (entriesMoved t s b)) (written (entriesWithout t s) (t .pool)))
 
-  pub left-fits : length (entriesWithout t s) ≤ length (t .pool)
-  left-fits = omega (arith, without-length t h s inside is-live, h .counted .used-most)
-
   module _ (in-domain : T (aabbInDomain b)) (few : covers (sizeOf t) b ≤ mostCells) (room : usedOf t + covers (sizeOf t) b ≤ length (t .pool) + covers (sizeOf t) (aabbOn t s)) where
     moved-fits : length (entriesMoved t s b) ≤ length (t .pool)
     moved-fits = omega (arith, moved-length)
@@ -168,7 +165,7 @@ module _ (t : Tables) (h : Holds t) (s : ℕ) (inside : s < slotsOf t) (is-live 
     pool-length : length (moved t s b .pool) ≡ length (t .pool)
     unfolding moved
     pool-length =
-        let e = length-written (entriesWithout t s) (t .pool) left-fits in
+        let e = length-written (entriesWithout t s) (t .pool) (without-fits t h s inside is-live) in
         length-written (entriesMoved t s b) (written (entriesWithout t s) (t .pool)) (omega (arith, e, moved-fits)) ∙ e
 
     moved-sized : Sized (moved t s b)

@@ -7,12 +7,11 @@ use native.Mathlib.Omega.{arith}
 use lib.Dec.{T, eqb}
 use lib.ListN.{length}
 use borrow.Author.Tests.{leb-true, le-leb}
-use Rattle.basics.specs.Says.{Says, says-t}
+use Rattle.basics.specs.Says.{Says, says-t, not-said}
 use Rattle.basics.specs.Refusals.{pick, orElse}
 use Rattle.geometry.specs.Domain.{aabbInDomain}
 use Rattle.geometry.specs.declared.Aabb.{Aabb}
 use Rattle.slots.specs.declared.Handle.{Handle}
-use Rattle.blank.proofs.laws.BlankLaws.{not-said}
 use Rattle.box_tables.specs.Tables.{Tables, sizeOf, usedOf, aabbOn, covers}
 use Rattle.box_tables.specs.Holds.{Holds}
 use Rattle.box_tables.specs.Decide.{holds, holds-says}

@@ -1,5 +1,5 @@
 -- The entries without those of an occupied slot: in order, with none of the slot, and every other box where it stood. Assumes nothing.
-use Prim.Native.Nat.{ℕ, _+_, _<_}
+use Prim.Native.Nat.{ℕ, _+_, _<_, _≤_}
 use mathlib.Core.Path.{_≡_, sym, _∙_, ap}
 use mathlib.Core.Bool.{Bool, false}
 use mathlib.Core.List.{[]}
@@ -36,6 +36,9 @@ module _ (t : Tables) (h : Holds t) (s : ℕ) (inside : s < slotsOf t) (is-live 
 
   pub without-length : length (entriesWithout t s) + covers (sizeOf t) (aabbOn t s) ≡ usedOf t
   without-length = left-length _ _ na nb (itemOn t s) (entriesIn t) stands ∙ entries-length t h
+
+  pub without-fits : length (entriesWithout t s) ≤ length (t .pool)
+  without-fits = omega (arith, without-length, h .counted .used-most)
 
   none : All (λ r. isItem (itemOn t s) r ≡ false) (entriesWithout t s)
   none = filter-empty (isItem (itemOn t s)) (entriesWithout t s) (omega (arith, ap length (left-none _ _ na nb (itemOn t s) (entriesIn t) stands (entries-sorted t h))))

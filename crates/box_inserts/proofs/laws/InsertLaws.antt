@@ -7,7 +7,7 @@ use native.Mathlib.Omega.{arith}
 use lib.Dec.{T, eqb}
 use lib.ListN.{length}
 use borrow.Author.Tests.{leb-true, le-leb, ne-eqb}
-use Rattle.basics.specs.Says.{Says, says-t}
+use Rattle.basics.specs.Says.{Says, says-t, not-said}
 use Rattle.basics.specs.Refusals.{pick}
 use Rattle.geometry.specs.Domain.{aabbInDomain}
 use Rattle.geometry.specs.declared.Aabb.{Aabb}
@@ -16,7 +16,6 @@ use Rattle.slots.specs.declared.Usable.the-variants.{At, Nothing}
 use Rattle.slots.specs.Map.{slotIn}
 use Rattle.slots.specs.Slot.{live, versionAt}
 use Rattle.slots.proofs.laws.SlotLaws.{lowest-free}
-use Rattle.blank.proofs.laws.BlankLaws.{not-said}
 use Rattle.box_tables.specs.Tables.{Tables, sizeOf, usedOf, covers, mostCells}
 use Rattle.box_tables.specs.Holds.{Holds}
 use Rattle.box_tables.specs.Decide.{holds, holds-says}

@@ -6,6 +6,7 @@ use native.Mathlib.Omega.{arith}
 use lib.Dec.{eqb}
 use lib.ListN.{length-replicate}
 use Rattle.basics.specs.Refusals.{orElse, pick}
+use Rattle.basics.specs.Says.{not-said}
 use Rattle.cells.specs.Size.{SizeInDomain}
 use Rattle.slots.specs.Slot.{live, phaseAt, SlotsHold}
 use Rattle.blank.specs.Blank.{sizeOk}

@@ -8,10 +8,11 @@ use native.Mathlib.Numerals.{add-one}
 use lib.ListN.{length, getD, set, take, drop, replicate, length-append, length-set, length-replicate, take-append-drop}
 use lib.Seq.{slice, take-suc, take-suc-set, drop-append-le, drop-length, take-take, length-take-le, slice-empty}
 use Rattle.basics.specs.Refusals.{pick}
+use Rattle.cells.specs.Key.{columnOf, lineOf}
 use Rattle.storage.specs.declared.Run.{Run}
 use Rattle.storage.specs.Keyed.{All}
 use Rattle.storage.specs.Entries.{rowKey}
-use Rattle.storage.specs.Window.{columnOf, lineOf, inWindow}
+use Rattle.storage.specs.Window.{inWindow}
 use Rattle.storage.specs.Run.{NextRun}
 use Rattle.storage.proofs.laws.RunStepLaws.{next-stretch}
 use Rattle.storage.proofs.laws.PackedLaws.{all-first}

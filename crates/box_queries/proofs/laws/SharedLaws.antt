@@ -1,18 +1,17 @@
 -- Two boxes share a cell exactly when, on both axes, neither range of cells ends before the other begins. Assumes nothing.
 use Prim.Native.Nat.{ℕ, suc, _+_, _<_, _≤_}
-use mathlib.Core.Path.{_≡_, refl, sym, ap, _∙_}
+use mathlib.Core.Path.{_≡_, sym, ap, _∙_}
 use mathlib.Core.Bool.{Bool, true, false, _&&_}
 use mathlib.Core.Logic.{inl, inr}
 use mathlib.Core.List.{List·Memᴰ}
 use lib.Dec.{T}
 use lib.IntN.{ℤ, pos, _+ℤ_}
 use lib.Signed.{leZ}
-use Rattle.basics.specs.Says.{apart}
+use Rattle.basics.specs.Says.{apart, both-true, and-true, says-t}
 use Rattle.geometry.specs.declared.Aabb.{Aabb}
 use Rattle.geometry.specs.Domain.{aabbInDomain}
 use Rattle.cells.specs.declared.Cell.{Cell}
 use Rattle.cells.specs.Range.{inRange}
-use Rattle.cells.proofs.laws.RangeLaws.{and-made}
 use Rattle.cells.proofs.laws.StepLaws.{Compared, compare, add-steps, le-step, reached}
 use Rattle.storage.specs.FilterLaws.{by-test}
 use Rattle.slots.specs.Slot.{live, phaseAt}
@@ -40,31 +39,23 @@ le-other a b h = go (compare a b)
 le-same : (a : ℤ) → leZ a a ≡ true
 le-same a = by-test (leZ a a) (λ e. e) (λ e. le-other a a e)
 
-both : (p q : Bool) → (p && q) ≡ true → (p ≡ true) × (q ≡ true)
-both true q h = (refl, h)
-both false q h = absurd (apart h)
-
-is-true : (b : Bool) → T b → b ≡ true
-is-true true h = refl
-is-true false h = absurd h
-
 -- ---- one axis: the numbers from a to b, and those from c to d
 abbrev within : ℤ → ℤ → ℤ → Bool
 within a b x = leZ a x && leZ x b
 
 axis-of : (a b c d x : ℤ) → within a b x ≡ true → within c d x ≡ true → (leZ a d && leZ c b) ≡ true
 axis-of a b c d x h k =
-    let (p, q) = both (leZ a x) (leZ x b) h in
-    let (r, s) = both (leZ c x) (leZ x d) k in
-    and-made (le-trans a x d p s) (le-trans c x b r q)
+    let (p, q) = both-true (leZ a x) (leZ x b) h in
+    let (r, s) = both-true (leZ c x) (leZ x d) k in
+    and-true (le-trans a x d p s) (le-trans c x b r q)
 
 -- the higher of the two starts is in both
 of-axis : (a b c d : ℤ) → leZ a b ≡ true → leZ c d ≡ true → (leZ a d && leZ c b) ≡ true → (x : ℤ) × (within a b x ≡ true) × (within c d x ≡ true)
 of-axis a b c d p q h =
-    let (ad, cb) = both (leZ a d) (leZ c b) h in
+    let (ad, cb) = both-true (leZ a d) (leZ c b) h in
     by-test (leZ a c)
-    (λ e. (c, and-made e cb, and-made (le-same c) q))
-    (λ e. (a, and-made (le-same a) p, and-made (le-other a c e) ad))
+    (λ e. (c, and-true e cb, and-true (le-same c) q))
+    (λ e. (a, and-true (le-same a) p, and-true (le-other a c e) ad))
 
 -- ---- both axes
 module _ (size : ℕ) (p q : Aabb) where
@@ -84,17 +75,17 @@ module _ (size : ℕ) (p q : Aabb) where
   unfolding inRange
   shared-ranged s =
       let e = s .cell in
-      let (px, py) = both (within (a .x) (b .x) (e .x)) (within (a .y) (b .y) (e .y)) (s .of-first) in
-      let (qx, qy) = both (within (c .x) (d .x) (e .x)) (within (c .y) (d .y) (e .y)) (s .of-second) in
-      and-made (axis-of (a .x) (b .x) (c .x) (d .x) (e .x) px qx) (axis-of (a .y) (b .y) (c .y) (d .y) (e .y) py qy)
+      let (px, py) = both-true (within (a .x) (b .x) (e .x)) (within (a .y) (b .y) (e .y)) (s .of-first) in
+      let (qx, qy) = both-true (within (c .x) (d .x) (e .x)) (within (c .y) (d .y) (e .y)) (s .of-second) in
+      and-true (axis-of (a .x) (b .x) (c .x) (d .x) (e .x) px qx) (axis-of (a .y) (b .y) (c .y) (d .y) (e .y) py qy)
 
   pub ranged-shared : 1 ≤ size → T (aabbInDomain p) → T (aabbInDomain q) → ranged size p q ≡ true → Shared size p q
   unfolding inRange
   ranged-shared n dp dq h =
-      let (hx, hy) = both (leZ (a .x) (d .x) && leZ (c .x) (b .x)) (leZ (a .y) (d .y) && leZ (c .y) (b .y)) h in
-      let (x, px, qx) = of-axis (a .x) (b .x) (c .x) (d .x) (is-true (leZ (a .x) (b .x)) (corners-x p dp size n)) (is-true (leZ (c .x) (d .x)) (corners-x q dq size n)) hx in
-      let (y, py, qy) = of-axis (a .y) (b .y) (c .y) (d .y) (is-true (leZ (a .y) (b .y)) (corners-y p dp size n)) (is-true (leZ (c .y) (d .y)) (corners-y q dq size n)) hy in
-      record { cell = record { x = x; y = y }; of-first = and-made px py; of-second = and-made qx qy }
+      let (hx, hy) = both-true (leZ (a .x) (d .x) && leZ (c .x) (b .x)) (leZ (a .y) (d .y) && leZ (c .y) (b .y)) h in
+      let (x, px, qx) = of-axis (a .x) (b .x) (c .x) (d .x) (says-t (leZ (a .x) (b .x)) .no (corners-x p dp size n)) (says-t (leZ (c .x) (d .x)) .no (corners-x q dq size n)) hx in
+      let (y, py, qy) = of-axis (a .y) (b .y) (c .y) (d .y) (says-t (leZ (a .y) (b .y)) .no (corners-y p dp size n)) (says-t (leZ (c .y) (d .y)) .no (corners-y q dq size n)) hy in
+      record { cell = record { x = x; y = y }; of-first = and-true px py; of-second = and-true qx qy }
 
 -- ---- found exactly when, by numbers
 module _ (t : Tables) (h : Holds t) (q : Aabb) (dq : T (aabbInDomain q)) (s : ℕ) where

@@ -12,14 +12,14 @@ use Rattle.geometry.specs.Domain.{aabbInDomain}
 use Rattle.cells.specs.declared.Cell.{Cell}
 use Rattle.cells.specs.Numbers.{Fits, near-fits}
 use Rattle.cells.specs.Range.{inRange}
-use Rattle.cells.specs.Key.{keyOf}
+use Rattle.cells.specs.Key.{keyOf, columnOf, lineOf}
 use Rattle.cells.proofs.laws.KeyLaws.{key-lt}
 use Rattle.slots.specs.Slot.{live, phaseAt}
 use Rattle.storage.specs.Keyed.{All, filter}
 use Rattle.storage.specs.Entries.{rowKey}
 use Rattle.storage.proofs.laws.PackedLaws.{first-all}
 use Rattle.storage.specs.FilterLaws.{all-any, filter-same}
-use Rattle.storage.specs.Window.{columnOf, lineOf, inWindow}
+use Rattle.storage.specs.Window.{inWindow}
 use Rattle.storage.specs.WindowLaws.{windowOf, range-fits}
 use Rattle.storage.proofs.laws.WalkLaws.{walked-window}
 use Rattle.storage.proofs.laws.RunStepLaws.{key-windows}

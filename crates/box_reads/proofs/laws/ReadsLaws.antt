@@ -6,6 +6,7 @@ use mathlib.Core.List.{List}
 use lib.ListN.{length}
 use borrow.Author.Tests.{eq-eqb, ne-eqb}
 use Rattle.basics.specs.Counting.{countBelow}
+use Rattle.geometry.specs.Zero.{zero-aabb}
 use Rattle.slots.specs.declared.Handle.{Handle}
 use Rattle.slots.specs.Slot.{good}
 use Rattle.storage.specs.Keyed.{written}
@@ -15,7 +16,7 @@ use Rattle.box_tables.specs.Holds.{Holds}
 use Rattle.box_tables.specs.Decide.{holds, holds-says}
 use Rattle.box_reads.specs.Live.{liveSlots, listAnswer, listCount}
 use Rattle.box_reads.proofs.laws.LiveLaws.{live-count}
-use Rattle.box_reads.specs.Reads.{zero-aabb, got, listing, getAnswer, getOf, lenOf, handlesOf}
+use Rattle.box_reads.specs.Reads.{got, listing, getAnswer, getOf, lenOf, handlesOf}
 use Rattle.replies.specs.Replies.{count}
 
 module _ (t : Tables) (h : Handle) where

@@ -14,7 +14,7 @@ use Rattle.cells.specs.Numbers.{Near, Fits, near-fits}
 use Rattle.cells.specs.Range.{rangeCells}
 use Rattle.cells.specs.Key.{upward, keyOf, columnOf}
 use Rattle.cells.proofs.laws.KeyLaws.{upward-lt, key-column}
-use Rattle.cells.proofs.laws.RangeKeyLaws.{range-keys, count-up, upward-order}
+use Rattle.cells.proofs.laws.RangeKeyLaws.{range-keys, count-up, upward-order, near-below}
 use Rattle.cells.specs.Rising.{run, runs}
 use Rattle.slots.specs.Slot.{live, phaseAt}
 use Rattle.geometry.specs.declared.Aabb.{Aabb}
@@ -64,12 +64,8 @@ not-reversed : (a b : ℤ) → mag a < 2147483648 → mag b < 2147483648 → T (
 not-reversed a b ha hb h = leb→le (upward a) (upward b) (subst T (upward-order a b ha hb) h)
 
 -- a step on the way of a box fits 64 bits
-near-most : (z : ℤ) → mag z ≤ 4194304 → upward z ≤ 2151677952
-near-most (pos n) h = omega arith
-near-most (negsuc n) h = omega arith
-
 pub near-key : (c : Cell) → Near c → keyOf c < 18446744056529682432
-near-key c n = omega (arith, key-is c, near-most (c .x) (n .x), near-most (c .y) (n .y))
+near-key c n = omega (arith, key-is c, near-below (c .x) (n .x), near-below (c .y) (n .y))
 
 module _ (size : ℕ) (hs : 1 ≤ size) (b : Aabb) (h : T (aabbInDomain b)) where
   fits-low : Fits (lowCell size b)

@@ -9,7 +9,7 @@ use lib.Signed.{mag}
 use borrow.Author.Tests.{ltb-true, ltb-false}
 use Rattle.cells.specs.declared.Cell.{Cell}
 use Rattle.cells.specs.Numbers.{cell-ext, Fits}
-use Rattle.cells.specs.Key.{upward, downward, keyOf, columnOf, rowOf, cellOfKey}
+use Rattle.cells.specs.Key.{upward, downward, keyOf, columnOf, lineOf, cellOfKey}
 
 -- ---- one number
 pub upward-lt : (z : ℤ) → mag z < 2147483648 → upward z < 4294967296
@@ -50,7 +50,7 @@ pub key-column : (c : Cell) → Fits c → columnOf (keyOf c) ≡ upward (c .x)
 unfolding keyOf
 key-column c f = omega (arith, upward-lt (c .x) (f .x))
 
-pub key-row : (c : Cell) → Fits c → rowOf (keyOf c) ≡ upward (c .y)
+pub key-row : (c : Cell) → Fits c → lineOf (keyOf c) ≡ upward (c .y)
 unfolding keyOf
 key-row c f = omega (arith, upward-lt (c .x) (f .x))
 
@@ -63,8 +63,8 @@ cell-key c f =
 
 pub cell-key-fits : (k : ℕ) → k < 18446744073709551616 → Fits (cellOfKey k)
 unfolding cellOfKey
-cell-key-fits k h = record { x = downward-small (columnOf k) (omega arith); y = downward-small (rowOf k) (omega arith) }
+cell-key-fits k h = record { x = downward-small (columnOf k) (omega arith); y = downward-small (lineOf k) (omega arith) }
 
 pub key-cell : (k : ℕ) → keyOf (cellOfKey k) ≡ k
 unfolding keyOf cellOfKey
-key-cell k = omega (arith, upward-downward (columnOf k), upward-downward (rowOf k))
+key-cell k = omega (arith, upward-downward (columnOf k), upward-downward (lineOf k))

@@ -15,7 +15,7 @@ use Rattle.basics.specs.Says.{Says, says-same, says-via, d-le}
 use Rattle.cells.specs.declared.Cell.{Cell}
 use Rattle.cells.specs.Numbers.{Fits, Near}
 use Rattle.cells.specs.Range.{countFrom, cellsIn, row, rows, rangeCells, inRange}
-use Rattle.cells.specs.Key.{upward, keyOf, columnOf, rowOf}
+use Rattle.cells.specs.Key.{upward, keyOf, columnOf, lineOf}
 use Rattle.cells.proofs.laws.KeyLaws.{upward-lt, key-column, key-row}
 use Rattle.cells.proofs.laws.StepLaws.{Compared, compare, add-steps, count-step, count-past}
 use Rattle.cells.specs.Rising.{Rising, run, runs, runs-rising}
@@ -97,6 +97,10 @@ module _ (a b : ℤ) (ha : mag a < 2147483648) (hb : mag b < 2147483648) where
   pub count-most : countFrom a b ≤ 4294967296
   count-most = elim (d-le (upward a) (upward b)) [ inl h ↦ omega (arith, count-up h, upward-lt b hb) | inr h ↦ omega (arith, count-none (omega (arith, h))) ]
 
+pub near-below : (z : ℤ) → mag z ≤ 4194304 → upward z ≤ 2151677952
+near-below (pos n) h = omega arith
+near-below (negsuc n) h = omega arith
+
 pub near-count : (a b : ℤ) → mag a ≤ 4194304 → mag b ≤ 4194304 → countFrom a b ≤ 8388610
 near-count a b ha hb =
     elim (d-le (upward a) (upward b)) [
@@ -107,10 +111,6 @@ near-count a b ha hb =
     near-above : (z : ℤ) → mag z ≤ 4194304 → 2143289343 ≤ upward z
     near-above (pos n) h = omega arith
     near-above (negsuc n) h = omega arith
-
-    near-below : (z : ℤ) → mag z ≤ 4194304 → upward z ≤ 2151677952
-    near-below (pos n) h = omega arith
-    near-below (negsuc n) h = omega arith
 
 pub near-cells : (a b : Cell) → Near a → Near b → cellsIn a b ≤ 70368777732100
 unfolding cellsIn
@@ -135,7 +135,7 @@ upward-order (negsuc a) (negsuc b) ha hb = says-same (leb b a) (leb (2147483647 
 
 pub range-window : (a b c : Cell) → Fits a → Fits b → Fits c → inRange a b c ≡
     ((leb (upward (a .x)) (columnOf (keyOf c)) && leb (columnOf (keyOf c)) (upward (b .x)))
-    && (leb (upward (a .y)) (rowOf (keyOf c)) && leb (rowOf (keyOf c)) (upward (b .y))))
+    && (leb (upward (a .y)) (lineOf (keyOf c)) && leb (lineOf (keyOf c)) (upward (b .y))))
 unfolding inRange
 range-window a b c fa fb fc =
     rw (

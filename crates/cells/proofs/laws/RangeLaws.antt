@@ -2,14 +2,14 @@
 use Prim.Native.Nat.{ℕ, zero, suc, _+_, _*_, _<_}
 use mathlib.Core.Path.{_≡_, refl, sym, ap, _∙_, subst}
 use mathlib.Core.Logic.{inl, inr}
-use mathlib.Core.Bool.{Bool, true, false, _&&_}
+use mathlib.Core.Bool.{true, false, _&&_}
 use mathlib.Core.List.{[], List·Memᴰ, List·Memᴰ·head, List·Memᴰ·tail, List·Memᴰ·cases-cons, List·Memᴰ·append-cases, List·Memᴰ·not-nil, Memᴰ·cast, Memᴰ·append-left, Memᴰ·append-right}
 use native.Mathlib.Omega.{arith}
 use native.Mathlib.Nat.{mul-zero, mul-suc}
 use lib.IntN.{ℤ, pos, _+ℤ_, +ℤ-idr}
 use lib.ListN.{length, length-append}
 use lib.Signed.{leZ}
-use Rattle.basics.specs.Says.{apart}
+use Rattle.basics.specs.Says.{both-true, and-true}
 use Rattle.cells.specs.declared.Cell.{Cell}
 use Rattle.cells.specs.Numbers.{cell-ext}
 use Rattle.cells.specs.Range.{countFrom, cellsIn, row, rows, rangeCells, inRange}
@@ -75,19 +75,12 @@ rows-have x y n (suc m) i (suc j) h l =
     (subst (λ (z : ℤ). List·Memᴰ (record { x = x +ℤ pos i; y = z }) (rows x (y +ℤ pos 1) n m)) (right-one y j) (rows-have x (y +ℤ pos 1) n m i j h (omega arith)))
 
 -- ---- in the range exactly when among its cells
-and-parts : (p q : Bool) → (p && q) ≡ true → (p ≡ true) × (q ≡ true)
-and-parts true q h = (refl, h)
-and-parts false q h = absurd (apart h)
-
-pub and-made : {p q : Bool} → p ≡ true → q ≡ true → (p && q) ≡ true
-and-made {p} {q} h k = ap (λ (b : Bool). b && q) h ∙ k
-
 pub in-cells : (a b c : Cell) → inRange a b c ≡ true → List·Memᴰ c (rangeCells a b)
 unfolding inRange rangeCells
 in-cells a b c h =
-    let (px, py) = and-parts (leZ (a .x) (c .x) && leZ (c .x) (b .x)) (leZ (a .y) (c .y) && leZ (c .y) (b .y)) h in
-    let (lx, ux) = and-parts (leZ (a .x) (c .x)) (leZ (c .x) (b .x)) px in
-    let (ly, uy) = and-parts (leZ (a .y) (c .y)) (leZ (c .y) (b .y)) py in
+    let (px, py) = both-true (leZ (a .x) (c .x) && leZ (c .x) (b .x)) (leZ (a .y) (c .y) && leZ (c .y) (b .y)) h in
+    let (lx, ux) = both-true (leZ (a .x) (c .x)) (leZ (c .x) (b .x)) px in
+    let (ly, uy) = both-true (leZ (a .y) (c .y)) (leZ (c .y) (b .y)) py in
     let (i, hi, ex) = step-of (a .x) (b .x) (c .x) lx ux in
     let (j, hj, ey) = step-of (a .y) (b .y) (c .y) ly uy in
     Memᴰ·cast (cell-ext ex ey) (rows-have (a .x) (a .y) (countFrom (a .x) (b .x)) (countFrom (a .y) (b .y)) i j hi hj)
@@ -98,7 +91,7 @@ cells-in a b c m =
     let (i, j, hi, hj, e) = rows-of c (a .x) (a .y) (countFrom (a .x) (b .x)) (countFrom (a .y) (b .y)) m in
     let x = of-step (a .x) (b .x) (c .x) (i, hi, ap (λ (d : Cell). d .x) e) in
     let y = of-step (a .y) (b .y) (c .y) (j, hj, ap (λ (d : Cell). d .y) e) in
-    and-made (and-made (x .0) (x .1)) (and-made (y .0) (y .1))
+    and-true (and-true (x .0) (x .1)) (and-true (y .0) (y .1))
 
 -- ---- reversed on either axis: no cell
 rows-none : (x y : ℤ) (m : ℕ) → rows x y 0 m ≡ []

@@ -4,9 +4,9 @@ use mathlib.Core.Path.{_≡_}
 use mathlib.Core.Bool.{false}
 use lib.IntN.{pos}
 use lib.Dec.{T}
-use lib.Ieee.{Float, fin, binary32, le, sub, fits}
+use lib.Ieee.{Float, fin, binary32, le, sub}
 use Rattle.geometry.specs.declared.Position.{Position}
-use Rattle.geometry.specs.Domain.{positionInDomain, radiusInDomain}
+use Rattle.geometry.specs.Domain.{inDomain, positionInDomain, radiusInDomain}
 use Rattle.geometry.proofs.laws.DomainLaws.{domain-fits, domain-finite, position-parts, radius-forward, radius-in-domain}
 use Rattle.geometry.specs.Circle.{inCircle}
 use Rattle.geometry.proofs.laws.Rounding.{number}
@@ -31,18 +31,13 @@ no-point-outside p centre r a b c d e g h =
       around f (p .y) (centre .y) r qp kp qc kc pr nr b d e wp wc vr z (y-near f (sub f (p .x) (centre .x)) (sub f (p .y) (centre .y)) r _ _ _ _ pr nr dx dy vr (e .1) h),
     )
 
--- both coordinates are numbers that binary32 holds, as all of the machine's are
-abbrev pub HeldPosition : Position → Type 0
-HeldPosition p = T (fits binary32 (p .x)) × T (fits binary32 (p .y))
-
-pub position-held : (p : Position) → T (positionInDomain p) → HeldPosition p
-position-held p h = let (x, y) = position-parts p h in (domain-fits (p .x) x, domain-fits (p .y) y)
-
 -- the same in the words of the domain
-pub found-in-range : (p centre : Position) (r : Float) → HeldPosition p → HeldPosition centre → T (fits binary32 r) → T (positionInDomain p) → T (positionInDomain centre)
-    → T (radiusInDomain r) → T (inCircle p centre r) → Around binary32 (p .x) (centre .x) r × Around binary32 (p .y) (centre .y) r
-found-in-range p centre r hp hc hr dp dc dr h =
-    let i = position-parts p dp in
-    let j = position-parts centre dc in
-    no-point-outside p centre r (hp .0, domain-finite (p .x) (i .0)) (hp .1, domain-finite (p .y) (i .1)) (hc .0, domain-finite (centre .x) (j .0)) (hc .1, domain-finite (centre .y) (j .1))
-    (hr, domain-finite r (radius-in-domain r dr)) (radius-forward r dr) h
+pub found-in-range : (p centre : Position) (r : Float) → T (positionInDomain p) → T (positionInDomain centre) → T (radiusInDomain r) → T (inCircle p centre r)
+    → Around binary32 (p .x) (centre .x) r × Around binary32 (p .y) (centre .y) r
+found-in-range p centre r dp dc dr h =
+    let (px, py) = position-parts p dp in
+    let (cx, cy) = position-parts centre dc in
+    no-point-outside p centre r (plain (p .x) px) (plain (p .y) py) (plain (centre .x) cx) (plain (centre .y) cy) (plain r (radius-in-domain r dr)) (radius-forward r dr) h
+  where
+    plain : (x : Float) → T (inDomain x) → Plain binary32 x
+    plain x d = (domain-fits x d, domain-finite x d)

@@ -32,11 +32,11 @@ top : T (fits binary32 (fin false 1 (pos (suc reach))))
 unfolding fits
 top = tt
 
-pub low-within : (c r : Float) → T (fits binary32 c) → T (fits binary32 r) → T (inDomain c) → T (inDomain r) → T (within (suc reach) (sub binary32 c r))
-low-within c r fc fr h k = sub-within binary32 reach c r fc fr (domain-finite c h) (domain-finite r k) (domain-within c h) (domain-within r k) (lit< tt) top
+pub low-within : (c r : Float) → T (inDomain c) → T (inDomain r) → T (within (suc reach) (sub binary32 c r))
+low-within c r h k = sub-within binary32 reach c r (domain-fits c h) (domain-fits r k) (domain-finite c h) (domain-finite r k) (domain-within c h) (domain-within r k) (lit< tt) top
 
-pub high-within : (c r : Float) → T (fits binary32 c) → T (fits binary32 r) → T (inDomain c) → T (inDomain r) → T (within (suc reach) (add binary32 c r))
-high-within c r fc fr h k = add-within binary32 reach c r fc fr (domain-finite c h) (domain-finite r k) (domain-within c h) (domain-within r k) (lit< tt) top
+pub high-within : (c r : Float) → T (inDomain c) → T (inDomain r) → T (within (suc reach) (add binary32 c r))
+high-within c r h k = add-within binary32 reach c r (domain-fits c h) (domain-fits r k) (domain-finite c h) (domain-finite r k) (domain-within c h) (domain-within r k) (lit< tt) top
 
 -- ---- what the tests refuse
 pub nan-refused : inDomain nan ≡ false

@@ -21,13 +21,13 @@ use Rattle.storage.proofs.laws.PackedLaws.{all-first, place-filled}
 use Rattle.objects.specs.declared.Record.{Record}
 use Rattle.objects.specs.Columns.{tagOf, numsOf}
 use Rattle.objects.specs.Occupied.{InDomain}
-use Rattle.point_tables.specs.Tables.{Tables, sizeOf, rowsOf, slotsOf, recordOn, entriesIn, cellRows}
+use Rattle.point_tables.specs.Tables.{Tables, sizeOf, rowsOf, slotsOf, recordOn, entriesIn, cellRows, slotOf}
 use Rattle.point_tables.specs.Holds.{RecordHolds, ListsHold, Pending, Holds}
 use Rattle.point_tables.proofs.laws.HoldsLaws.{rows-in-cells, entries-sorted}
 use Rattle.inserts.specs.Insert.{newRecord, newEntry, entriesWith, rowsWith, put}
 use Rattle.point_tables.proofs.laws.Members.{some-append1, new-append1, pairs-append1}
 use Rattle.inserts.proofs.laws.EnterLaws.{all-entered}
-use Rattle.point_tables.proofs.laws.ListedLaws.{slotOf, Named, Listing, from-listing, listing, unnamed, rows-in}
+use Rattle.point_tables.proofs.laws.ListedLaws.{Named, Listing, from-listing, listing, unnamed, rows-in}
 use Rattle.inserts.proofs.laws.PutLaws.{put-rows, put-size, put-length, put-slots, put-same, put-other, put-entries, put-packed, put-sized, put-counted}
 
 module _ (t : Tables) (h : Holds t) (s : ℕ) (inside : s < slotsOf t) (is-free : phaseAt (t .nums) s ≡ free) (p : Position) (d : ℕ) (in-domain : InDomain p) where

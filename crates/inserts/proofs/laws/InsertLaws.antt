@@ -3,7 +3,7 @@ use Prim.Native.Nat.{ℕ}
 use mathlib.Core.Path.{_≡_, refl, _∙_}
 use mathlib.Core.Bool.{Bool, true, false}
 use lib.Dec.{eqb}
-use Rattle.basics.specs.Says.{says-t}
+use Rattle.basics.specs.Says.{says-t, not-said}
 use Rattle.basics.specs.Refusals.{pick}
 use Rattle.geometry.specs.Domain.{positionInDomain}
 use Rattle.geometry.specs.declared.Position.{Position}
@@ -12,7 +12,6 @@ use Rattle.slots.specs.declared.Usable.the-variants.{At, Nothing}
 use Rattle.slots.specs.Map.{lowestUsable, slotIn}
 use Rattle.slots.specs.Slot.{versionAt}
 use Rattle.slots.proofs.laws.SlotLaws.{lowest-free}
-use Rattle.blank.proofs.laws.BlankLaws.{not-said}
 use Rattle.objects.specs.Occupied.{InDomain}
 use Rattle.point_tables.specs.Tables.{Tables, slotsOf}
 use Rattle.point_tables.specs.Holds.{Holds}
@@ -44,6 +43,9 @@ module _ (t : Tables) (p : Position) (d : ℕ) where
   -- ---- exactly when each answer is given
   pub insert-done : (s : ℕ) → Holds t → InDomain p → usableSlot t ≡ At s → insertOf t p d ≡ outcome (inserted 0 s (versionAt (t .nums) s)) (put t s p d)
   insert-done s h i e = by-tests ∙ rw (holds-says t .no h, says-t (positionInDomain p) .no i, e)
+
+  pub insert-unheld : (Holds t → ⊥) → insertOf t p d ≡ outcome (inserted 3 0 0) t
+  insert-unheld h = by-tests ∙ rw (not-said (holds-says t) h)
 
   pub insert-outside : Holds t → (InDomain p → ⊥) → insertOf t p d ≡ outcome (inserted 6 0 0) t
   insert-outside h i = by-tests ∙ rw (holds-says t .no h, not-said (says-t (positionInDomain p)) i)

@@ -1,8 +1,8 @@
 -- Deferred calls on an object that has something pending: a second removal returns the data again, and a removed object cannot be moved.
 -- Assumes nothing.
 use mathlib.Core.Path.{_≡_, refl, ap, _∙_}
-use mathlib.Core.Bool.{Bool, true}
-use lib.Dec.{T}
+use mathlib.Core.Bool.{true}
+use Rattle.basics.specs.Says.{says-t}
 use Rattle.geometry.specs.Domain.{positionInDomain}
 use Rattle.geometry.specs.declared.Position.{Position}
 use Rattle.slots.specs.declared.Handle.{Handle}
@@ -21,9 +21,6 @@ use Rattle.moves.proofs.laws.PendedLaws.{nums-long, record-same, kept}
 use Rattle.moves.proofs.laws.MovesLaws.{remove-accepted, remove-done}
 use Rattle.moves.proofs.laws.MovesKeeps.{pended-holds}
 use Rattle.replies.specs.Replies.{reply}
-
-is-true : (b : Bool) → T b → b ≡ true
-is-true true h = refl
 
 module _ (t : Tables) (h : Handle) (e : removeAnswer t h ≡ 0) where
   abbrev gone : Tables
@@ -55,4 +52,4 @@ module _ (t : Tables) (h : Handle) (e : removeAnswer t h ≡ 0) where
   removed-stays at d =
       let a = remove-accepted t h e in
       let q : isRemoved (recordOn gone (h .slot) .state) ≡ true = ap (λ (x : Record). isRemoved (x .state)) (record-same t (h .slot) Removed (holds-ready t (a .held)) (a .names .inside)) in
-      rw (remove-done t h e, holds-says gone .no gone-holds, is-true (positionInDomain at) d, still-good, q)
+      rw (remove-done t h e, holds-says gone .no gone-holds, says-t (positionInDomain at) .no d, still-good, q)

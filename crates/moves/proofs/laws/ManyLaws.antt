@@ -1,5 +1,5 @@
 -- Many calls at once: the records by the calls one after the other, and then the marks by one walk, are what the calls make. Assumes nothing.
-use Prim.Native.Nat.{ℕ, zero, suc, _+_, _<_, _≤_}
+use Prim.Native.Nat.{ℕ, _+_, _<_, _≤_}
 use mathlib.Core.Path.{_≡_, refl, sym, ap, _∙_, subst}
 use mathlib.Core.Bool.{Bool, true, false}
 use mathlib.Core.List.{List, [], _∷_}
@@ -10,11 +10,9 @@ use lib.IntN.{ℤ}
 use lib.Ieee.{Float}
 use lib.ListN.{length, getD, set}
 use lib.Seq.{ext-getD}
-use borrow.Author.Tests.{ne-eqb}
 use Rattle.basics.specs.Says.{d-eq, said}
 use Rattle.basics.specs.Refusals.{pick}
 use Rattle.geometry.specs.declared.Position.{Position}
-use Rattle.cells.specs.declared.Cell.{Cell}
 use Rattle.cells.specs.CellRule.{cellAt}
 use Rattle.cells.specs.Key.{keyOf}
 use Rattle.slots.specs.Slot.{live, phaseAt}
@@ -24,12 +22,13 @@ use Rattle.storage.specs.Packed.{first, second, Packed}
 use Rattle.objects.specs.declared.State.{State}
 use Rattle.objects.specs.declared.State.the-variants.{NewPos, Relocate, Removed}
 use Rattle.objects.specs.declared.Record.{Record}
-use Rattle.objects.specs.Columns.{stateOf, tagOf}
+use Rattle.objects.specs.Columns.{tagOf}
 use Rattle.objects.specs.Decide.{d-cell}
 use Rattle.objects.specs.States.{aimed}
 use Rattle.point_tables.specs.Tables.{Tables, tables, sizeOf, usedOf, rowsOf, slotsOf, recordOn}
 use Rattle.point_tables.specs.Holds.{Holds, Pending}
 use Rattle.point_tables.specs.Outcome.{Outcome, outcome}
+use Rattle.point_tables.proofs.laws.CheckLaws.{tag-zero, zero-tag}
 use Rattle.replies.specs.declared.Reply.{Reply}
 use Rattle.moves.specs.Moves.{pended}
 use Rattle.moves.specs.Batch.{Call, callsOf, replyRows}
@@ -43,18 +42,6 @@ use Rattle.moves.proofs.laws.BatchLaws.{Running, callAt, calls, start, 
 use Rattle.moves.specs.Marks.{tagAt, Walkable, SetRow, MarkedTo}
 
 -- ---- tags
-three : (tag : ℕ) (p : Position) (c : Cell) → 2 < tag → tagOf (stateOf tag p c) ≡ 3
-three tag p c h = rw (ne-eqb tag 0 (λ e. omega arith), ne-eqb tag 1 (λ e. omega arith), ne-eqb tag 2 (λ e. omega arith))
-
-zero-state : (tag : ℕ) (p : Position) (c : Cell) → tag ≡ 0 → tagOf (stateOf tag p c) ≡ 0
-zero-state tag p c e = rw e
-
-state-zero : (tag : ℕ) (p : Position) (c : Cell) → tagOf (stateOf tag p c) ≡ 0 → tag ≡ 0
-state-zero zero p c e = refl
-state-zero (suc zero) p c e = absurd (omega arith)
-state-zero (suc (suc zero)) p c e = absurd (omega arith)
-state-zero (suc (suc (suc n))) p c e = absurd (omega (arith, three (suc (suc (suc n))) p c (omega arith)))
-
 next-tag : (size : ℕ) (r : Record) (kind : ℕ) (at : Position) → tagOf (nextState size r kind at) ≡ 0 → ⊥
 unfolding aimed
 next-tag size r kind at = go (eqb kind 0) (said (d-cell (cellAt size at) (r .cell)))
@@ -193,10 +180,10 @@ module _ (kinds : List ℕ) (handles : List (List ℕ)) (positions : List (List 
 module _ (cells₀ after : List (List ℕ)) (u : Tables) (pool : List (List ℕ)) (spots : List (List Float)) (h : Holds (withPool u pool spots)) (a : Touching cells₀ u)
     (m : MarkedTo (u .nums) pool (usedOf u) cells₀ (rowsOf u) after (usedOf u)) where
   pending-of : (s : ℕ) → phaseAt (u .nums) s ≡ live → (tagAt (u .nums) s ≡ 0 → ⊥) → Pending (withPool u pool spots) s
-  pending-of s p n = record { occupied = p; changed = λ e. n (state-zero (tagAt (u .nums) s) _ _ e) }
+  pending-of s p n = record { occupied = p; changed = λ e. n (tag-zero (tagAt (u .nums) s) _ _ e) }
 
   raw-tag : (s : ℕ) → Pending u s → tagAt (u .nums) s ≡ 0 → ⊥
-  raw-tag s w e = w .changed (zero-state (tagAt (u .nums) s) _ _ e)
+  raw-tag s w e = w .changed (zero-tag (tagAt (u .nums) s) _ _ e)
 
   was-marked : (r : ℕ) → getD (u .cells) r [] ≡ getD cells₀ r [] → SetRow (u .nums) pool (usedOf u) cells₀ (rowsOf u) after r → getD after r [] ≡ getD (u .cells) r []
   was-marked r e s =

@@ -6,6 +6,7 @@ use native.Mathlib.Omega.{arith}
 use lib.Dec.{T}
 use borrow.Author.Tests.{eq-eqb, ne-eqb}
 use Rattle.basics.specs.Refusals.{orElse}
+use Rattle.basics.specs.Says.{untrue}
 use Rattle.geometry.specs.Domain.{positionInDomain}
 use Rattle.geometry.specs.declared.Position.{Position}
 use Rattle.slots.specs.declared.Handle.{Handle}
@@ -53,10 +54,6 @@ two true true e = (refl, refl)
 two true false e = absurd (omega arith)
 two false b e = absurd (omega arith)
 
-not-off : (b : Bool) → not b ≡ true → b ≡ false
-not-off true e = sym e
-not-off false e = refl
-
 pub set-accepted : (t : Tables) (h : Handle) (at : Position) → setPositionAnswer t h at ≡ 0 → Settable t h at
 unfolding setPositionAnswer
 set-accepted t h at e =
@@ -65,7 +62,7 @@ set-accepted t h at e =
       held = holds-says t .yes (f .0);
       in-domain = subst T (sym (f .1)) tt;
       names = named t h (f .2);
-      present = not-off (isRemoved (recordOn t (h .slot) .state)) (f .3);
+      present = untrue (isRemoved (recordOn t (h .slot) .state)) (f .3);
     }
 
 pub remove-accepted : (t : Tables) (h : Handle) → removeAnswer t h ≡ 0 → Removable t h

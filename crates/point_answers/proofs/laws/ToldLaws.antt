@@ -13,6 +13,7 @@ use Rattle.basics.specs.Refusals.{pick}
 use Rattle.geometry.specs.declared.Position.{Position}
 use Rattle.geometry.specs.Domain.{positionInDomain, radiusInDomain}
 use Rattle.geometry.specs.Rectangle.{lowerCorner, upperCorner}
+use Rattle.geometry.specs.Circle.{cornerBelow, cornerAbove}
 use Rattle.cells.specs.CellRule.{cellAt}
 use Rattle.cells.specs.Range.{cellsIn}
 use Rattle.storage.specs.Keyed.{written}
@@ -74,7 +75,7 @@ module _ (boxes : ℕ) (handles : List (List ℕ)) (places : List (List Float)) 
   told t (Cir c k) =
       let q = placeOf c in
       let f = sixteenth k in
-      told-search t (positionInDomain q && radiusInDomain f) (query.cornerBelow q f) (query.cornerAbove q f) (Circle q f)
+      told-search t (positionInDomain q && radiusInDomain f) (cornerBelow q f) (cornerAbove q f) (Circle q f)
   told t (Rec a b) =
       let l = lowerCorner (placeOf a) (placeOf b) in
       let u = upperCorner (placeOf a) (placeOf b) in

@@ -2,24 +2,21 @@
 -- object is named. Assumes nothing.
 use Prim.Native.Nat.{ℕ, _<_, _≤_}
 use mathlib.Core.Path.{_≡_}
-use mathlib.Core.List.{List, []}
+use mathlib.Core.List.{List}
 use native.Mathlib.Omega.{arith}
 use lib.Ieee.{nan}
 use lib.ListN.{length, getD, take}
 use Rattle.cells.specs.Key.{keyOf}
 use Rattle.slots.specs.Slot.{live, phaseAt}
 use Rattle.storage.specs.Keyed.{All}
-use Rattle.storage.specs.Entries.{Entry, entry, rowKey, rowItem}
+use Rattle.storage.specs.Entries.{Entry, rowKey, rowItem}
 use Rattle.storage.specs.FilterLaws.{all-map}
-use Rattle.point_tables.specs.Tables.{Tables, usedOf, rowsOf, slotsOf, recordOn, entriesIn, cellRows}
+use Rattle.point_tables.specs.Tables.{Tables, usedOf, rowsOf, slotsOf, recordOn, entriesIn, cellRows, slotOf}
 use Rattle.point_tables.specs.Holds.{ListsHold, Holds}
 use Rattle.point_tables.proofs.laws.HoldsLaws.{used-in-pool, used-in-spots, rows-in-cells}
 use Rattle.point_tables.proofs.laws.Members.{Some, Pairs, some-at, some-of, pairs-at, pairs-of}
-use Rattle.point_tables.specs.EntryLaws.{entryAt, entries-length, entries-at, all-entries, entries-all}
+use Rattle.point_tables.specs.EntryLaws.{entryAt, entries-length, entries-at, all-entries, entries-all, noEntry}
 use Rattle.point_tables.proofs.laws.RowLaws.{PackedRows, to-rows}
-
-abbrev pub slotOf : Entry → ℕ
-slotOf e = rowItem (e .row)
 
 -- an entry names an occupied slot, under the key of its cell, with its recorded position
 pub record Named (t : Tables) (e : Entry) : Type 0 where
@@ -43,25 +40,25 @@ module _ (t : Tables) (u : usedOf t ≤ length (t .pool)) (v : usedOf t ≤ leng
   to-listing h =
       record {
         each = all-entries (t .pool) (t .spots) (usedOf t) u v (Named t) (λ j l. let e = h .each j l in record { inside = e .inside; occupied = e .occupied; key = e .key; at-x = e .at-x; at-y = e .at-y });
-        once = pairs-of _ (entry [] []) (entriesIn t) (λ i j l g. let l′ : j < usedOf t = rw (entries-length (t .pool) (t .spots) (usedOf t) u v) at l in rw (at i (omega arith), at j l′) (h .once i j l′ g));
-        every = λ s l p. let w = h .every s l p in some-of _ (entry [] []) (entriesIn t) (w .0) (rw (entries-length (t .pool) (t .spots) (usedOf t) u v) (w .1)) (rw (at (w .0) (w .1)) (w .2));
+        once = pairs-of _ noEntry (entriesIn t) (λ i j l g. let l′ : j < usedOf t = rw (entries-length (t .pool) (t .spots) (usedOf t) u v) at l in rw (at i (omega arith), at j l′) (h .once i j l′ g));
+        every = λ s l p. let w = h .every s l p in some-of _ noEntry (entriesIn t) (w .0) (rw (entries-length (t .pool) (t .spots) (usedOf t) u v) (w .1)) (rw (at (w .0) (w .1)) (w .2));
       }
     where
-      at : (j : ℕ) → j < usedOf t → getD (entriesIn t) j (entry [] []) ≡ entryAt (t .pool) (t .spots) j
+      at : (j : ℕ) → j < usedOf t → getD (entriesIn t) j noEntry ≡ entryAt (t .pool) (t .spots) j
       at = entries-at (t .pool) (t .spots) (usedOf t) u v
 
   pub from-listing : Listing t (entriesIn t) → ListsHold t
   from-listing h =
       record {
         each = λ j l. let e = entries-all (t .pool) (t .spots) (usedOf t) u v (Named t) (h .each) j l in record { inside = e .inside; occupied = e .occupied; key = e .key; at-x = e .at-x; at-y = e .at-y };
-        once = λ i j l g. rw (at i (omega arith), at j l) at (pairs-at _ (entry [] []) (entriesIn t) (h .once) i j (rw (entries-length (t .pool) (t .spots) (usedOf t) u v) l) g);
-        every = λ s l p. found s (some-at _ (entry [] []) (entriesIn t) (h .every s l p));
+        once = λ i j l g. rw (at i (omega arith), at j l) at (pairs-at _ noEntry (entriesIn t) (h .once) i j (rw (entries-length (t .pool) (t .spots) (usedOf t) u v) l) g);
+        every = λ s l p. found s (some-at _ noEntry (entriesIn t) (h .every s l p));
       }
     where
-      at : (j : ℕ) → j < usedOf t → getD (entriesIn t) j (entry [] []) ≡ entryAt (t .pool) (t .spots) j
+      at : (j : ℕ) → j < usedOf t → getD (entriesIn t) j noEntry ≡ entryAt (t .pool) (t .spots) j
       at = entries-at (t .pool) (t .spots) (usedOf t) u v
 
-      found : (s : ℕ) → (j : ℕ) × (j < length (entriesIn t)) × (slotOf (getD (entriesIn t) j (entry [] [])) ≡ s) → (j : ℕ) × (j < usedOf t) × (slotOf (entryAt (t .pool) (t .spots) j) ≡ s)
+      found : (s : ℕ) → (j : ℕ) × (j < length (entriesIn t)) × (slotOf (getD (entriesIn t) j noEntry) ≡ s) → (j : ℕ) × (j < usedOf t) × (slotOf (entryAt (t .pool) (t .spots) j) ≡ s)
       found s w =
           let l : w .0 < usedOf t = rw (entries-length (t .pool) (t .spots) (usedOf t) u v) at (w .1) in
           (w .0, l, rw (at (w .0) l) at (w .2))

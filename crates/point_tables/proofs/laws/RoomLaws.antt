@@ -12,12 +12,12 @@ use Rattle.point_tables.specs.Tables.{Tables, usedOf, slotsOf}
 use Rattle.point_tables.specs.Holds.{Holds}
 use Rattle.point_tables.specs.CountLaws.{isLive, live-count}
 
-module _ (test : ℕ → Bool) where
-  one-most : (b : Bool) → one b ≤ 1
-  one-most true = omega arith
-  one-most false = omega arith
+pub one-most : (b : Bool) → one b ≤ 1
+one-most true = omega arith
+one-most false = omega arith
 
-  count-most : (n : ℕ) → countBelow test n ≤ n
+module _ (test : ℕ → Bool) where
+  pub count-most : (n : ℕ) → countBelow test n ≤ n
   unfolding countBelow
   count-most zero = omega arith
   count-most (suc n) = omega (arith, count-most n, one-most (test n))

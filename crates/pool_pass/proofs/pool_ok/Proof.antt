@@ -13,7 +13,7 @@ use borrow.Author.Tests.{eqb-true, eq-eqb, not-true, not-false}
 use Rattle.basics.specs.Says.{says-no, apart}
 use Rattle.cells.specs.declared.Cell.{Cell}
 use Rattle.cells.specs.Size.{SizeInDomain}
-use Rattle.cells.specs.Key.{downward, rowOf, cellOfKey}
+use Rattle.cells.specs.Key.{downward, lineOf, cellOfKey}
 use Rattle.cells.specs.Span.{Spans}
 use Rattle.cells.proofs.laws.SpanLaws.{no-span}
 use Rattle.storage.specs.Packed.{first, second}
@@ -37,7 +37,7 @@ first-line : (s : ℕ) → SizeInDomain s → 1048576 < mag (cellOfKey 0 .y) * s
 unfolding cellOfKey
 first-line s h = omega (arith, h)
 
-same-line : (a b : ℕ) → rowOf a ≡ rowOf b → cellOfKey a .y ≡ cellOfKey b .y
+same-line : (a b : ℕ) → lineOf a ≡ lineOf b → cellOfKey a .y ≡ cellOfKey b .y
 unfolding cellOfKey
 same-line a b e = ap downward e
 

@@ -1,36 +1,34 @@
 -- The corners of the three queries: where the numbers that were given are in the domain, the cell rule may be asked of the corners; and
 -- each query is the search of its corners and its test. Assumes nothing.
 use mathlib.Core.Path.{_≡_, sym, _∙_, subst}
-use mathlib.Core.Bool.{Bool, true, false, _&&_}
+use mathlib.Core.Bool.{Bool, true, _&&_}
 use mathlib.Core.List.{List}
 use Prim.Native.Nat.{ℕ}
 use lib.Dec.{T}
-use lib.Ieee.{Float, binary32, fits}
-use Rattle.basics.specs.Says.{apart}
+use lib.Ieee.{Float}
+use Rattle.basics.specs.Says.{both-true, says-t}
 use Rattle.geometry.specs.declared.Position.{Position}
 use Rattle.geometry.specs.Domain.{positionInDomain, radiusInDomain}
-use Rattle.geometry.proofs.laws.CircleLaws.{HeldPosition}
 use Rattle.geometry.specs.Rectangle.{lowerCorner, upperCorner}
 use Rattle.geometry.proofs.laws.RectangleLaws.{lower-in-domain, upper-in-domain}
+use Rattle.geometry.specs.Circle.{cornerBelow, cornerAbove}
 use Rattle.cells.specs.CellRule.{Reached}
 use Rattle.cells.specs.ReachLaws.{position-reached, low-reached, high-reached}
 use Rattle.point_tables.specs.Tables.{Tables}
 use Rattle.queries.specs.declared.Test.the-variants.{Any, Circle, Rectangle}
-use Rattle.queries.specs.Queries.{Findings, searchOf, queryOf, aroundOf, aabbOf, cornerBelow, cornerAbove}
+use Rattle.queries.specs.Queries.{Findings, searchOf, queryOf, aroundOf, aabbOf}
 
 -- both of two tests that were run
 both : (p q u v : Bool) → p ≡ u → q ≡ v → (p && q) ≡ true → T u × T v
-both true true u v e f h = (subst T e tt, subst T f tt)
-both true false u v e f h = absurd (apart h)
-both false q u v e f h = absurd (apart h)
+both p q u v e f h = let (a, b) = both-true p q h in (says-t u .yes (sym e ∙ a), says-t v .yes (sym f ∙ b))
 
 module _ (p q : Bool) where
   pub query-reached : (ll ur : Position) → p ≡ positionInDomain ll → q ≡ positionInDomain ur → (p && q) ≡ true → Reached ll × Reached ur
   query-reached ll ur e f h = let (a, b) = both p q (positionInDomain ll) (positionInDomain ur) e f h in (position-reached ll a, position-reached ur b)
 
-  pub around-reached : (c : Position) (r : Float) → HeldPosition c → T (fits binary32 r) → p ≡ positionInDomain c → q ≡ radiusInDomain r
+  pub around-reached : (c : Position) (r : Float) → p ≡ positionInDomain c → q ≡ radiusInDomain r
       → (p && q) ≡ true → Reached (cornerBelow c r) × Reached (cornerAbove c r)
-  around-reached c r fc fr e f h = let (a, b) = both p q (positionInDomain c) (radiusInDomain r) e f h in (low-reached c r fc fr a b, high-reached c r fc fr a b)
+  around-reached c r e f h = let (a, b) = both p q (positionInDomain c) (radiusInDomain r) e f h in (low-reached c r a b, high-reached c r a b)
 
   pub aabb-reached : (a b ll ur : Position) → ll ≡ lowerCorner a b → ur ≡ upperCorner a b → p ≡ positionInDomain a → q ≡ positionInDomain b
       → (p && q) ≡ true → Reached ll × Reached ur

@@ -12,10 +12,10 @@ use Rattle.cells.specs.Range.{inRange}
 use Rattle.geometry.specs.declared.Position.{Position}
 use Rattle.slots.specs.Slot.{live, phaseAt, versionAt, good}
 use Rattle.storage.specs.Keyed.{All, filter}
-use Rattle.storage.specs.Entries.{Entry, rowItem, entryKey, entriesOf}
+use Rattle.storage.specs.Entries.{Entry, entryKey, entriesOf}
 use Rattle.storage.specs.FilterLaws.{by-test, all-map, all-append, filter-all}
 use Rattle.storage.specs.WindowLaws.{windowOf}
-use Rattle.point_tables.specs.Tables.{Tables, sizeOf, usedOf, slotsOf, recordOn, entriesIn}
+use Rattle.point_tables.specs.Tables.{Tables, sizeOf, usedOf, slotsOf, recordOn, entriesIn, slotOf}
 use Rattle.point_tables.specs.Holds.{Holds}
 use Rattle.queries.specs.declared.Test.{Test}
 use Rattle.queries.specs.Queries.{passes, positionOf, found}
@@ -23,9 +23,6 @@ use Rattle.queries.specs.Places.{wanted}
 use Rattle.queries.proofs.laws.PlacesLaws.{entries-next}
 use Rattle.queries.proofs.laws.FoundLaws.{Standing, in-pool, in-spots, standing, stands, window-own, found-wanted}
 use Rattle.point_tables.specs.EntryLaws.{entryAt, all-entries}
-
-abbrev pub slotOf : Entry → ℕ
-slotOf e = rowItem (e .row)
 
 -- no two entries name the same slot
 abbrev pub Once : List Entry → Type 0

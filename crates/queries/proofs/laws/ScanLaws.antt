@@ -5,9 +5,7 @@ use lib.Dec.{T}
 use lib.Ieee.{Float}
 use Rattle.geometry.specs.declared.Position.{Position}
 use Rattle.geometry.specs.Domain.{positionInDomain, radiusInDomain}
-use Rattle.geometry.specs.Circle.{inCircle}
-use Rattle.geometry.proofs.laws.DomainLaws.{radius-fits}
-use Rattle.geometry.proofs.laws.CircleLaws.{position-held}
+use Rattle.geometry.specs.Circle.{inCircle, cornerBelow, cornerAbove}
 use Rattle.geometry.specs.Rectangle.{lowerCorner, upperCorner, inRectangle}
 use Rattle.geometry.proofs.laws.RectangleLaws.{lower-in-domain, upper-in-domain}
 use Rattle.cells.specs.CellRule.{cellAt, Reached}
@@ -22,7 +20,7 @@ use Rattle.point_tables.specs.Tables.{Tables, sizeOf, entriesIn}
 use Rattle.point_tables.specs.Holds.{Holds}
 use Rattle.queries.specs.declared.Test.{Test}
 use Rattle.queries.specs.declared.Test.the-variants.{Any, Circle, Rectangle}
-use Rattle.queries.specs.Queries.{passes, positionOf, found, cornerBelow, cornerAbove}
+use Rattle.queries.specs.Queries.{passes, positionOf, found}
 use Rattle.queries.proofs.laws.FoundLaws.{Standing, standing, window-own, found-wanted}
 
 -- an entry whose position has its cell in the range of the corners ll and ur
@@ -67,13 +65,11 @@ module _ (t : Tables) (h : Holds t) where
   pub circle-scan : (c : Position) (r : Float) → T (positionInDomain c) → T (radiusInDomain r)
       → found t (cornerBelow c r) (cornerAbove c r) (Circle c r) ≡ filter (λ e. inCircle (positionOf e) c r) (entriesIn t)
   circle-scan c r dc dr =
-      let fc = position-held c dc in
-      let fr = radius-fits r dr in
       let low = cornerBelow c r in
       let high = cornerAbove c r in
-      scanned low high (low-reached c r fc fr dc dr) (high-reached c r fc fr dc dr) (Circle c r)
+      scanned low high (low-reached c r dc dr) (high-reached c r dc dr) (Circle c r)
       (all-map (Standing t) (λ e. inCircle (positionOf e) c r ≡ true → inRangeOf t low high e ≡ true)
-      (λ e s i. circle-cover (sizeOf t) (h .counted .size .0) (positionOf e) c r (position-held (positionOf e) (s .in-domain)) fc fr (s .in-domain) dc dr i) (entriesIn t) (standing t h))
+      (λ e s i. circle-cover (sizeOf t) (h .counted .size .0) (positionOf e) c r (s .in-domain) dc dr i) (entriesIn t) (standing t h))
 
   -- `query_aabb`
   pub rectangle-scan : (a b : Position) → T (positionInDomain a) → T (positionInDomain b)

@@ -11,11 +11,11 @@ use lib.Seq.{take-append-seam, drop-append-add, drop-drop}
 use Rattle.basics.specs.Says.{d-lt}
 use Rattle.cells.specs.declared.Cell.{Cell}
 use Rattle.cells.specs.Numbers.{Near, near-fits}
-use Rattle.cells.specs.Key.{keyOf}
+use Rattle.cells.specs.Key.{keyOf, columnOf, lineOf}
 use Rattle.storage.specs.declared.Run.{Run}
 use Rattle.storage.specs.Keyed.{written}
 use Rattle.storage.specs.Packed.{first}
-use Rattle.storage.specs.Window.{columnOf, lineOf, inWindow}
+use Rattle.storage.specs.Window.{inWindow}
 use Rattle.storage.specs.WindowLaws.{windowOf}
 use Rattle.storage.specs.Run.{NextRun}
 use Rattle.storage.proofs.laws.RunStepLaws.{key-windows}

@@ -1,9 +1,5 @@
 -- `queries::query_around` meets its contract. Assumes nothing.
-use mathlib.Core.Path.{sym, subst}
-use lib.Dec.{T}
-use lib.Ieee.{binary32, fits}
 use borrow.Author.Needs.{needs}
-use Rattle.geometry.proofs.laws.CircleLaws.{HeldPosition}
 use Rattle.point_tables.specs.Tables.{Tables, tables}
 use Rattle.queries.specs.Queries.{findings}
 use Rattle.queries.proofs.laws.CornerLaws.{around-reached, around-is}
@@ -13,20 +9,12 @@ use Rattle.queries.proofs.query_around.Tie as tie
 abbrev lent : tie.Start → Tables
 lent s = tables (s .args .nums .now) (s .args .reals .now) (s .args .ints .now) (s .args .map .now) (s .args .pool .now) (s .args .spots .now) (s .args .cells .now)
 
--- the numbers that were given are of binary32
-centre-held : (k : tie.After-struct-known) → HeldPosition (k .before .before .before .before .args .centre)
-centre-held k = (k .struct-known .given .0, k .struct-known .given .1 .0)
-
-radius-held : (s : tie.Start) → T (fits binary32 (s .args .radius))
-radius-held s = subst T (sym (s .good .1 .1 .1 .1 .1 .1 .1 .1 .1 .0 .1)) tt
-
 search-requires : tie.Need-search-requires
 search-requires c κs =
-    let k = c .before .before .before .before .before in
-    let d = k .before in
+    let d = c .before .before .before .before .before .before in
     let s = d .before .before .before in (
       s .pre,
-      around-reached (d .before .position-in-domain .result) (d .radius-in-domain .result) (s .args .centre) (s .args .radius) (centre-held k) (radius-held s) (d .before .position-in-domain .ensures) (d .radius-in-domain .ensures),
+      around-reached (d .before .position-in-domain .result) (d .radius-in-domain .result) (s .args .centre) (s .args .radius) (d .before .position-in-domain .ensures) (d .radius-in-domain .ensures),
     )
 
 returns : tie.Need-returns

@@ -1,32 +1,28 @@
 -- The reading calls, answer by answer. Assumes nothing.
-use Prim.Native.Nat.{ℕ, suc, _+_, _<_, _≤_}
-use mathlib.Core.Path.{_≡_, refl, sym, ap, _∙_, subst}
+use Prim.Native.Nat.{ℕ, _<_, _≤_}
+use mathlib.Core.Path.{_≡_, refl, sym, ap}
 use mathlib.Core.Bool.{Bool, true, false, _&&_}
 use mathlib.Core.List.{List, [], _∷_}
 use native.Mathlib.Omega.{arith}
-use lib.Dec.{eqb, ltb, leb}
-use lib.ListN.{length, getD}
-use borrow.Author.Tests.{ltb-true, eqb-true, le-leb, lt-leb}
-use Rattle.basics.specs.Says.{apart}
+use lib.Dec.{eqb, ltb}
+use lib.ListN.{length}
+use borrow.Author.Tests.{ltb-true, le-leb, lt-leb}
+use Rattle.basics.specs.Says.{both-true}
 use Rattle.slots.specs.declared.Handle.{Handle}
 use Rattle.slots.specs.Slot.{live, good, phaseAt, versionAt}
 use Rattle.storage.specs.Keyed.{written}
 use Rattle.point_tables.specs.Tables.{Tables, slotsOf, recordOn}
-use Rattle.point_tables.specs.Decide.{holds, holds-says}
-use Rattle.point_tables.specs.Holds.{Holds}
-use Rattle.basics.specs.Refusals.{unless, pick}
+use Rattle.point_tables.specs.Decide.{holds}
+use Rattle.basics.specs.Refusals.{unless, byTests}
+use Rattle.geometry.specs.Zero.{zero-position}
 use Rattle.replies.specs.declared.Count.{Count}
-use Rattle.reads.specs.Meaning.{byTests, zero-position, got, listing, getOf, liveHandles, lenOf, handlesOf}
+use Rattle.reads.specs.Meaning.{got, listing, getOf, liveHandles, lenOf, handlesOf}
 use Rattle.replies.specs.Replies.{count}
-
-both : (a b : Bool) → (a && b) ≡ true → (a ≡ true) × (b ≡ true)
-both true b e = (refl, e)
-both false b e = absurd (apart e)
 
 -- a good handle's slot is one of the slots, and live
 pub good-inside : (t : Tables) (h : Handle) → good (t .nums) (h .slot) (h .version) ≡ true → h .slot < slotsOf t
 unfolding good
-good-inside t h e = ltb-true _ _ (both (ltb (h .slot) (slotsOf t)) (eqb (phaseAt (t .nums) (h .slot)) live && eqb (versionAt (t .nums) (h .slot)) (h .version)) e .0)
+good-inside t h e = ltb-true _ _ (both-true (ltb (h .slot) (slotsOf t)) (eqb (phaseAt (t .nums) (h .slot)) live && eqb (versionAt (t .nums) (h .slot)) (h .version)) e .0)
 
 module _ (t : Tables) (h : Handle) where
   pub get-3 : holds t ≡ false → got 3 zero-position 0 ≡ getOf t h

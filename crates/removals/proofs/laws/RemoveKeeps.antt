@@ -16,13 +16,13 @@ use Rattle.storage.specs.TakeOutLaws.{all-takeOut}
 use Rattle.storage.proofs.laws.PackedLaws.{all-first}
 use Rattle.objects.specs.declared.Record.{Record}
 use Rattle.objects.specs.Columns.{tagOf}
-use Rattle.point_tables.specs.Tables.{Tables, usedOf, rowsOf, slotsOf, recordOn, entriesIn, cellRows}
+use Rattle.point_tables.specs.Tables.{Tables, usedOf, rowsOf, slotsOf, recordOn, entriesIn, cellRows, slotOf}
 use Rattle.point_tables.specs.Holds.{RecordHolds, ListsHold, Pending, Holds}
 use Rattle.removals.specs.Meaning.RemoveMaintain.{isEmpty, entriesWithout, rowsWithout, takenOut}
 use Rattle.point_tables.proofs.laws.Members.{Pairs}
 use Rattle.removals.proofs.laws.GoneLaws.{some-takeOut, pairs-takeOut, all-onList, some-onList, pairs-onList, gone-onList}
 use Rattle.removals.proofs.laws.DropLaws.{all-rowsBy}
-use Rattle.point_tables.proofs.laws.ListedLaws.{slotOf, Named, Listing, from-listing, listing}
+use Rattle.point_tables.proofs.laws.ListedLaws.{Named, Listing, from-listing, listing}
 use Rattle.point_tables.proofs.laws.HoldsLaws.{rows-in-cells, entries-sorted}
 use Rattle.removals.proofs.laws.TakenLaws.{one-less, taken-used, taken-rows, taken-size, taken-length, taken-slots, taken-gone, taken-other, taken-record, taken-entries, taken-packed, taken-sized, taken-counted}
 

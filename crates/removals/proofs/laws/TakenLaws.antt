@@ -6,7 +6,6 @@ use mathlib.Core.Bool.{Bool, true}
 use mathlib.Core.List.{List, [], _∷_, map}
 use native.Mathlib.Omega.{arith}
 use lib.ListN.{length, getD, length-map}
-use lib.Seq.{length-take-le}
 use borrow.Author.Tests.{eq-eqb}
 use Rattle.cells.specs.Key.{keyOf}
 use Rattle.slots.specs.Map.{head}
@@ -22,13 +21,13 @@ use Rattle.storage.proofs.laws.PoolLaws.{rows-column}
 use Rattle.storage.specs.TakeOutLaws.{has, length-onList-takeOut}
 use Rattle.slot_walks.proofs.laws.ClearedLaws.{next-not-live}
 use Rattle.objects.specs.Columns.{recordOf}
-use Rattle.point_tables.specs.Tables.{Tables, sizeOf, usedOf, rowsOf, slotsOf, recordOn, entriesIn, cellRows, Sized}
+use Rattle.point_tables.specs.Tables.{Tables, sizeOf, usedOf, rowsOf, slotsOf, recordOn, entriesIn, cellRows, Sized, slotOf}
 use Rattle.point_tables.specs.Holds.{Counted, Holds}
 use Rattle.removals.specs.Meaning.RemoveMaintain.{isEmpty, entriesWithout, rowsWithout, takenOut}
 use Rattle.point_tables.specs.EntryLaws.{written-entries}
 use Rattle.point_tables.proofs.laws.RowLaws.{PackedRows, from-rows}
-use Rattle.point_tables.proofs.laws.ListedLaws.{slotOf, Named, listing, rows-in}
-use Rattle.point_tables.proofs.laws.HoldsLaws.{used-in-pool, used-in-spots, rows-in-cells, entries-length}
+use Rattle.point_tables.proofs.laws.ListedLaws.{Named, listing, rows-in}
+use Rattle.point_tables.proofs.laws.HoldsLaws.{used-in-pool, used-in-spots, entries-length, rows-length}
 use Rattle.point_tables.proofs.laws.HeadLaws.{counted-used, counted-rows, counted-size, counted-length, counted-slots}
 use Rattle.removals.proofs.laws.GoneLaws.{some-both, some-filter, some-has}
 use Rattle.removals.proofs.laws.DropLaws.{rowsBy-length, packed-remove}
@@ -58,10 +57,7 @@ module _ (t : Tables) (h : Holds t) (s : ℕ) (inside : s < slotsOf t) (is-live 
   one-less = length-onList-takeOut entryKey key _ (entriesIn t) entry-found ∙ entries-length t h
 
   pub rows-fit : length (rowsWithout t s) ≤ rowsOf t
-  rows-fit = omega (arith, rowsBy-length (isEmpty (under entryKey key (entriesWithout t s))) key (cellRows t), length-cells)
-    where
-      length-cells : length (cellRows t) ≡ rowsOf t
-      length-cells = length-take-le (rowsOf t) (t .cells) (rows-in-cells t h)
+  rows-fit = omega (arith, rowsBy-length (isEmpty (under entryKey key (entriesWithout t s))) key (cellRows t), rows-length t h)
 
   pub taken-used : usedOf (takenOut t s) ≡ length (entriesWithout t s)
   unfolding takenOut

@@ -8,6 +8,7 @@ use Rattle.geometry.specs.declared.Position.{Position}
 use Rattle.cells.specs.declared.Cell.{Cell}
 use Rattle.storage.specs.Entries.{Entry, rowOf}
 use Rattle.storage.specs.FilterLaws.{by-test}
+use Rattle.merge.specs.Grown.{recorded, placed}
 use Rattle.objects.specs.declared.State.{State}
 use Rattle.objects.specs.declared.State.the-variants.{Unchanged, NewPos, Relocate, Removed}
 use Rattle.point_tables.specs.Tables.{Tables, sizeOf, slotsOf, recordOn}
@@ -17,7 +18,6 @@ use Rattle.maintain.specs.SettleForm.{Rows, rowsAt, rowsBy, rowsAfter}
 use Rattle.maintain.specs.SettleLaws.{Shaped}
 use Rattle.maintain.specs.SettleAllLaws.{in-rows}
 use Rattle.maintain.specs.Closed.{relocatedBy, relocatedAt, relocatedBelow}
-use Rattle.settle.proofs.laws.Spots.{spotIn, spotted}
 
 module _ (t : Tables) (h : Shaped t) where
   -- the rows of a live slot after the pass
@@ -26,27 +26,27 @@ module _ (t : Tables) (h : Shaped t) where
   live-rows s l e = in-rows (isLive t) t h (slotsOf t) (omega arith) s l ∙ rw e
 
   -- the recorded position of a relocated object is the pending one
-  pub relocated-spot : (s : ℕ) → s < slotsOf t → isLive t s ≡ true → (p : Position) (c : Cell) → recordOn t s .state ≡ Relocate p c → spotIn (settledAll t .reals) s ≡ p .x ∷ p .y ∷ []
+  pub relocated-spot : (s : ℕ) → s < slotsOf t → isLive t s ≡ true → (p : Position) (c : Cell) → recordOn t s .state ≡ Relocate p c → recorded (settledAll t .reals) s ≡ p .x ∷ p .y ∷ []
   unfolding rowsAfter
   relocated-spot s l e p c q =
-      ap (λ (w : Rows). spotIn (w .reals ∷ []) 0) (live-rows s l e ∙ ap (rowsBy (rowsAt t s)) q)
+      ap (λ (w : Rows). recorded (w .reals ∷ []) 0) (live-rows s l e ∙ ap (rowsBy (rowsAt t s)) q)
 
-  spotted-by : (s : ℕ) → s < slotsOf t → isLive t s ≡ true → (st : State) → recordOn t s .state ≡ st → map (spotted (settledAll t .reals)) (map rowOf (relocatedBy (sizeOf t) s st)) ≡ relocatedBy (sizeOf t) s st
+  spotted-by : (s : ℕ) → s < slotsOf t → isLive t s ≡ true → (st : State) → recordOn t s .state ≡ st → map (placed (settledAll t .reals)) (map rowOf (relocatedBy (sizeOf t) s st)) ≡ relocatedBy (sizeOf t) s st
   spotted-by s l e Unchanged q = refl
   spotted-by s l e (NewPos p) q = refl
   spotted-by s l e (Relocate p c) q = rw (relocated-spot s l e p c q)
   spotted-by s l e Removed q = refl
 
-  spotted-at : (s : ℕ) → s < slotsOf t → map (spotted (settledAll t .reals)) (map rowOf (relocatedAt t s)) ≡ relocatedAt t s
+  spotted-at : (s : ℕ) → s < slotsOf t → map (placed (settledAll t .reals)) (map rowOf (relocatedAt t s)) ≡ relocatedAt t s
   spotted-at s l =
       by-test (isLive t s)
       (λ e. rw e (spotted-by s l e (recordOn t s .state) refl))
       (λ e. rw e)
 
-  pub spotted-below : (n : ℕ) → n ≤ slotsOf t → map (spotted (settledAll t .reals)) (map rowOf (relocatedBelow n t)) ≡ relocatedBelow n t
+  pub spotted-below : (n : ℕ) → n ≤ slotsOf t → map (placed (settledAll t .reals)) (map rowOf (relocatedBelow n t)) ≡ relocatedBelow n t
   unfolding relocatedBelow
   spotted-below zero l = refl
   spotted-below (suc n) l =
-      ap (map (spotted (settledAll t .reals))) (map-append rowOf (relocatedBelow n t) (relocatedAt t n))
-      ∙ map-append (spotted (settledAll t .reals)) (map rowOf (relocatedBelow n t)) (map rowOf (relocatedAt t n))
+      ap (map (placed (settledAll t .reals))) (map-append rowOf (relocatedBelow n t) (relocatedAt t n))
+      ∙ map-append (placed (settledAll t .reals)) (map rowOf (relocatedBelow n t)) (map rowOf (relocatedAt t n))
       ∙ ap₂ {C = List Entry} _++_ (spotted-below n (omega arith)) (spotted-at n l)

@@ -8,7 +8,7 @@ use lib.Dec.{eqb, ltb}
 use lib.ListN.{length, getD, set, length-set}
 use lib.Seq.{getD-set-same}
 use borrow.Author.Tests.{ltb-true, eqb-true, lt-ltb, eq-eqb}
-use Rattle.basics.specs.Says.{Says, apart}
+use Rattle.basics.specs.Says.{Says, both-true}
 use Rattle.basics.specs.Refusals.{pick}
 use Rattle.slots.specs.Slot.{free, live, retired, lastVersion, versionAt, phaseAt, good, nextVersion, emptiedRow, emptiedNums}
 
@@ -20,17 +20,12 @@ good-says nums slot version =
     let b = eqb (phaseAt nums slot) live in
     let c = eqb (versionAt nums slot) version in
     record {
-      yes = λ e. (ltb-true slot (length nums) (first a (b && c) e), eqb-true (phaseAt nums slot) live (first b c (second a (b && c) e)), eqb-true (versionAt nums slot) version (second b c (second a (b && c) e)));
+      yes = λ e.
+          let (p, r) = both-true a (b && c) e in
+          let (q, v) = both-true b c r in
+          (ltb-true slot (length nums) p, eqb-true (phaseAt nums slot) live q, eqb-true (versionAt nums slot) version v);
       no = λ h. rw (lt-ltb slot (length nums) (h .0), eq-eqb (phaseAt nums slot) live (h .1), eq-eqb (versionAt nums slot) version (h .2));
     }
-  where
-    first : (a b : Bool) → (a && b) ≡ true → a ≡ true
-    first true b e = refl
-    first false b e = absurd (apart e)
-
-    second : (a b : Bool) → (a && b) ≡ true → b ≡ true
-    second true b e = e
-    second false b e = absurd (apart e)
 
 -- ---- emptying
 pub emptied-not-good : (nums : List (List ℕ)) (s v : ℕ) → good (emptiedNums nums s) s v ≡ false

@@ -9,7 +9,7 @@ use lib.Dec.{eqb}
 use lib.ListN.{length, take, length-take, length-append}
 use lib.Seq.{take-all, take-nil, take-take, take-append-le}
 use borrow.Author.Tests.{eqb-true, ne-eqb}
-use Rattle.basics.specs.Says.{apart, d-le}
+use Rattle.basics.specs.Says.{d-le, both-true}
 use Rattle.splits.specs.Records.{cr, lf, recordsOf}
 use Rattle.splits.proofs.laws.RecordLaws.{endsInCr, Plain, alone, plain-alone, plain-ended, plain-more, ends-in-cr}
 use Rattle.splits.proofs.laws.LineLaws.{same-part, take-first, take-short}
@@ -23,10 +23,6 @@ ends-more : (xs : List ℕ) (b : ℕ) → endsInCr (xs ++ b ∷ []) ≡ eqb b cr
 ends-more [] b = refl
 ends-more (a ∷ []) b = refl
 ends-more (a ∷ c ∷ xs) b = ends-more (c ∷ xs) b
-
-both-true : (s t : Bool) → (s && t) ≡ true → (s ≡ true) × (t ≡ true)
-both-true true t e = (refl, e)
-both-true false t e = absurd (apart e)
 
 module _ (room : ℕ) (some : 0 < room) where
   more-kept : (xs : List ℕ) (b : ℕ) → take room (take room xs ++ b ∷ []) ≡ take room (xs ++ b ∷ [])

@@ -58,7 +58,7 @@ one-row key d l r k h =
     (λ q. sym q)
     (λ q. absurd (omega arith))
 
-nothing : {A : Type 0} (u : List A) → length u ≡ 0 → u ≡ []
+pub nothing : {A : Type 0} (u : List A) → length u ≡ 0 → u ≡ []
 nothing [] e = refl
 nothing (x ∷ u) e = absurd (omega arith)
 

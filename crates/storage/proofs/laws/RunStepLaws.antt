@@ -9,11 +9,11 @@ use lib.ListN.{length, getD, take, drop, length-map, List·getD-map, take-append
 use lib.Seq.{slice, length-slice, length-take-le, getD-drop, getD-take, drop-append-le}
 use Rattle.cells.specs.declared.Cell.{Cell}
 use Rattle.cells.specs.Numbers.{Fits}
-use Rattle.cells.specs.Key.{keyOf}
+use Rattle.cells.specs.Key.{keyOf, columnOf, lineOf}
 use Rattle.cells.proofs.laws.KeyLaws.{key-column, key-row}
 use Rattle.storage.specs.Keyed.{All, filter}
 use Rattle.storage.specs.Entries.{rowKey}
-use Rattle.storage.specs.Window.{columnOf, lineOf, inWindow}
+use Rattle.storage.specs.Window.{inWindow}
 use Rattle.storage.specs.Run.{NextRun}
 use Rattle.storage.specs.declared.Run.{Run}
 use Rattle.storage.specs.FilterLaws.{all-of, filter-append, filter-whole, filter-none}

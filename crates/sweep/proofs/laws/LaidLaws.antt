@@ -13,8 +13,7 @@ use Rattle.storage.specs.Pooled.{Columns}
 use Rattle.storage.proofs.laws.PlaceLaws.{written-same}
 use Rattle.storage.proofs.laws.WrittenLaws.{length-written, written-next}
 use Rattle.storage.proofs.laws.ColumnLaws.{zipped-rows, zipped-spots}
-use Rattle.maintain.specs.EntryLaws.{written-entries}
-use Rattle.sweep.specs.Runs.{entryIn}
+use Rattle.point_tables.specs.EntryLaws.{written-entries, entryAt}
 
 -- ---- one column
 module _ {A : Type 0} where
@@ -68,7 +67,7 @@ module _ (es : List Entry) (P : List (List ℕ)) (S : List (List Float)) where
     pub laid-spot : (j : ℕ) → length es ≤ j → getD spots j [] ≡ getD S j []
     laid-spot j h = column-at spotOf es [] S spots j h (c .in-spots)
 
-    pub laid-entry : (j : ℕ) → length es ≤ j → entryIn pool spots j ≡ entryIn P S j
+    pub laid-entry : (j : ℕ) → length es ≤ j → entryAt pool spots j ≡ entryAt P S j
     laid-entry j h = λ z. entry (laid-row j h z) (laid-spot j h z)
 
     -- what is laid is read again

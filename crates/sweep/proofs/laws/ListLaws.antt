@@ -18,25 +18,25 @@ use Rattle.storage.specs.Packed.{first, second}
 use Rattle.storage.specs.Tables.{Rising}
 use Rattle.storage.specs.FilterLaws.{all-map, all-both, all-append, all-at}
 use Rattle.storage.specs.KeyedLaws.{all-under}
-use Rattle.point_tables.specs.Tables.{Tables, usedOf, rowsOf, recordOn, entriesIn, cellRows}
+use Rattle.point_tables.specs.Tables.{Tables, usedOf, rowsOf, recordOn, entriesIn, cellRows, slotOf}
 use Rattle.point_tables.specs.Holds.{Holds}
-use Rattle.point_tables.proofs.laws.HoldsLaws.{rows-length}
-use Rattle.maintain.specs.EntryLaws.{noEntry, entries-at}
-use Rattle.maintain.specs.Walk.{slotOf, stays, fate}
+use Rattle.point_tables.proofs.laws.HoldsLaws.{rows-length, used-in-pool, used-in-spots, entries-length}
+use Rattle.maintain.specs.Walk.{stays, fate}
 use Rattle.maintain.specs.Maintain.{cellKeys}
 use Rattle.maintain.specs.KeptLaws.{kept-calm}
-use Rattle.maintain.specs.ListedLaws.{Named, in-pool, in-spots, count-entries}
 use Rattle.maintain.specs.Closed.{joined, keptUnder}
 use Rattle.maintain.specs.VisitLaws.{joined-append, joined-one}
 use Rattle.maintain.specs.CalmLaws.{calm-or-not, calm-fate}
 use Rattle.maintain.specs.SweepLaws.{listUnder, list-named}
 use Rattle.maintain.specs.CellOrderLaws.{keys-up}
 use Rattle.maintain.specs.ListsAfterLaws.{pool-joined}
-use Rattle.sweep.specs.Runs.{entryIn, run}
+use Rattle.sweep.specs.Runs.{run}
 use Rattle.storage.specs.Run.{ListEnd}
 use Rattle.sweep.proofs.laws.RunLaws.{entries-run}
 use Rattle.sweep.proofs.laws.TagLaws.{kept-by-tag}
 use Rattle.sweep.specs.Laid.{listAt, keptIf}
+use Rattle.point_tables.specs.EntryLaws.{noEntry, entries-at, entryAt}
+use Rattle.point_tables.proofs.laws.ListedLaws.{Named}
 
 -- ---- rising keys, and lists of other keys
 rising-past : (ks : List ℕ) (r : ℕ) → Rising (λ k. k) ks → r < length ks → All (λ j. getD ks r 0 < j) (drop (suc r) ks)
@@ -92,7 +92,7 @@ module _ (t : Tables) (h : Holds t) (r : ℕ) (l : r < rowsOf t) where
   pub parts-length : length (passed t r) + (length (listOf t r) + length (later t r)) ≡ usedOf t
   parts-length =
       sym (ap length in-parts ∙ length-append (passed t r) ((listOf t r) ++ (later t r)) ∙ ap (λ (n : ℕ). length (passed t r) + n) (length-append (listOf t r) (later t r)))
-      ∙ count-entries t h
+      ∙ entries-length t h
 
   later-others : All (λ e. entryKey e ≡ first (t .cells) r → ⊥) (later t r)
   later-others =
@@ -100,9 +100,9 @@ module _ (t : Tables) (h : Holds t) (r : ℕ) (l : r < rowsOf t) where
       (rw key-here at (rising-past (cellKeys t) r (keys-up t h) (omega (arith, keys-length t h))))
 
   -- by places
-  at-place : (j : ℕ) → length (passed t r) + j < usedOf t → entryIn (t .pool) (t .spots) (length (passed t r) + j) ≡ getD ((listOf t r) ++ (later t r)) j noEntry
+  at-place : (j : ℕ) → length (passed t r) + j < usedOf t → entryAt (t .pool) (t .spots) (length (passed t r) + j) ≡ getD ((listOf t r) ++ (later t r)) j noEntry
   at-place j g =
-      sym (entries-at (t .pool) (t .spots) (usedOf t) (in-pool t h) (in-spots t h) (length (passed t r) + j) g)
+      sym (entries-at (t .pool) (t .spots) (usedOf t) (used-in-pool t h) (used-in-spots t h) (length (passed t r) + j) g)
       ∙ ap (λ (es : List Entry). getD es (length (passed t r) + j) noEntry) in-parts
       ∙ getD-append-add (passed t r) ((listOf t r) ++ (later t r)) j noEntry
 
@@ -132,8 +132,8 @@ module _ (t : Tables) (h : Holds t) (r : ℕ) (l : r < rowsOf t) where
   pub list-run : listAt (t .pool) (t .spots) (length (passed t r)) (length (passed t r) + length (listOf t r)) ≡ (listOf t r)
   list-run =
       let n : length (passed t r) + length (listOf t r) - length (passed t r) ≡ length (listOf t r) = omega arith in
-      ap (run (entryIn (t .pool) (t .spots)) (length (passed t r))) n
-      ∙ sym (entries-run (t .pool) (t .spots) (usedOf t) (in-pool t h) (in-spots t h) (length (passed t r)) (length (listOf t r)) (omega (arith, parts-length)))
+      ap (run (entryAt (t .pool) (t .spots)) (length (passed t r))) n
+      ∙ sym (entries-run (t .pool) (t .spots) (usedOf t) (used-in-pool t h) (used-in-spots t h) (length (passed t r)) (length (listOf t r)) (omega (arith, parts-length)))
       ∙ ap (λ (es : List Entry). take (length (listOf t r)) (drop (length (passed t r)) es)) in-parts
       ∙ ap (take (length (listOf t r))) (drop-at (passed t r) ((listOf t r) ++ (later t r)) (length (passed t r)) refl)
       ∙ take-at (listOf t r) (later t r) (length (listOf t r)) refl

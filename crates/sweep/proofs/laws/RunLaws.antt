@@ -9,9 +9,9 @@ use lib.Seq.{take-all, drop-cons}
 use Rattle.storage.specs.Keyed.{close, last, front}
 use Rattle.storage.specs.Entries.{entriesOf}
 use Rattle.storage.specs.FilterLaws.{by-order}
-use Rattle.maintain.specs.EntryLaws.{noEntry, entries-length, entries-at}
-use Rattle.sweep.specs.Runs.{entryIn, run, held}
+use Rattle.sweep.specs.Runs.{run, held}
 use Rattle.storage.specs.Run.{ListEnd}
+use Rattle.point_tables.specs.EntryLaws.{noEntry, entries-length, entries-at, entryAt}
 
 module _ {A : Type 0} (at : ℕ → A) where
   pub run-length : (i n : ℕ) → length (run at i n) ≡ n
@@ -60,25 +60,25 @@ run-same a b i (suc n) f = λ z. f i (omega arith) (omega arith) z ∷ run-same 
 
 -- ---- the entries in use
 module _ (pool : List (List ℕ)) (spots : List (List Float)) (used : ℕ) (u : used ≤ length pool) (v : used ≤ length spots) where
-  pub entries-run : (i n : ℕ) → i + n ≤ used → take n (drop i (entriesOf pool spots used)) ≡ run (entryIn pool spots) i n
+  pub entries-run : (i n : ℕ) → i + n ≤ used → take n (drop i (entriesOf pool spots used)) ≡ run (entryAt pool spots) i n
   entries-run i n h =
-      part-run (entryIn pool spots) noEntry (entriesOf pool spots used) i n (omega (arith, entries-length pool spots used u v))
+      part-run (entryAt pool spots) noEntry (entriesOf pool spots used) i n (omega (arith, entries-length pool spots used u v))
       (λ j l. entries-at pool spots used u v j (omega (arith, entries-length pool spots used u v)))
 
-entries-whole : (pool : List (List ℕ)) (spots : List (List Float)) (used : ℕ) → used ≤ length pool → used ≤ length spots → entriesOf pool spots used ≡ run (entryIn pool spots) 0 used
+entries-whole : (pool : List (List ℕ)) (spots : List (List Float)) (used : ℕ) → used ≤ length pool → used ≤ length spots → entriesOf pool spots used ≡ run (entryAt pool spots) 0 used
 entries-whole pool spots used u v =
     sym (take-all used (entriesOf pool spots used) (omega (arith, entries-length pool spots used u v)))
     ∙ entries-run pool spots used u v 0 used (omega arith)
 
 -- the entries behind the first w
 pub entries-more : (pool : List (List ℕ)) (spots : List (List Float)) (w to : ℕ) → w ≤ to → to ≤ length pool → to ≤ length spots
-    → entriesOf pool spots w ++ run (entryIn pool spots) w (to - w) ≡ entriesOf pool spots to
+    → entriesOf pool spots w ++ run (entryAt pool spots) w (to - w) ≡ entriesOf pool spots to
 entries-more pool spots w to h u v =
     let p : 0 + w ≡ w = omega arith in
     let q : w + (to - w) ≡ to = omega arith in
-    (λ z. entries-whole pool spots w (omega arith) (omega arith) z ++ run (entryIn pool spots) (sym p z) (to - w))
-    ∙ sym (run-append (entryIn pool spots) 0 w (to - w))
-    ∙ ap (run (entryIn pool spots) 0) q
+    (λ z. entries-whole pool spots w (omega arith) (omega arith) z ++ run (entryAt pool spots) (sym p z) (to - w))
+    ∙ sym (run-append (entryAt pool spots) 0 w (to - w))
+    ∙ ap (run (entryAt pool spots) 0) q
     ∙ sym (entries-whole pool spots to u v)
 
 -- ---- where a stretch ends

@@ -13,15 +13,15 @@ use Rattle.storage.specs.Pooled.{Columns}
 use Rattle.point_tables.specs.Tables.{Tables, usedOf, rowsOf}
 use Rattle.point_tables.specs.Holds.{Holds}
 use Rattle.maintain.specs.Maintain.{cellKeys}
-use Rattle.maintain.specs.ListedLaws.{in-pool, in-spots}
 use Rattle.maintain.specs.Closed.{joined, keptUnder, keptEntries}
 use Rattle.maintain.specs.SweepLaws.{listUnder}
-use Rattle.sweep.specs.Runs.{entryIn}
 use Rattle.storage.specs.Run.{ListEnd}
 use Rattle.sweep.proofs.laws.RunLaws.{run-same, stretch-one}
 use Rattle.sweep.specs.Laid.{Room, Slotted, Laid, listAt, keptIf}
 use Rattle.sweep.proofs.laws.LaidLaws.{laid-rows, laid-spots, laid-row, laid-entry, laid-entries, laid-over}
 use Rattle.sweep.proofs.laws.ListLaws.{passed, keptTo, listOf, keys-length, next-joined, list-stretch, list-run, kept-here}
+use Rattle.point_tables.proofs.laws.HoldsLaws.{used-in-pool, used-in-spots}
+use Rattle.point_tables.specs.EntryLaws.{entryAt}
 
 -- the first r lists were gone over: they end at place from, and what they keep ends at place w
 pub record Sweeping (t : Tables) (r from w : ℕ) (pool : List (List ℕ)) (spots : List (List Float)) : Type 0 where
@@ -37,10 +37,10 @@ sweeping-start t = record { rows = omega arith; low = omega arith; within = omeg
 
 module _ (t : Tables) (h : Holds t) (r from w : ℕ) (pool : List (List ℕ)) (spots : List (List Float)) (k : Sweeping t r from w pool spots) where
   pub sweeping-rows : length pool ≡ length (t .pool)
-  sweeping-rows = laid-rows (keptTo t r) (t .pool) (t .spots) pool spots (k .columns) (omega (arith, k, in-pool t h))
+  sweeping-rows = laid-rows (keptTo t r) (t .pool) (t .spots) pool spots (k .columns) (omega (arith, k, used-in-pool t h))
 
   pub sweeping-spots : length spots ≡ length (t .spots)
-  sweeping-spots = laid-spots (keptTo t r) (t .pool) (t .spots) pool spots (k .columns) (omega (arith, k, in-spots t h))
+  sweeping-spots = laid-spots (keptTo t r) (t .pool) (t .spots) pool spots (k .columns) (omega (arith, k, used-in-spots t h))
 
   -- the lists ahead are where they were
   ahead : (j : ℕ) → from ≤ j → getD pool j [] ≡ getD (t .pool) j []
@@ -65,12 +65,12 @@ module _ (t : Tables) (h : Holds t) (r from w : ℕ) (pool : List (List ℕ)) (s
 
     list-there : listAt pool spots from to ≡ listOf t r
     list-there =
-        run-same (entryIn pool spots) (entryIn (t .pool) (t .spots)) from (to - from) (λ j a b. laid-entry (keptTo t r) (t .pool) (t .spots) pool spots (k .columns) j (omega (arith, a, k)))
+        run-same (entryAt pool spots) (entryAt (t .pool) (t .spots)) from (to - from) (λ j a b. laid-entry (keptTo t r) (t .pool) (t .spots) pool spots (k .columns) j (omega (arith, a, k)))
         ∙ (λ z. listAt (t .pool) (t .spots) (k .ends z) (list-ends z))
         ∙ list-run t h r l
 
     pub sweeping-room : Room pool spots from to w
-    sweeping-room = record { low = k .low; ends = s .onward; in-pool = omega (arith, s, sweeping-rows, in-pool t h); in-spots = omega (arith, s, sweeping-spots, in-spots t h) }
+    sweeping-room = record { low = k .low; ends = s .onward; in-pool = omega (arith, s, sweeping-rows, used-in-pool t h); in-spots = omega (arith, s, sweeping-spots, used-in-spots t h) }
 
     pub sweeping-slots : Slotted (t .nums) (t .reals) pool from to
     sweeping-slots =

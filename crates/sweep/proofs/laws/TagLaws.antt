@@ -12,8 +12,8 @@ use Rattle.cells.specs.declared.Cell.{Cell}
 use Rattle.storage.specs.Entries.{Entry, entry}
 use Rattle.storage.specs.FilterLaws.{by-test}
 use Rattle.objects.specs.Columns.{stateOf}
-use Rattle.point_tables.specs.Tables.{Tables, sizeOf}
-use Rattle.maintain.specs.Walk.{slotOf, Fate, stays, leaves, fateBy, fate, staying, rest}
+use Rattle.point_tables.specs.Tables.{Tables, sizeOf, slotOf}
+use Rattle.maintain.specs.Walk.{Fate, stays, leaves, fateBy, fate, staying, rest}
 use Rattle.maintain.specs.Kept.{keptIn, kept}
 use Rattle.sweep.specs.Tags.{spotBy, fateOfTag, tagOn, fateIn}
 

@@ -7,11 +7,11 @@ use lib.Ieee.{Float}
 use lib.ListN.{length, set, length-append}
 use Rattle.storage.specs.Entries.{Entry, entry, entriesOf}
 use Rattle.storage.specs.Pooled.{Columns}
-use Rattle.maintain.specs.EntryLaws.{entries-length}
+use Rattle.point_tables.specs.EntryLaws.{entries-length, entryAt}
 use Rattle.maintain.specs.Walk.{Fate, stays, leaves, staying, rest}
 use Rattle.maintain.specs.Kept.{kept}
 use Rattle.maintain.specs.KeptLaws.{kept-step}
-use Rattle.sweep.specs.Runs.{entryIn, run, held}
+use Rattle.sweep.specs.Runs.{run, held}
 use Rattle.sweep.proofs.laws.RunLaws.{run-held, run-close}
 use Rattle.sweep.specs.Laid.{Room, Laid, listAt}
 use Rattle.sweep.proofs.laws.LaidLaws.{laid-next, laid-rows, laid-spots, laid-entry, laid-start}
@@ -34,7 +34,7 @@ module _ (f : Entry → Fate) (at : ℕ → Entry) (p i : ℕ) where
 module _ (f : Entry → Fate) (P : List (List ℕ)) (S : List (List Float)) (from to w₀ : ℕ) where
   pub record Walking (p i end w : ℕ) (pool : List (List ℕ)) (spots : List (List Float)) : Type 0 where
     pub so-far : List Entry
-    pub goes-on : so-far ++ kept f (held (entryIn P S) p i (end - i)) ≡ kept f (listAt P S from to)
+    pub goes-on : so-far ++ kept f (held (entryAt P S) p i (end - i)) ≡ kept f (listAt P S from to)
     pub columns : Columns (entriesOf P S w₀ ++ so-far) P S pool spots
     pub count : w ≡ w₀ + length so-far
     pub low : w ≤ i
@@ -49,7 +49,7 @@ module _ (f : Entry → Fate) (P : List (List ℕ)) (S : List (List Float)) (fro
     walking-start =
         record {
           so-far = [];
-          goes-on = ap (kept f) (run-held (entryIn P S) from (to - from));
+          goes-on = ap (kept f) (run-held (entryAt P S) from (to - from));
           columns = rw (append-nil (entriesOf P S w₀)) (laid-start P S w₀ (omega (arith, room)) (omega (arith, room)));
           count = omega arith;
           low = room .low;
@@ -71,24 +71,24 @@ module _ (f : Entry → Fate) (P : List (List ℕ)) (S : List (List Float)) (fro
       walking-spots = laid-spots (entriesOf P S w₀ ++ (k .so-far)) P S pool spots (k .columns) (omega (arith, laid-length, room, k))
 
       -- what is looked at is where it was
-      pub walking-entry : entryIn pool spots p ≡ entryIn P S p
+      pub walking-entry : entryAt pool spots p ≡ entryAt P S p
       walking-entry = laid-entry (entriesOf P S w₀ ++ (k .so-far)) P S pool spots (k .columns) p (omega (arith, laid-length, k))
 
       module _ (h : i < end) where
         more : end - i ≡ suc (end - i - 1)
         more = omega arith
 
-        pub walking-stays : (row : List ℕ) (spot : List Float) → f (entryIn pool spots p) ≡ stays (entry row spot) → Walking (i + 1) (i + 1) end (w + 1) (set pool w row) (set spots w spot)
+        pub walking-stays : (row : List ℕ) (spot : List Float) → f (entryAt pool spots p) ≡ stays (entry row spot) → Walking (i + 1) (i + 1) end (w + 1) (set pool w row) (set spots w spot)
         walking-stays row spot e =
             let x : Entry = entry row spot in
-            let q : f (entryIn P S p) ≡ stays x = ap f (sym walking-entry) ∙ e in
+            let q : f (entryAt P S p) ≡ stays x = ap f (sym walking-entry) ∙ e in
             let one : end - i - 1 ≡ end - (i + 1) = omega arith in
             let s : suc i ≡ i + 1 = omega arith in
             record {
               so-far = k .so-far ++ (x ∷ []);
               goes-on = append-assoc (k .so-far) (x ∷ []) _
                   ∙ ap (λ (l : List Entry). k .so-far ++ l)
-                  (sym (ap (λ (n : ℕ). kept f (held (entryIn P S) p i n)) more ∙ held-stays f (entryIn P S) p i (end - i - 1) x q ∙ (λ z. x ∷ kept f (held (entryIn P S) (s z) (s z) (one z)))))
+                  (sym (ap (λ (n : ℕ). kept f (held (entryAt P S) p i n)) more ∙ held-stays f (entryAt P S) p i (end - i - 1) x q ∙ (λ z. x ∷ kept f (held (entryAt P S) (s z) (s z) (one z)))))
                   ∙ k .goes-on;
               columns = rw (append-assoc (entriesOf P S w₀) (k .so-far) (x ∷ [])) at
                   (laid-next (entriesOf P S w₀ ++ (k .so-far)) P S pool spots (k .columns) row spot w (sym laid-length) (omega (arith, room, k)) (omega (arith, room, k)));
@@ -101,15 +101,15 @@ module _ (f : Entry → Fate) (P : List (List ℕ)) (S : List (List Float)) (fro
               inside = λ g. omega (arith, g, k);
             }
 
-        pub walking-leaves : (m : List Entry) → f (entryIn pool spots p) ≡ leaves m → Walking (end - 1) i (end - 1) w pool spots
+        pub walking-leaves : (m : List Entry) → f (entryAt pool spots p) ≡ leaves m → Walking (end - 1) i (end - 1) w pool spots
         walking-leaves m e =
-            let q : f (entryIn P S p) ≡ leaves m = ap f (sym walking-entry) ∙ e in
+            let q : f (entryAt P S p) ≡ leaves m = ap f (sym walking-entry) ∙ e in
             let one : end - i - 1 ≡ end - 1 - i = omega arith in
             let s : i + (end - i - 1) ≡ end - 1 = omega arith in
             record {
               so-far = k .so-far;
               goes-on = ap (λ (l : List Entry). k .so-far ++ l)
-                  (sym (ap (λ (n : ℕ). kept f (held (entryIn P S) p i n)) more ∙ held-leaves f (entryIn P S) p i (end - i - 1) m q ∙ (λ z. kept f (held (entryIn P S) (s z) i (one z)))))
+                  (sym (ap (λ (n : ℕ). kept f (held (entryAt P S) p i n)) more ∙ held-leaves f (entryAt P S) p i (end - i - 1) m q ∙ (λ z. kept f (held (entryAt P S) (s z) i (one z)))))
                   ∙ k .goes-on;
               columns = k .columns;
               count = k .count;
@@ -126,7 +126,7 @@ module _ (f : Entry → Fate) (P : List (List ℕ)) (S : List (List Float)) (fro
       unfolding kept
       walking-done h =
           let none : end - i ≡ 0 = omega arith in
-          let all : k .so-far ≡ kept f (listAt P S from to) = sym (append-nil (k .so-far)) ∙ ap (λ (n : ℕ). k .so-far ++ kept f (held (entryIn P S) p i n)) (sym none) ∙ k .goes-on in
+          let all : k .so-far ≡ kept f (listAt P S from to) = sym (append-nil (k .so-far)) ∙ ap (λ (n : ℕ). k .so-far ++ kept f (held (entryAt P S) p i n)) (sym none) ∙ k .goes-on in
           record {
             count = k .count ∙ ap (λ (l : List Entry). w₀ + length l) all;
             low = omega (arith, k);

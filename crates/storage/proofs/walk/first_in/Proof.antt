@@ -6,10 +6,11 @@ use mathlib.Core.Bool.{false}
 use mathlib.Core.List.{[]}
 use native.Mathlib.Omega.{arith}
 use lib.ListN.{length, take}
+use Rattle.cells.specs.Key.{columnOf, lineOf}
 use Rattle.storage.specs.Keyed.{below}
 use Rattle.storage.specs.Entries.{rowKey}
 use Rattle.storage.specs.Packed.{first}
-use Rattle.storage.specs.Window.{columnOf, lineOf, inWindow}
+use Rattle.storage.specs.Window.{inWindow}
 use Rattle.storage.specs.Run.{NextKey}
 use Rattle.storage.specs.FilterLaws.{by-order}
 use Rattle.storage.proofs.laws.CutLaws.{low-of, most-of}

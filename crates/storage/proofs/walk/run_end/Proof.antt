@@ -4,8 +4,9 @@ use Prim.Native.Nat.{ℕ, _-_, _<_, _≤_}
 use mathlib.Core.Path.{_≡_, ap, _∙_}
 use mathlib.Core.Bool.{true}
 use native.Mathlib.Omega.{arith}
+use Rattle.cells.specs.Key.{columnOf, lineOf}
 use Rattle.storage.specs.Packed.{first}
-use Rattle.storage.specs.Window.{columnOf, lineOf, inWindow}
+use Rattle.storage.specs.Window.{inWindow}
 use Rattle.storage.specs.FilterLaws.{by-order}
 use Rattle.storage.proofs.laws.RunLaws.{along}
 use Rattle.storage.proofs.walk.run_end.Statement.{statement}
