@@ -967,7 +967,7 @@ class InTwo(Fn):
         t = self.header() + self.arrays()
         fit = {j: f'n{SUB(j)}' if j in self.cm else 'refl' for j in range(7)}
         res = ('r', VAL[c.result][5]('r'), VAL[c.result][4]('r', 'gr')) if self.reads else (self.us, f'mach ({self.us})', VAL['table'][4](f'({self.us})', 'gu'))
-        D = 'Reply' if self.name == 'set_position_in2' else self.resD
+        D = self.resD
         said = f'ap (λ (o : Outcome {D}). o .result) eq' if self.reads else f'ap (λ (o : Seen {D}). o .records) eq'
         t += self.exits(f'(r : {self.resD}) (zs : {self.zsT}) →', 'r zs', self.after, fit, res[1], res[0], said, res[2])
         t += f'  module _ (𝓣 : Tables 𝓤 H) {self.metBinders()} where\n'
@@ -1075,16 +1075,16 @@ READS = ['shr'] * 3 + ['copy'] * 4
 CALLS = [
     ('record_moves', 'set_position', MARKS, ['Handle', 'Position'], 'u32', 'setPosition'),
     ('record_moves', 'remove', MARKS, ['Handle'], 'Reply', 'remove'),
-    ('record_changes', 'insert', WRITES, ['Position', 'u32'], 'Inserted', 'insert'),
-    ('record_changes', 'maintain', WRITES, [], 'Maintained', 'maintain'),
+    ('record_inserts', 'insert', WRITES, ['Position', 'u32'], 'Inserted', 'insert'),
+    ('record_upkeep', 'maintain', WRITES, [], 'Maintained', 'maintain'),
     ('record_reads', 'get', READS, ['Handle'], 'Got', 'get'),
     ('record_reads', 'len', READS, [], 'Count', 'len'),
-    ('record_reads', 'query_around', READS, ['Position', 'f32'], 'Count', 'around'),
+    ('record_queries', 'query_around', READS, ['Position', 'f32'], 'Count', 'around'),
 ]
 OUTPUTS = {'query_around': ['u2', 'f2']}
 SAID = {'set_position': '(reply {r} 0)'}
 
-IN_TWO = ['insert', 'set_position', 'maintain', 'get']
+IN_TWO = ['maintain', 'get']
 
 
 def on_table(crate, name, modes, values, result, spec, said):
@@ -1114,6 +1114,6 @@ if __name__ == '__main__':
     # ---- the program: calls on a table by value
     for crate, name, modes, vs, result, spec in CALLS:
         if name in IN_TWO: on_table(crate, name, modes, vs, result, spec, SAID.get(name, '{r}'))
-    save('record_frame', 'Values', values('record_frame', ['Handle', 'Position', 'Reply', 'Inserted', 'Maintained', 'Got'])); steps('record_frame', 'TableCalls')
+    save('record_frame', 'Values', values('record_frame', ['Handle', 'Maintained', 'Got'])); steps('record_frame', 'TableCalls')
     for crate, name, modes, vs, result, spec in CALLS:
         if name in IN_TWO: f = InTwo('record_frame', name.replace('_', '-') + '-on', name + '_in2', vs, result); f.write(f.text())

@@ -6,15 +6,6 @@ use denote.Struct.Laws as LL
 use Rattle.slots.specs.declared.Handle.{Handle}
 use Rattle.slots.proofs.Handle as HT
 use Rattle.slots.proofs.Handle.Laws as HT′
-use Rattle.geometry.specs.declared.Position.{Position}
-use Rattle.geometry.proofs.Position as PT
-use Rattle.geometry.proofs.Position.Laws as PT′
-use Rattle.replies.specs.declared.Reply.{Reply}
-use Rattle.replies.proofs.Reply as YT
-use Rattle.replies.proofs.Reply.Laws as YT′
-use Rattle.replies.specs.declared.Inserted.{Inserted}
-use Rattle.replies.proofs.Inserted as IT
-use Rattle.replies.proofs.Inserted.Laws as IT′
 use Rattle.maintain.specs.declared.Maintained.{Maintained}
 use Rattle.maintain.proofs.Maintained as MT
 use Rattle.maintain.proofs.Maintained.Laws as MT′
@@ -30,33 +21,6 @@ Hval = LL.val HT.the-type HT′.the-laws
 
 abbrev pub Hvals : Handle → List Val
 Hvals = LL.vals HT.the-type HT′.the-laws
-
-abbrev pub PR : RattleType
-PR = PT.the-row
-
-abbrev pub Pval : Position → Val
-Pval = LL.val PT.the-type PT′.the-laws
-
-abbrev pub Pvals : Position → List Val
-Pvals = LL.vals PT.the-type PT′.the-laws
-
-abbrev pub YR : RattleType
-YR = YT.the-row
-
-abbrev pub Yval : Reply → Val
-Yval = LL.val YT.the-type YT′.the-laws
-
-abbrev pub Yvals : Reply → List Val
-Yvals = LL.vals YT.the-type YT′.the-laws
-
-abbrev pub IR : RattleType
-IR = IT.the-row
-
-abbrev pub Ival : Inserted → Val
-Ival = LL.val IT.the-type IT′.the-laws
-
-abbrev pub Ivals : Inserted → List Val
-Ivals = LL.vals IT.the-type IT′.the-laws
 
 abbrev pub MR : RattleType
 MR = MT.the-row

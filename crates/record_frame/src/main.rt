@@ -1,9 +1,9 @@
-// A small history on a table of records that is made by value: an object comes in, moves, and is settled; after each call it is asked for.
-// Each line is a call, get's answer and the object's data, and the state of its record. The columns are scratch.
+// A small history on a table of records that is made by value: an object that is on its way to another cell is asked for, is settled, and is
+// asked for again; tables that are no grid are refused. Each line is what was asked, get's answer and the data, and the state of the record:
+// 0 unchanged, 1 new position, 2 relocate, 3 removed. The columns are scratch.
 ghost use mathlib.Core.Path.{_≡_};
 ghost use Rattle.point_tables.specs.Lent.{before};
-ghost use Rattle.record_moves.specs.Calls.{setPositionOn};
-ghost use Rattle.record_changes.specs.Calls.{insertOn, maintainOn};
+ghost use Rattle.record_upkeep.specs.Calls.{maintainOn};
 ghost use Rattle.record_reads.specs.Calls.{getOn};
 use cells::Cell;
 use geometry::Position;
@@ -13,45 +13,7 @@ use objects::State;
 use reads::Got;
 use slots::Handle;
 
-// ---- a call on a table that is handed over by value: the records after it
-fn insert_in2(
-    t: [Record; 2],
-    nums: &mut [[u32; 4]],
-    reals: &mut [[f32; 4]],
-    ints: &mut [[i32; 4]],
-    map: &mut [u64],
-    pool: &mut [[u64; 2]],
-    spots: &mut [[f32; 2]],
-    cells: &mut [[u64; 2]],
-    at: Position,
-    obj: u32,
-) -> [Record; 2]
-    ensures { λ u. ⌜ u ≡ insertOn t (before nums reals ints map pool spots cells) at obj .records ⌝ }
-{
-    let mut u = t;
-    record_changes::insert(&mut u, nums, reals, ints, map, pool, spots, cells, at, obj);
-    u
-}
-
-fn set_position_in2(
-    t: [Record; 2],
-    nums: &mut [[u32; 4]],
-    reals: &mut [[f32; 4]],
-    ints: &mut [[i32; 4]],
-    map: &mut [u64],
-    pool: &mut [[u64; 2]],
-    spots: &mut [[f32; 2]],
-    cells: &mut [[u64; 2]],
-    h: Handle,
-    at: Position,
-) -> [Record; 2]
-    ensures { λ u. ⌜ u ≡ setPositionOn t (before nums reals ints map pool spots cells) h at .records ⌝ }
-{
-    let mut u = t;
-    record_moves::set_position(&mut u, nums, reals, ints, map, pool, spots, cells, h, at);
-    u
-}
-
+// ---- a call on a table that is handed over by value
 fn maintain_in2(
     t: [Record; 2],
     nums: &mut [[u32; 4]],
@@ -65,7 +27,7 @@ fn maintain_in2(
     ensures { λ u. ⌜ u ≡ maintainOn t (before nums reals ints map pool spots cells) .records ⌝ }
 {
     let mut u = t;
-    record_changes::maintain(&mut u, nums, reals, ints, map, pool, spots, cells);
+    record_upkeep::maintain(&mut u, nums, reals, ints, map, pool, spots, cells);
     u
 }
 
@@ -86,6 +48,7 @@ fn get_in2(
     record_reads::get(&u, nums, reals, ints, map, pool, spots, cells, h)
 }
 
+// ---- what is said of it
 fn say(what: &[u8]) {
     io::write_all(STDOUT_FILENO, what);
 }
@@ -94,7 +57,6 @@ fn number(n: u32) {
     io::print_decimal(STDOUT_FILENO, n as u64);
 }
 
-// The call, get's answer, the data, and the state of the object's record: 0 unchanged, 1 new position, 2 relocate, 3 removed.
 fn tell(what: &[u8], g: Got, t: [Record; 2]) {
     let r = t[0];
     say(what);
@@ -108,21 +70,9 @@ fn tell(what: &[u8], g: Got, t: [Record; 2]) {
     say(b"\n");
 }
 
-fn nothing() -> Record {
-    let position = Position { x: 0.0, y: 0.0 };
-    let cell = Cell { x: 0, y: 0 };
-    Record {
-        version: 1,
-        phase: 0,
-        obj: 0,
-        position,
-        cell,
-        state: State::Unchanged,
-    }
-}
-
-// An object at the origin is sent to the cell beside, and arrives with maintain.
-fn history(
+fn ask(
+    what: &[u8],
+    t: [Record; 2],
     nums: &mut [[u32; 4]; 2],
     reals: &mut [[f32; 4]; 2],
     ints: &mut [[i32; 4]; 2],
@@ -135,11 +85,49 @@ fn history(
         slot: 0,
         version: 1,
     };
-    let t = [nothing(); 2];
     let g = get_in2(t, nums, reals, ints, map, pool, spots, cells, one);
-    tell(b"empty ", g, t);
-    let u = insert_in2(
-        t,
+    tell(what, g, t);
+}
+
+// The object of slot 0, at the origin, of a version, on its way to (16, 0), which is of cell (1, 0); slot 1 is free.
+fn table(version: u32, target: Cell) -> [Record; 2] {
+    let home = Cell { x: 0, y: 0 };
+    let origin = Position { x: 0.0, y: 0.0 };
+    let state = State::Relocate(Position { x: 16.0, y: 0.0 }, target);
+    let moving = Record {
+        version,
+        phase: 1,
+        obj: 7,
+        position: origin,
+        cell: home,
+        state,
+    };
+    let nothing = Record {
+        version: 1,
+        phase: 0,
+        obj: 0,
+        position: origin,
+        cell: home,
+        state: State::Unchanged,
+    };
+    [moving, nothing]
+}
+
+fn history(
+    nums: &mut [[u32; 4]; 2],
+    reals: &mut [[f32; 4]; 2],
+    ints: &mut [[i32; 4]; 2],
+    map: &mut [u64; 4],
+    pool: &mut [[u64; 2]; 2],
+    spots: &mut [[f32; 2]; 2],
+    cells: &mut [[u64; 2]; 2],
+) {
+    let t = table(1, Cell { x: 1, y: 0 });
+    ask(b"moving ", t, nums, reals, ints, map, pool, spots, cells);
+    let wrong = table(1, Cell { x: 5, y: 0 });
+    ask(
+        b"wrong target ",
+        wrong,
         nums,
         reals,
         ints,
@@ -147,12 +135,33 @@ fn history(
         pool,
         spots,
         cells,
-        Position { x: 0.0, y: 0.0 },
-        7,
     );
-    let g = get_in2(u, nums, reals, ints, map, pool, spots, cells, one);
-    tell(b"insert ", g, u);
-    let v = set_position_in2(
+    let same = maintain_in2(wrong, nums, reals, ints, map, pool, spots, cells);
+    ask(
+        b"not maintained ",
+        same,
+        nums,
+        reals,
+        ints,
+        map,
+        pool,
+        spots,
+        cells,
+    );
+    ask(
+        b"version 0 ",
+        table(0, Cell { x: 1, y: 0 }),
+        nums,
+        reals,
+        ints,
+        map,
+        pool,
+        spots,
+        cells,
+    );
+    let u = maintain_in2(t, nums, reals, ints, map, pool, spots, cells);
+    ask(
+        b"maintained ",
         u,
         nums,
         reals,
@@ -161,14 +170,7 @@ fn history(
         pool,
         spots,
         cells,
-        one,
-        Position { x: 16.0, y: 0.0 },
     );
-    let g = get_in2(v, nums, reals, ints, map, pool, spots, cells, one);
-    tell(b"set_position ", g, v);
-    let w = maintain_in2(v, nums, reals, ints, map, pool, spots, cells);
-    let g = get_in2(w, nums, reals, ints, map, pool, spots, cells, one);
-    tell(b"maintain ", g, w);
 }
 
 fn main() {
@@ -179,6 +181,8 @@ fn main() {
     let mut pool = [[0u64; 2]; 2];
     let mut spots = [[0.0f32; 2]; 2];
     let mut cells = [[0u64; 2]; 2];
+    let origin = Position { x: 0.0, y: 0.0 };
+    let away = Position { x: 16.0, y: 0.0 };
     points::new(
         &mut nums,
         &reals,
@@ -188,6 +192,28 @@ fn main() {
         &spots,
         &cells,
         10,
+    );
+    let r = points::insert(
+        &mut nums,
+        &mut reals,
+        &mut ints,
+        &mut map,
+        &mut pool,
+        &mut spots,
+        &mut cells,
+        origin,
+        7,
+    );
+    points::set_position(
+        &mut nums,
+        &mut reals,
+        &mut ints,
+        &map,
+        &pool,
+        &spots,
+        &mut cells,
+        r.handle,
+        away,
     );
     history(
         &mut nums,

@@ -25,8 +25,10 @@ use Rattle.records.specs.Spread.{besides}
 use Rattle.records.specs.Seen.{Seen, seen}
 use Rattle.records.specs.Alike.{Alike}
 use Rattle.record_moves.specs.Calls.{setPositionOn, removeOn}
-use Rattle.record_changes.specs.Calls.{insertOn, maintainOn}
-use Rattle.record_reads.specs.Calls.{getOn, lenOn, aroundOn}
+use Rattle.record_inserts.specs.Calls.{insertOn}
+use Rattle.record_upkeep.specs.Calls.{maintainOn}
+use Rattle.record_reads.specs.Calls.{getOn, lenOn}
+use Rattle.record_queries.specs.Calls.{aroundOn}
 
 -- a call with all that it is handed besides the tables
 pub data Call : Type 0 where

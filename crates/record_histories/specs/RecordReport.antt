@@ -9,7 +9,7 @@ use Rattle.objects.specs.declared.Record.{Record}
 use Rattle.point_tables.specs.Tables.{Tables}
 use Rattle.moves.specs.Batch.{Call as Deferred}
 use Rattle.queries.specs.Queries.{Findings}
-use Rattle.record_reads.specs.Calls.{aroundOn}
+use Rattle.record_queries.specs.Calls.{aroundOn}
 use Rattle.record_histories.specs.RecordHistory.{Call, setPosition, remove, maintain, recordsAfter, besidesAfter}
 
 -- kind 0 is `set_position`, any other `remove`

@@ -6,9 +6,6 @@ use denote.Struct.Laws as LL
 use Rattle.slots.specs.declared.Handle.{Handle}
 use Rattle.slots.proofs.Handle as HT
 use Rattle.slots.proofs.Handle.Laws as HT′
-use Rattle.geometry.specs.declared.Position.{Position}
-use Rattle.geometry.proofs.Position as PT
-use Rattle.geometry.proofs.Position.Laws as PT′
 use Rattle.replies.specs.declared.Count.{Count}
 use Rattle.replies.proofs.Count as CT
 use Rattle.replies.proofs.Count.Laws as CT′
@@ -24,15 +21,6 @@ Hval = LL.val HT.the-type HT′.the-laws
 
 abbrev pub Hvals : Handle → List Val
 Hvals = LL.vals HT.the-type HT′.the-laws
-
-abbrev pub PR : RattleType
-PR = PT.the-row
-
-abbrev pub Pval : Position → Val
-Pval = LL.val PT.the-type PT′.the-laws
-
-abbrev pub Pvals : Position → List Val
-Pvals = LL.vals PT.the-type PT′.the-laws
 
 abbrev pub CR : RattleType
 CR = CT.the-row

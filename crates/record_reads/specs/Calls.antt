@@ -1,8 +1,6 @@
--- `get`, `len` and `query_around` on columns of n rows, and on a table of records. Assumes nothing.
+-- `get` and `len` on columns of n rows, and on a table of records. Assumes nothing.
 use Prim.Native.Nat.{ℕ}
 use mathlib.Core.List.{List}
-use lib.Ieee.{Float}
-use Rattle.geometry.specs.declared.Position.{Position}
 use Rattle.slots.specs.declared.Handle.{Handle}
 use Rattle.replies.specs.declared.Count.{Count}
 use Rattle.replies.specs.Replies.{count}
@@ -12,7 +10,6 @@ use Rattle.point_tables.specs.Outcome.{Outcome}
 use Rattle.reads.specs.declared.Got.{Got}
 use Rattle.reads.specs.Meaning.{got, getOf, lenOf}
 use Rattle.geometry.specs.Zero.{zero-position}
-use Rattle.queries.specs.Queries.{Findings, findings, aroundOf}
 use Rattle.records.specs.Seen.{sized, readRecords}
 
 abbrev pub getFor : ℕ → Tables → Handle → Got
@@ -26,10 +23,3 @@ lenFor n t = sized n t (lenOf t) (count 3 0)
 
 abbrev pub lenOn : List Record → Tables → Outcome Count
 lenOn rs t = readRecords lenOf (count 3 0) rs t
-
--- the outputs stay as they are where it is refused
-abbrev pub aroundFor : ℕ → Tables → Position → Float → List (List ℕ) → List (List Float) → Findings
-aroundFor n t c r handles places = sized n t (aroundOf t c r handles places) (findings (count 3 0) handles places)
-
-abbrev pub aroundOn : List Record → Tables → Position → Float → List (List ℕ) → List (List Float) → Outcome Findings
-aroundOn rs t c r handles places = readRecords (λ u. aroundOf u c r handles places) (findings (count 3 0) handles places) rs t

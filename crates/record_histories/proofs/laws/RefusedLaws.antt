@@ -27,7 +27,8 @@ use Rattle.records.specs.Seen.{seen, back, onRecords}
 use Rattle.records.proofs.laws.SpreadLaws.{spread-gathered}
 use Rattle.records.proofs.laws.SeenLaws.{rows-same, rows-other}
 use Rattle.record_moves.specs.Calls.{setPositionOn, removeOn}
-use Rattle.record_changes.specs.Calls.{insertOn, maintainOn}
+use Rattle.record_inserts.specs.Calls.{insertOn}
+use Rattle.record_upkeep.specs.Calls.{maintainOn}
 
 module _ {R : Type 0} (call : Tables → Outcome R) (refused : R) (rs : List Record) (t : Tables) where
   abbrev b : Tables

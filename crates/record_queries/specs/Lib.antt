@@ -1,0 +1,2 @@
+-- What the calls on a table of records leave and answer.
+pub mod Calls

@@ -1,0 +1,84 @@
+// `query_around` on a table of records, in the form of `record_reads`.
+ghost use mathlib.Core.Path.{_≡_};
+ghost use Rattle.basics.specs.Lent.{was, is};
+ghost use Rattle.point_tables.specs.Lent.{after, before};
+ghost use Rattle.point_tables.specs.Outcome.{outcome};
+ghost use Rattle.queries.specs.Queries.{findings};
+ghost use Rattle.record_queries.specs.Calls.{aroundFor, aroundOn};
+use geometry::Position;
+use objects::Record;
+use replies::Count;
+
+// The core's, with 3 where the columns have not n rows.
+pub fn query_around_for(
+    n: usize,
+    nums: &[[u32; 4]],
+    reals: &[[f32; 4]],
+    ints: &[[i32; 4]],
+    map: &[u64],
+    pool: &[[u64; 2]],
+    spots: &[[f32; 2]],
+    cells: &[[u64; 2]],
+    centre: Position,
+    radius: f32,
+    found: &mut [[u32; 2]],
+    places: &mut [[f32; 2]],
+) -> Count
+    ensures { λ r. ⌜ findings r (is found) (is places) ≡ aroundFor n (before nums reals ints map pool spots cells) centre radius (was found) (was places) ⌝ }
+{
+    if n != nums.len() {
+        return Count {
+            answer: 3,
+            count: 0,
+        };
+    }
+    points::query_around(
+        nums,
+        reals,
+        ints,
+        map,
+        pool,
+        spots,
+        cells,
+        centre,
+        radius,
+        found,
+        places,
+    )
+}
+
+// The entries strictly inside a circle. 3, 6, 7, 9 with the number found.
+pub fn query_around(
+    records: &[Record],
+    nums: &mut [[u32; 4]],
+    reals: &mut [[f32; 4]],
+    ints: &mut [[i32; 4]],
+    map: &[u64],
+    pool: &[[u64; 2]],
+    spots: &[[f32; 2]],
+    cells: &[[u64; 2]],
+    centre: Position,
+    radius: f32,
+    found: &mut [[u32; 2]],
+    places: &mut [[f32; 2]],
+) -> Count
+    ensures { λ r. ⌜ outcome (findings r (is found) (is places)) (after nums reals ints map pool spots cells) ≡ aroundOn (was records) (before nums reals ints map pool spots cells) centre radius (was found) (was places) ⌝ }
+{
+    records::spread(records, nums, reals, ints);
+    let n = records.len();
+    let r = query_around_for(
+        n,
+        nums,
+        reals,
+        ints,
+        map,
+        pool,
+        spots,
+        cells,
+        centre,
+        radius,
+        found,
+        places,
+    );
+    r
+}
