@@ -8,13 +8,11 @@ ghost use Rattle.inserts.specs.New.{newOf};
 ghost use Rattle.inserts.specs.Insert.{insertOf};
 ghost use Rattle.moves.specs.Moves.{setPositionOf, removeOf};
 ghost use Rattle.moves.specs.Batch.{batched, batchOf};
-ghost use Rattle.queries.specs.Queries.{findings, queryOf, aroundOf, aabbOf};
 ghost use Rattle.maintain.specs.Maintain.{maintainOf};
 ghost use Rattle.replies.specs.Replies.{reply};
 use geometry::Position;
 use maintain::Maintained;
 use moves::BatchReply;
-use replies::Count;
 use replies::Inserted;
 use replies::Reply;
 use slots::Handle;
@@ -137,103 +135,13 @@ pub use removals::remove_maintain;
 pub use removals::clear;
 
 // All entries of the range from the cell of ll to that of ur: handles, and positions beside them. 3, 6, 7, 9 with the number found.
-pub fn query(
-    nums: &[[u32; 4]],
-    reals: &[[f32; 4]],
-    ints: &[[i32; 4]],
-    map: &[u64],
-    pool: &[[u64; 2]],
-    spots: &[[f32; 2]],
-    cells: &[[u64; 2]],
-    ll: Position,
-    ur: Position,
-    found: &mut [[u32; 2]],
-    places: &mut [[f32; 2]],
-) -> Count
-    ensures { λ r. ⌜ findings r (is found) (is places) ≡ queryOf (before nums reals ints map pool spots cells) ll ur (was found) (was places) ⌝ }
-{
-    let held = point_tables::check(nums, reals, ints, map, pool, spots, cells);
-    queries::query(
-        nums,
-        reals,
-        ints,
-        map,
-        pool,
-        spots,
-        cells,
-        held,
-        ll,
-        ur,
-        found,
-        places,
-    )
-}
+pub use queries::query;
 
 // The entries strictly inside a circle. 3, 6, 7, 9 with the number found.
-pub fn query_around(
-    nums: &[[u32; 4]],
-    reals: &[[f32; 4]],
-    ints: &[[i32; 4]],
-    map: &[u64],
-    pool: &[[u64; 2]],
-    spots: &[[f32; 2]],
-    cells: &[[u64; 2]],
-    centre: Position,
-    radius: f32,
-    found: &mut [[u32; 2]],
-    places: &mut [[f32; 2]],
-) -> Count
-    ensures { λ r. ⌜ findings r (is found) (is places) ≡ aroundOf (before nums reals ints map pool spots cells) centre radius (was found) (was places) ⌝ }
-{
-    let held = point_tables::check(nums, reals, ints, map, pool, spots, cells);
-    queries::query_around(
-        nums,
-        reals,
-        ints,
-        map,
-        pool,
-        spots,
-        cells,
-        held,
-        centre,
-        radius,
-        found,
-        places,
-    )
-}
+pub use queries::query_around;
 
 // The entries of a rectangle, whatever the order of its corners, edges included. 3, 6, 7, 9 with the number found.
-pub fn query_aabb(
-    nums: &[[u32; 4]],
-    reals: &[[f32; 4]],
-    ints: &[[i32; 4]],
-    map: &[u64],
-    pool: &[[u64; 2]],
-    spots: &[[f32; 2]],
-    cells: &[[u64; 2]],
-    a: Position,
-    b: Position,
-    found: &mut [[u32; 2]],
-    places: &mut [[f32; 2]],
-) -> Count
-    ensures { λ r. ⌜ findings r (is found) (is places) ≡ aabbOf (before nums reals ints map pool spots cells) a b (was found) (was places) ⌝ }
-{
-    let held = point_tables::check(nums, reals, ints, map, pool, spots, cells);
-    queries::query_aabb(
-        nums,
-        reals,
-        ints,
-        map,
-        pool,
-        spots,
-        cells,
-        held,
-        a,
-        b,
-        found,
-        places,
-    )
-}
+pub use queries::query_aabb;
 
 // Applies what is pending: moves, relocations, removals. Counts the objects that moved and those removed. 3.
 pub fn maintain(

@@ -1,10 +1,9 @@
-// The queries of a point grid: `query`, `query_around`, `query_aabb`. Each takes the verdict of the check on the tables, `held`.
+// The queries of a point grid: `query`, `query_around`, `query_aabb`. Each checks the tables first, in `search`.
 ghost use mathlib.Core.Path.{_≡_};
 ghost use mathlib.Core.Bool.{true};
 ghost use Rattle.basics.specs.Lent.{was, is};
 ghost use Rattle.cells.specs.CellRule.{Reached};
-ghost use Rattle.point_tables.specs.Lent.{before, lent};
-ghost use Rattle.point_tables.specs.Decide.{holds};
+ghost use Rattle.point_tables.specs.Lent.{before};
 ghost use Rattle.queries.specs.Queries.{findings, searchOf, queryOf, aroundOf, aabbOf};
 
 mod fill;
@@ -43,7 +42,6 @@ fn search(
     pool: &[[u64; 2]],
     spots: &[[f32; 2]],
     cells: &[[u64; 2]],
-    held: bool,
     ok: bool,
     ll: Position,
     ur: Position,
@@ -51,11 +49,10 @@ fn search(
     handles: &mut [[u32; 2]],
     places: &mut [[f32; 2]],
 ) -> Count
-    requires { ⌜ held ≡ holds (lent nums reals ints map pool spots cells) ⌝ }
     requires { ⌜ (ok ≡ true → Reached ll × Reached ur) ⌝ }
     ensures { λ r. ⌜ findings r (is handles) (is places) ≡ searchOf (before nums reals ints map pool spots cells) ok ll ur test (was handles) (was places) ⌝ }
 {
-    if !held {
+    if !point_tables::check(nums, reals, ints, map, pool, spots, cells) {
         return replies::refused(3);
     }
     if !ok {
@@ -80,14 +77,12 @@ pub fn query(
     pool: &[[u64; 2]],
     spots: &[[f32; 2]],
     cells: &[[u64; 2]],
-    held: bool,
     ll: Position,
     ur: Position,
-    handles: &mut [[u32; 2]],
+    found: &mut [[u32; 2]],
     places: &mut [[f32; 2]],
 ) -> Count
-    requires { ⌜ held ≡ holds (lent nums reals ints map pool spots cells) ⌝ }
-    ensures { λ r. ⌜ findings r (is handles) (is places) ≡ queryOf (before nums reals ints map pool spots cells) ll ur (was handles) (was places) ⌝ }
+    ensures { λ r. ⌜ findings r (is found) (is places) ≡ queryOf (before nums reals ints map pool spots cells) ll ur (was found) (was places) ⌝ }
 {
     let ok = position_in_domain(ll) & position_in_domain(ur);
     search(
@@ -98,12 +93,11 @@ pub fn query(
         pool,
         spots,
         cells,
-        held,
         ok,
         ll,
         ur,
         Test::Any,
-        handles,
+        found,
         places,
     )
 }
@@ -117,14 +111,12 @@ pub fn query_around(
     pool: &[[u64; 2]],
     spots: &[[f32; 2]],
     cells: &[[u64; 2]],
-    held: bool,
     centre: Position,
     radius: f32,
-    handles: &mut [[u32; 2]],
+    found: &mut [[u32; 2]],
     places: &mut [[f32; 2]],
 ) -> Count
-    requires { ⌜ held ≡ holds (lent nums reals ints map pool spots cells) ⌝ }
-    ensures { λ r. ⌜ findings r (is handles) (is places) ≡ aroundOf (before nums reals ints map pool spots cells) centre radius (was handles) (was places) ⌝ }
+    ensures { λ r. ⌜ findings r (is found) (is places) ≡ aroundOf (before nums reals ints map pool spots cells) centre radius (was found) (was places) ⌝ }
 {
     let ok = position_in_domain(centre) & radius_in_domain(radius);
     let ll = Position {
@@ -143,12 +135,11 @@ pub fn query_around(
         pool,
         spots,
         cells,
-        held,
         ok,
         ll,
         ur,
         Test::Circle(centre, radius),
-        handles,
+        found,
         places,
     )
 }
@@ -162,14 +153,12 @@ pub fn query_aabb(
     pool: &[[u64; 2]],
     spots: &[[f32; 2]],
     cells: &[[u64; 2]],
-    held: bool,
     a: Position,
     b: Position,
-    handles: &mut [[u32; 2]],
+    found: &mut [[u32; 2]],
     places: &mut [[f32; 2]],
 ) -> Count
-    requires { ⌜ held ≡ holds (lent nums reals ints map pool spots cells) ⌝ }
-    ensures { λ r. ⌜ findings r (is handles) (is places) ≡ aabbOf (before nums reals ints map pool spots cells) a b (was handles) (was places) ⌝ }
+    ensures { λ r. ⌜ findings r (is found) (is places) ≡ aabbOf (before nums reals ints map pool spots cells) a b (was found) (was places) ⌝ }
 {
     let ok = position_in_domain(a) & position_in_domain(b);
     let ll = lower_corner(a, b);
@@ -182,12 +171,11 @@ pub fn query_aabb(
         pool,
         spots,
         cells,
-        held,
         ok,
         ll,
         ur,
         Test::Rectangle(ll, ur),
-        handles,
+        found,
         places,
     )
 }

@@ -13,7 +13,7 @@ search-requires : tie.Need-search-requires
 search-requires c κs =
     let d = c .before .before in
     let s = d .before .before .before in
-    (s .pre, query-reached _ _ (s .args .ll) (s .args .ur) (d .before .position-in-domain .ensures) (d .position-in-domain2 .ensures))
+    query-reached _ _ (s .args .ll) (s .args .ur) (d .before .position-in-domain .ensures) (d .position-in-domain2 .ensures)
 
 returns : tie.Need-returns
 returns c =
@@ -21,7 +21,7 @@ returns c =
     let d = r .before .before .before in
     let s = d .before .before .before in
     let a = s .args in
-    query-is (d .before .position-in-domain .result) (d .position-in-domain2 .result) (lent s) (a .handles .now) (a .places .now) (findings (r .search .result) (r .search .last .1 .1 .1 .1 .1 .1 .1 .1 .1 .1 .1 .1 .0) (r .search .last .1 .1 .1 .1 .1 .1 .1 .1 .1 .1 .1 .1 .1 .0)) (a .ll) (a .ur) (d .before .position-in-domain .ensures) (d .position-in-domain2 .ensures) (r .search .ensures)
+    query-is (d .before .position-in-domain .result) (d .position-in-domain2 .result) (lent s) (a .found .now) (a .places .now) (findings (r .search .result) (r .search .last .1 .1 .1 .1 .1 .1 .1 .1 .1 .1 .1 .0) (r .search .last .1 .1 .1 .1 .1 .1 .1 .1 .1 .1 .1 .1 .0)) (a .ll) (a .ur) (d .before .position-in-domain .ensures) (d .position-in-domain2 .ensures) (r .search .ensures)
 
 pub query-spec : {M : Type 1} → statement M
 query-spec = tie.close (tie.spec (λ c κs. search needs) (λ c κs. search needs) search-requires (λ c. search needs) (λ c. search needs) returns)

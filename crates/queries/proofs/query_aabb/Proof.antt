@@ -15,7 +15,7 @@ search-requires c κs =
     let l = u .before in
     let d = l .before in
     let s = d .before .before .before in
-    (s .pre, aabb-reached _ _ (s .args .a) (s .args .b) _ _ (l .lower-corner .ensures) (u .upper-corner .ensures) (d .before .position-in-domain .ensures) (d .position-in-domain2 .ensures))
+    aabb-reached _ _ (s .args .a) (s .args .b) _ _ (l .lower-corner .ensures) (u .upper-corner .ensures) (d .before .position-in-domain .ensures) (d .position-in-domain2 .ensures)
 
 returns : tie.Need-returns
 returns c =
@@ -25,7 +25,7 @@ returns c =
     let d = l .before in
     let s = d .before .before .before in
     let a = s .args in
-    aabb-is (d .before .position-in-domain .result) (d .position-in-domain2 .result) (lent s) (a .handles .now) (a .places .now) (findings (r .search .result) (r .search .last .1 .1 .1 .1 .1 .1 .1 .1 .1 .1 .1 .1 .0) (r .search .last .1 .1 .1 .1 .1 .1 .1 .1 .1 .1 .1 .1 .1 .0)) (a .a) (a .b) (l .lower-corner .result) (u .upper-corner .result)
+    aabb-is (d .before .position-in-domain .result) (d .position-in-domain2 .result) (lent s) (a .found .now) (a .places .now) (findings (r .search .result) (r .search .last .1 .1 .1 .1 .1 .1 .1 .1 .1 .1 .1 .0) (r .search .last .1 .1 .1 .1 .1 .1 .1 .1 .1 .1 .1 .1 .0)) (a .a) (a .b) (l .lower-corner .result) (u .upper-corner .result)
     (l .lower-corner .ensures) (u .upper-corner .ensures) (d .before .position-in-domain .ensures) (d .position-in-domain2 .ensures) (r .search .ensures)
 
 pub query-aabb-spec : {M : Type 1} → statement M

@@ -12,10 +12,8 @@ lent s = tables (s .args .nums .now) (s .args .reals .now) (s .args .ints .now) 
 search-requires : tie.Need-search-requires
 search-requires c κs =
     let d = c .before .before .before .before .before .before in
-    let s = d .before .before .before in (
-      s .pre,
-      around-reached (d .before .position-in-domain .result) (d .radius-in-domain .result) (s .args .centre) (s .args .radius) (d .before .position-in-domain .ensures) (d .radius-in-domain .ensures),
-    )
+    let s = d .before .before .before in
+    around-reached (d .before .position-in-domain .result) (d .radius-in-domain .result) (s .args .centre) (s .args .radius) (d .before .position-in-domain .ensures) (d .radius-in-domain .ensures)
 
 returns : tie.Need-returns
 returns c =
@@ -23,7 +21,7 @@ returns c =
     let d = r .before .before .before .before .before .before .before in
     let s = d .before .before .before in
     let a = s .args in
-    around-is (d .before .position-in-domain .result) (d .radius-in-domain .result) (lent s) (a .handles .now) (a .places .now) (findings (r .search .result) (r .search .last .1 .1 .1 .1 .1 .1 .1 .1 .1 .1 .1 .1 .0) (r .search .last .1 .1 .1 .1 .1 .1 .1 .1 .1 .1 .1 .1 .1 .0)) (a .centre) (a .radius) (d .before .position-in-domain .ensures) (d .radius-in-domain .ensures) (r .search .ensures)
+    around-is (d .before .position-in-domain .result) (d .radius-in-domain .result) (lent s) (a .found .now) (a .places .now) (findings (r .search .result) (r .search .last .1 .1 .1 .1 .1 .1 .1 .1 .1 .1 .1 .0) (r .search .last .1 .1 .1 .1 .1 .1 .1 .1 .1 .1 .1 .1 .0)) (a .centre) (a .radius) (d .before .position-in-domain .ensures) (d .radius-in-domain .ensures) (r .search .ensures)
 
 pub query-around-spec : {M : Type 1} → statement M
 query-around-spec = tie.close (tie.spec (λ c κs. search needs) (λ c κs. search needs) search-requires (λ c. search needs) (λ c. search needs) returns)

@@ -23,29 +23,34 @@ use Rattle.queries.proofs.search.Tie as tie
 abbrev lent : tie.Start → Tables
 lent s = tables (s .args .nums .now) (s .args .reals .now) (s .args .ints .now) (s .args .map .now) (s .args .pool .now) (s .args .spots .now) (s .args .cells .now)
 
-held : (e : tie.Else1) → holds (lent (e .before .before)) ≡ true
-held e = sym (e .before .before .pre .0) ∙ not-false _ (e .if1 .left)
+-- the start, of a search whose tables hold a grid
+abbrev start : tie.Else1 → tie.Start
+start e = e .before .before .before
 
-whole : (e : tie.Else1) → Holds (lent (e .before .before))
-whole e = holds-says (lent (e .before .before)) .yes (held e)
+held : (e : tie.Else1) → holds (lent (start e)) ≡ true
+held e = sym (e .before .check .ensures) ∙ not-false _ (e .if1 .left)
 
-fine : (e : tie.Else2) → e .before .before .before .args .ok ≡ true
+whole : (e : tie.Else1) → Holds (lent (start e))
+whole e = holds-says (lent (start e)) .yes (held e)
+
+fine : (e : tie.Else2) → start (e .before) .args .ok ≡ true
 fine e = not-false _ (e .if2 .left)
 
-reached : (e : tie.Else2) → Reached (e .before .before .before .args .ll) × Reached (e .before .before .before .args .ur)
-reached e = e .before .before .before .pre .1 (fine e)
+reached : (e : tie.Else2) → Reached (start (e .before) .args .ll) × Reached (start (e .before) .args .ur)
+reached e = start (e .before) .pre (fine e)
 
 returns : tie.Need-returns
 returns c =
-    let s = c .before .before .before in
+    let k = c .before .before in
+    let s = k .before .before in
     let a = s .args in
     ap (λ (k : Count). findings k (a .handles .now) (a .places .now)) (c .refused .ensures)
-    ∙ search-3 (lent s) (a .ok) (a .ll) (a .ur) (a .test) (a .handles .now) (a .places .now) (sym (s .pre .0) ∙ not-true _ (c .before .if1 .taken))
+    ∙ search-3 (lent s) (a .ok) (a .ll) (a .ur) (a .test) (a .handles .now) (a .places .now) (sym (k .check .ensures) ∙ not-true _ (c .before .if1 .taken))
 
 returns-2 : tie.Need-returns-2
 returns-2 c =
     let e = c .before .before in
-    let s = e .before .before in
+    let s = start e in
     let a = s .args in
     ap (λ (k : Count). findings k (a .handles .now) (a .places .now)) (c .refused2 .ensures)
     ∙ search-6 (lent s) (a .ok) (a .ll) (a .ur) (a .test) (a .handles .now) (a .places .now) (held e) (not-true _ (c .before .if2 .taken))
@@ -60,23 +65,23 @@ cell-at-requires-2 : tie.Need-cell-at-requires-2
 cell-at-requires-2 c κs = (whole (c .before .before .before) .counted .size, reached (c .before .before) .1)
 
 near-a : (c : tie.After-cell-at2) → Near (c .before .cell-at .result)
-near-a c = let s = c .before .before .before .before .before .before in subst Near (sym (c .before .cell-at .ensures)) (cell-near (sizeOf (lent s)) (s .args .ll) (reached (c .before .before .before) .0))
+near-a c = let s = start (c .before .before .before .before) in subst Near (sym (c .before .cell-at .ensures)) (cell-near (sizeOf (lent s)) (s .args .ll) (reached (c .before .before .before) .0))
 
 near-b : (c : tie.After-cell-at2) → Near (c .cell-at2 .result)
-near-b c = let s = c .before .before .before .before .before .before in subst Near (sym (c .cell-at2 .ensures)) (cell-near (sizeOf (lent s)) (s .args .ur) (reached (c .before .before .before) .1))
+near-b c = let s = start (c .before .before .before .before) in subst Near (sym (c .cell-at2 .ensures)) (cell-near (sizeOf (lent s)) (s .args .ur) (reached (c .before .before .before) .1))
 
 cells-in-requires : tie.Need-cells-in-requires
 cells-in-requires c κs = (near-a c, near-b c)
 
 -- the number of cells of the range
-number : (c : tie.After-cells-in) → let s = c .before .before .before .before .before .before .before in c .cells-in .result ≡ cellsIn (cellAt (sizeOf (lent s)) (s .args .ll)) (cellAt (sizeOf (lent s)) (s .args .ur))
+number : (c : tie.After-cells-in) → let s = start (c .before .before .before .before .before) in c .cells-in .result ≡ cellsIn (cellAt (sizeOf (lent s)) (s .args .ll)) (cellAt (sizeOf (lent s)) (s .args .ur))
 number c = c .cells-in .ensures ∙ (λ z. cellsIn (c .before .before .cell-at .ensures z) (c .before .cell-at2 .ensures z))
 
 returns-3 : tie.Need-returns-3
 returns-3 c =
     let n = c .before .before in
     let e = n .before .before .before .before in
-    let s = e .before .before .before in
+    let s = start (e .before) in
     let a = s .args in
     ap (λ (k : Count). findings k (a .handles .now) (a .places .now)) (c .refused3 .ensures)
     ∙ search-7 (lent s) (a .ok) (a .ll) (a .ur) (a .test) (a .handles .now) (a .places .now) (held (e .before)) (fine e) (omega (arith, number n, c .before .if3 .taken))
@@ -88,9 +93,9 @@ fill-requires : tie.Need-fill-requires
 fill-requires c κs =
     let i = c .before .before in
     let n = i .before .before .before in
-    let s = n .before .before .before .before .before .before .before in
-    let h = whole (n .before .before .before .before .before) in
-    let t = lent s in (
+    let e = n .before .before .before .before .before in
+    let h = whole e in
+    let t = lent (start e) in (
       subst (Stocked (t .pool) (t .spots)) (sym (i .index-of .ensures)) (stocked t h),
       near-a (n .before),
       near-b (n .before),
@@ -105,7 +110,7 @@ returns-4 c =
     let x = i .before .before in
     let n = x .before in
     let e = n .before .before .before .before in
-    let s = e .before .before .before in
+    let s = start (e .before) in
     let a = s .args in
     let t = lent s in
     search-done t (a .ok) (a .ll) (a .ur) (a .test) (a .handles .now) (a .places .now) (held (e .before)) (reached e .0) (reached e .1)
@@ -116,6 +121,7 @@ pub search-spec : {M : Type 1} → statement M
 search-spec =
     tie.close
     (tie.spec
+    (λ c κs. search needs)
     (λ c κs. search needs)
     returns
     (λ c κs. search needs)
