@@ -8,10 +8,8 @@ ghost use Rattle.inserts.specs.New.{newOf};
 ghost use Rattle.inserts.specs.Insert.{insertOf};
 ghost use Rattle.moves.specs.Moves.{setPositionOf, removeOf};
 ghost use Rattle.moves.specs.Batch.{batched, batchOf};
-ghost use Rattle.maintain.specs.Maintain.{maintainOf};
 ghost use Rattle.replies.specs.Replies.{reply};
 use geometry::Position;
-use maintain::Maintained;
 use moves::BatchReply;
 use replies::Inserted;
 use replies::Reply;
@@ -144,17 +142,4 @@ pub use queries::query_around;
 pub use queries::query_aabb;
 
 // Applies what is pending: moves, relocations, removals. Counts the objects that moved and those removed. 3.
-pub fn maintain(
-    nums: &mut [[u32; 4]],
-    reals: &mut [[f32; 4]],
-    ints: &mut [[i32; 4]],
-    map: &mut [u64],
-    pool: &mut [[u64; 2]],
-    spots: &mut [[f32; 2]],
-    cells: &mut [[u64; 2]],
-) -> Maintained
-    ensures { λ r. ⌜ outcome r (after nums reals ints map pool spots cells) ≡ maintainOf (before nums reals ints map pool spots cells) ⌝ }
-{
-    let held = point_tables::check(nums, reals, ints, map, pool, spots, cells);
-    upkeep::maintain(nums, reals, ints, map, pool, spots, cells, held)
-}
+pub use upkeep::maintain;

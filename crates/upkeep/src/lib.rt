@@ -1,10 +1,9 @@
 // `maintain` of a point grid: one sweep over the lists, one pass over the slots, one merge, and the cell table anew.
-// The caller has checked whether the tables hold a grid, and hands the verdict down as `held`.
+// It checks the tables first.
 ghost use mathlib.Core.Path.{_≡_};
 ghost use Rattle.basics.specs.Lent.{was, is};
 ghost use Rattle.point_tables.specs.Lent.{after, before, lent};
 ghost use Rattle.point_tables.specs.Holds.{Holds};
-ghost use Rattle.point_tables.specs.Decide.{holds};
 ghost use Rattle.point_tables.specs.Outcome.{outcome};
 ghost use Rattle.maintain.specs.Closed.{settledTables};
 ghost use Rattle.maintain.specs.Maintain.{maintainOf};
@@ -50,12 +49,10 @@ pub fn maintain(
     pool: &mut [[u64; 2]],
     spots: &mut [[f32; 2]],
     cells: &mut [[u64; 2]],
-    held: bool,
 ) -> Maintained
-    requires { ⌜ held ≡ holds (lent nums reals ints map pool spots cells) ⌝ }
     ensures { λ r. ⌜ outcome r (after nums reals ints map pool spots cells) ≡ maintainOf (before nums reals ints map pool spots cells) ⌝ }
 {
-    if !held {
+    if !point_tables::check(nums, reals, ints, map, pool, spots, cells) {
         return Maintained {
             answer: 3,
             moved: 0,

@@ -20,14 +20,18 @@ use Rattle.upkeep.proofs.maintain.Tie as tie
 abbrev entry : tie.Start → Tables
 entry c = tables (c .args .nums .now) (c .args .reals .now) (c .args .ints .now) (c .args .map .now) (c .args .pool .now) (c .args .spots .now) (c .args .cells .now)
 
-whole : (c : tie.Else1) → Holds (entry (c .before .before))
-whole c = holds-says (entry (c .before .before)) .yes (sym (c .before .before .pre) ∙ not-false _ (c .if1 .left))
+-- what came before the check
+abbrev start : tie.After-check → tie.Start
+start k = k .before .before .before .before .before .before .before .before .before
+
+whole : (c : tie.Else1) → Holds (entry (start (c .before)))
+whole c = holds-says (entry (start (c .before))) .yes (sym (c .before .check .ensures) ∙ not-false _ (c .if1 .left))
 
 returns : tie.Need-returns
 returns c =
-    let s = c .before .before in
-    let no : holds (entry s) ≡ false = sym (s .pre) ∙ not-true _ (c .if1 .taken) in
-    sym (maintain-refused (entry s) (λ h. apart (sym no ∙ holds-says (entry s) .no h)))
+    let t = entry (start (c .before)) in
+    let no : holds t ≡ false = sym (c .before .check .ensures) ∙ not-true _ (c .if1 .taken) in
+    sym (maintain-refused t (λ h. apart (sym no ∙ holds-says t .no h)))
 
 count-moves-requires : tie.Need-count-moves-requires
 count-moves-requires c κs = whole (c .before) .sized .most
@@ -39,9 +43,9 @@ returns-2 : tie.Need-returns-2
 returns-2 c =
     let d = c .before .before .before .before .before .before .before .before in
     let m = d .before .before .before .before .before .before .before .before in
-    let h = whole (m .before .before) in
-    let s = m .before .before .before .before in
-    let t = entry s in
+    let e = m .before .before in
+    let h = whole e in
+    let t = entry (start (e .before)) in
     let n = m .count-moves .ensures in
     (λ z.
     outcome (maintainedCounts 0 ((ap (λ k. k .moved) n ∙ moved-numbered t (slotsOf t)) z) ((ap (λ k. k .removed) n ∙ removed-numbered t (slotsOf t)) z))
@@ -52,6 +56,14 @@ pub maintain-spec : {M : Type 1} → statement M
 maintain-spec =
     tie.close
     (tie.spec
+    (λ c κs. search needs)
+    (λ c. search needs)
+    (λ c. search needs)
+    (λ c. search needs)
+    (λ c. search needs)
+    (λ c. search needs)
+    (λ c. search needs)
+    (λ c. search needs)
     returns
     count-moves-requires
     settle-all-requires
