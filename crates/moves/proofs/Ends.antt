@@ -25,7 +25,7 @@ module _ (t u : Tables) (pool : List (List ℕ)) (spots : List (List Float)) (ki
   abbrev all : Tables
   all = withPool t pool spots
 
-  -- the verdict that was handed down is the right one
+  -- the verdict of the check is the right one
   pub answered : (a : ℕ) (held : Bool) → held ≡ holds all → a ≡ firstOf (unless ((eqb (length handles) (length kinds) && eqb (length positions) (length kinds)) && held) 3 ∷ unless (leb (length kinds) (length out)) 9 ∷ []) → a ≡ batchAnswer all kinds handles positions out
   unfolding batchAnswer
   answered a held h e = e ∙ ap (λ (b : Bool). firstOf (unless ((eqb (length handles) (length kinds) && eqb (length positions) (length kinds)) && b) 3 ∷ unless (leb (length kinds) (length out)) 9 ∷ [])) h

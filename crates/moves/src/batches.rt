@@ -1,4 +1,4 @@
-// A batch of deferred calls: one verdict on the tables for all of them, and each call's answer and data in its place of the output.
+// A batch of deferred calls: one check of the tables for all of them, and each call's answer and data in its place of the output.
 ghost use mathlib.Core.Path.{_≡_};
 ghost use mathlib.Core.List.{[], _∷_};
 ghost use mathlib.Core.Bool.{_&&_};
@@ -9,7 +9,6 @@ ghost use Rattle.basics.specs.Lent.{was, is};
 ghost use Rattle.basics.specs.Refusals.{unless, firstOf};
 ghost use Rattle.storage.specs.Keyed.{written};
 ghost use Rattle.point_tables.specs.Lent.{after, before, lent};
-ghost use Rattle.point_tables.specs.Decide.{holds};
 ghost use Rattle.point_tables.specs.Holds.{Holds};
 ghost use Rattle.point_tables.specs.Outcome.{outcome};
 ghost use Rattle.moves.specs.Batch.{callsOf, replyRows, batched, batchOf};
@@ -123,7 +122,7 @@ fn run_many(
     mark_all(nums, pool, used, cells, rows);
 }
 
-// As `set_position` and `remove` one after the other, but with one verdict for all.
+// As `set_position` and `remove` one after the other, but with one check for all.
 pub fn batch(
     nums: &mut [[u32; 4]],
     reals: &mut [[f32; 4]],
@@ -132,15 +131,14 @@ pub fn batch(
     pool: &[[u64; 2]],
     spots: &[[f32; 2]],
     cells: &mut [[u64; 2]],
-    held: bool,
     kinds: &[u32],
     handles: &[[u32; 2]],
     positions: &[[f32; 2]],
     out: &mut [[u32; 2]],
 ) -> BatchReply
-    requires { ⌜ held ≡ holds (lent nums reals ints map pool spots cells) ⌝ }
     ensures { λ r. ⌜ outcome (batched (r .answer) (r .count) (is out)) (after nums reals ints map pool spots cells) ≡ batchOf (before nums reals ints map pool spots cells) (was kinds) (was handles) (was positions) (was out) ⌝ }
 {
+    let held = point_tables::check(nums, reals, ints, map, pool, spots, cells);
     let n = kinds.len();
     let a = batch_answer(held, n, handles.len(), positions.len(), out.len());
     let count = basics::word_of(n);

@@ -1,8 +1,7 @@
 // The deferred calls of trackers: `set_position`, `remove`, and a batch of them. Nothing moves before maintain.
-// The caller has checked whether the tables hold a grid, and hands the verdict down as `held`.
+// Each public call checks the tables first.
 ghost use mathlib.Core.Path.{_≡_};
-ghost use Rattle.point_tables.specs.Lent.{after, before, lent};
-ghost use Rattle.point_tables.specs.Decide.{holds};
+ghost use Rattle.point_tables.specs.Lent.{after, before};
 ghost use Rattle.point_tables.specs.Outcome.{outcome};
 ghost use Rattle.moves.specs.Moves.{setPositionOf, removeOf};
 ghost use Rattle.replies.specs.Replies.{reply};
@@ -31,14 +30,12 @@ pub fn set_position(
     pool: &[[u64; 2]],
     spots: &[[f32; 2]],
     cells: &mut [[u64; 2]],
-    held: bool,
     h: Handle,
     at: Position,
 ) -> u32
-    requires { ⌜ held ≡ holds (lent nums reals ints map pool spots cells) ⌝ }
     ensures { λ r. ⌜ outcome (reply r 0) (after nums reals ints map pool spots cells) ≡ setPositionOf (before nums reals ints map pool spots cells) h at ⌝ }
 {
-    if !held {
+    if !point_tables::check(nums, reals, ints, map, pool, spots, cells) {
         return 3;
     }
     let r = call::deferred(nums, reals, ints, map, cells, 0, h, at);
@@ -54,13 +51,11 @@ pub fn remove(
     pool: &[[u64; 2]],
     spots: &[[f32; 2]],
     cells: &mut [[u64; 2]],
-    held: bool,
     h: Handle,
 ) -> Reply
-    requires { ⌜ held ≡ holds (lent nums reals ints map pool spots cells) ⌝ }
     ensures { λ r. ⌜ outcome r (after nums reals ints map pool spots cells) ≡ removeOf (before nums reals ints map pool spots cells) h ⌝ }
 {
-    if !held {
+    if !point_tables::check(nums, reals, ints, map, pool, spots, cells) {
         return Reply { answer: 3, obj: 0 };
     }
     // a removal looks at no position

@@ -1,8 +1,10 @@
 -- `moves::set_position` meets its contract. Assumes nothing.
-use mathlib.Core.Path.{sym, _∙_}
+use mathlib.Core.Path.{_≡_, sym, _∙_}
+use mathlib.Core.Bool.{true}
 use borrow.Author.Tests.{not-true, not-false}
+use borrow.Author.Needs.{needs}
 use Rattle.point_tables.specs.Tables.{Tables, tables}
-use Rattle.point_tables.specs.Decide.{holds-says}
+use Rattle.point_tables.specs.Decide.{holds, holds-says}
 use Rattle.moves.proofs.laws.ReadyLaws.{holds-ready, ready-pool}
 use Rattle.moves.specs.Held.{poolless}
 use Rattle.moves.proofs.Shared.{set-no-grid, set-held}
@@ -16,27 +18,45 @@ at-entry s = tables (s .args .nums .now) (s .args .reals .now) (s .args .ints .n
 abbrev seen : tie.Start → Tables
 seen s = poolless (s .args .nums .now) (s .args .reals .now) (s .args .ints .now) (s .args .map .now) (s .args .cells .now)
 
+-- the check, and what came before it
+abbrev start : tie.After-check → tie.Start
+start k = k .before .before .before .before .before .before
+
+held : (c : tie.Else1) → holds (at-entry (start (c .before))) ≡ true
+held c = sym (c .before .check .ensures) ∙ not-false _ (c .if1 .left)
+
 returns : tie.Need-returns
-returns c = let s = c .before .before in set-no-grid (at-entry s) (s .args .h) (s .args .at) (sym (s .pre) ∙ not-true _ (c .if1 .taken))
+returns c =
+    let k = c .before in
+    let s = start k in
+    set-no-grid (at-entry s) (s .args .h) (s .args .at) (sym (k .check .ensures) ∙ not-true _ (c .if1 .taken))
 
 deferred-requires : tie.Need-deferred-requires
 deferred-requires c κs =
-    let s = c .before .before .before .before .before .before in
-    ready-pool (seen s) (s .args .pool .now) (s .args .spots .now) (holds-ready (at-entry s) (holds-says (at-entry s) .yes (sym (s .pre) ∙ not-false _ (c .before .before .before .before .if1 .left))))
+    let e = c .before .before .before .before in
+    let s = start (e .before) in
+    ready-pool (seen s) (s .args .pool .now) (s .args .spots .now) (holds-ready (at-entry s) (holds-says (at-entry s) .yes (held e)))
 
 returns-2 : tie.Need-returns-2
 returns-2 c =
-    let s = c .before .before .before .before .before .before .before .before .before .before .before in
-    set-held (seen s) _ (s .args .pool .now) (s .args .spots .now) (s .args .h) (s .args .at) _ (sym (s .pre) ∙ not-false _ (c .before .before .before .before .before .before .before .before .before .if1 .left)) (c .before .before .before .before .deferred .ensures)
+    let d = c .before .before .before .before in
+    let e = d .before .before .before .before .before in
+    let s = start (e .before) in
+    set-held (seen s) _ (s .args .pool .now) (s .args .spots .now) (s .args .h) (s .args .at) _ (held e) (d .deferred .ensures)
 
 pub set-position-spec : {M : Type 1} → statement M
 set-position-spec =
     tie.close
     (tie.spec
+    (λ c κs. search needs)
+    (λ c. search needs)
+    (λ c. search needs)
+    (λ c. search needs)
+    (λ c. search needs)
     returns
     deferred-requires
-    (λ c. c .before .before .before .nums .given)
-    (λ c. c .before .before .reals .given)
-    (λ c. c .before .ints .given)
-    (λ c. c .cells .given)
+    (λ c. search needs)
+    (λ c. search needs)
+    (λ c. search needs)
+    (λ c. search needs)
     returns-2)
