@@ -10,7 +10,6 @@ ghost use Rattle.slots.specs.Map.{wordsFor, taken, lowestUsable, NonePast};
 ghost use Rattle.slots.specs.Slot.{versionAt};
 ghost use Rattle.objects.specs.Columns.{numsOf, realsOf, intsOf};
 ghost use Rattle.point_tables.specs.Tables.{counting};
-ghost use Rattle.point_tables.specs.Decide.{holds};
 ghost use Rattle.point_tables.specs.Lent.{after, before, lent};
 ghost use Rattle.point_tables.specs.Outcome.{outcome};
 ghost use Rattle.inserts.specs.Insert as Insert;
@@ -140,7 +139,6 @@ fn put(
     count(map, s, used + 1, more);
 }
 
-// The caller has checked whether the tables hold a grid, and hands the verdict down as `held`.
 pub fn insert(
     nums: &mut [[u32; 4]],
     reals: &mut [[f32; 4]],
@@ -149,13 +147,12 @@ pub fn insert(
     pool: &mut [[u64; 2]],
     spots: &mut [[f32; 2]],
     cells: &mut [[u64; 2]],
-    held: bool,
     at: Position,
     obj: u32,
 ) -> Inserted
-    requires { ⌜ held ≡ holds (lent nums reals ints map pool spots cells) ⌝ }
     ensures { λ r. ⌜ outcome r (after nums reals ints map pool spots cells) ≡ insertOf (before nums reals ints map pool spots cells) at obj ⌝ }
 {
+    let held = point_tables::check(nums, reals, ints, map, pool, spots, cells);
     let c = choose(nums, map, held, at);
     let a = c.answer;
     if a != 0 {

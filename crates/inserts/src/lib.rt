@@ -1,4 +1,4 @@
-// Building a point grid, and inserting into it.
+// Building a point grid, and inserting into it, which checks the tables first.
 mod building;
 mod inserting;
 
