@@ -9,8 +9,7 @@ ghost use Rattle.storage.specs.Keyed.{written};
 ghost use Rattle.slot_walks.specs.Live.{liveFrom, objAt};
 ghost use Rattle.slot_walks.specs.Cleared.{clearedRows, clearedMap};
 ghost use Rattle.box_tables.specs.Tables.{counting};
-ghost use Rattle.box_tables.specs.Lent.{after, before, lent};
-ghost use Rattle.box_tables.specs.Decide.{holds};
+ghost use Rattle.box_tables.specs.Lent.{after, before};
 ghost use Rattle.box_tables.specs.Outcome.{outcome};
 ghost use Rattle.box_reads.specs.Clear.{boxAt, wrote, clearOf};
 use crate::list_answer;
@@ -61,13 +60,12 @@ pub fn clear(
     reals: &[[f32; 4]],
     map: &mut [u64],
     pool: &[[u64; 2]],
-    held: bool,
     boxes: &mut [[f32; 4]],
     objs: &mut [u32],
 ) -> Count
-    requires { ⌜ held ≡ holds (lent nums reals map pool) ⌝ }
     ensures { λ r. ⌜ outcome (wrote r (is boxes) (is objs)) (after nums reals map pool) ≡ clearOf (before nums reals map pool) (was boxes) (was objs) ⌝ }
 {
+    let held = box_tables::check(nums, reals, map, pool);
     let c = list_answer(nums, held, least(boxes.len(), objs.len()));
     if c.answer != 0 {
         return c;

@@ -1,11 +1,10 @@
-// Reading and emptying a box grid: `get`, `len`, `handles`, `clear`. Each takes the verdict of the check on the tables, `held`.
+// Reading and emptying a box grid: `get`, `len`, `handles`, `clear`. Each checks the tables first.
 ghost use mathlib.Core.Path.{_≡_};
 ghost use mathlib.Core.Bool.{true};
 ghost use Prim.Native.Nat.{_≤_};
 ghost use lib.ListN.{length};
 ghost use Rattle.basics.specs.Lent.{was, is};
-ghost use Rattle.box_tables.specs.Lent.{before, lent};
-ghost use Rattle.box_tables.specs.Decide.{holds};
+ghost use Rattle.box_tables.specs.Lent.{before};
 ghost use Rattle.slot_walks.specs.Live.{liveFrom};
 ghost use Rattle.box_reads.specs.Live.{countBy};
 ghost use Rattle.box_reads.specs.Reads.{got, getOf, lenOf, handlesOf, listing};
@@ -38,18 +37,10 @@ fn no_box(answer: u32) -> Got
     }
 }
 
-pub fn get(
-    nums: &[[u32; 4]],
-    reals: &[[f32; 4]],
-    map: &[u64],
-    pool: &[[u64; 2]],
-    held: bool,
-    h: Handle,
-) -> Got
-    requires { ⌜ held ≡ holds (lent nums reals map pool) ⌝ }
+pub fn get(nums: &[[u32; 4]], reals: &[[f32; 4]], map: &[u64], pool: &[[u64; 2]], h: Handle) -> Got
     ensures { λ r. ⌜ r ≡ getOf (before nums reals map pool) h ⌝ }
 {
-    if !held {
+    if !box_tables::check(nums, reals, map, pool) {
         return no_box(3);
     }
     if !slots::is_good(nums, h) {
@@ -68,17 +59,10 @@ pub fn get(
 }
 
 // The number of objects: they are the live slots.
-pub fn len(
-    nums: &[[u32; 4]],
-    reals: &[[f32; 4]],
-    map: &[u64],
-    pool: &[[u64; 2]],
-    held: bool,
-) -> Count
-    requires { ⌜ held ≡ holds (lent nums reals map pool) ⌝ }
+pub fn len(nums: &[[u32; 4]], reals: &[[f32; 4]], map: &[u64], pool: &[[u64; 2]]) -> Count
     ensures { λ r. ⌜ r ≡ lenOf (before nums reals map pool) ⌝ }
 {
-    if !held {
+    if !box_tables::check(nums, reals, map, pool) {
         return Count {
             answer: 3,
             count: 0,
@@ -121,12 +105,11 @@ pub fn handles(
     reals: &[[f32; 4]],
     map: &[u64],
     pool: &[[u64; 2]],
-    held: bool,
     out: &mut [[u32; 2]],
 ) -> Count
-    requires { ⌜ held ≡ holds (lent nums reals map pool) ⌝ }
     ensures { λ r. ⌜ listing r (is out) ≡ handlesOf (before nums reals map pool) (was out) ⌝ }
 {
+    let held = box_tables::check(nums, reals, map, pool);
     let c = list_answer(nums, held, out.len());
     if c.answer != 0 {
         return c;

@@ -8,11 +8,8 @@ ghost use Rattle.box_inserts.specs.New.{newOf};
 ghost use Rattle.box_inserts.specs.Insert.{insertOf};
 ghost use Rattle.box_changes.specs.SetAabb.{setAabbOf};
 ghost use Rattle.box_changes.specs.Remove.{removeOf};
-ghost use Rattle.box_reads.specs.Reads.{getOf, lenOf, handlesOf, listing};
-ghost use Rattle.box_reads.specs.Clear.{wrote, clearOf};
 ghost use Rattle.box_queries.specs.Queries.{broadOf, queryOf, findings};
 ghost use Rattle.box_queries.specs.Queries as Queries;
-use box_reads::Got;
 use geometry::Aabb;
 use replies::Count;
 use replies::Inserted;
@@ -76,50 +73,17 @@ pub fn remove(
     box_changes::remove(nums, reals, map, pool, held, h)
 }
 
-// Writes box and data of each object, ascending by slot, then empties the grid. 3, 9.
-pub fn clear(
-    nums: &mut [[u32; 4]],
-    reals: &[[f32; 4]],
-    map: &mut [u64],
-    pool: &[[u64; 2]],
-    boxes: &mut [[f32; 4]],
-    objs: &mut [u32],
-) -> Count
-    ensures { λ r. ⌜ outcome (wrote r (is boxes) (is objs)) (after nums reals map pool) ≡ clearOf (before nums reals map pool) (was boxes) (was objs) ⌝ }
-{
-    let held = box_tables::check(nums, reals, map, pool);
-    box_reads::clear(nums, reals, map, pool, held, boxes, objs)
-}
+// Writes box and data of each object, ascending by slot, then empties the grid. Refusals: 3, 9.
+pub use box_reads::clear;
 
-// The box and the data. 3, 5.
-pub fn get(nums: &[[u32; 4]], reals: &[[f32; 4]], map: &[u64], pool: &[[u64; 2]], h: Handle) -> Got
-    ensures { λ r. ⌜ r ≡ getOf (before nums reals map pool) h ⌝ }
-{
-    let held = box_tables::check(nums, reals, map, pool);
-    box_reads::get(nums, reals, map, pool, held, h)
-}
+// The box and the data. Refusals: 3, 5.
+pub use box_reads::get;
 
-// The number of objects. 3.
-pub fn len(nums: &[[u32; 4]], reals: &[[f32; 4]], map: &[u64], pool: &[[u64; 2]]) -> Count
-    ensures { λ r. ⌜ r ≡ lenOf (before nums reals map pool) ⌝ }
-{
-    let held = box_tables::check(nums, reals, map, pool);
-    box_reads::len(nums, reals, map, pool, held)
-}
+// The number of objects. Refusals: 3.
+pub use box_reads::len;
 
-// The handles of the objects, ascending by slot. 3, 9.
-pub fn handles(
-    nums: &[[u32; 4]],
-    reals: &[[f32; 4]],
-    map: &[u64],
-    pool: &[[u64; 2]],
-    out: &mut [[u32; 2]],
-) -> Count
-    ensures { λ r. ⌜ listing r (is out) ≡ handlesOf (before nums reals map pool) (was out) ⌝ }
-{
-    let held = box_tables::check(nums, reals, map, pool);
-    box_reads::handles(nums, reals, map, pool, held, out)
-}
+// The handles of the objects, ascending by slot. Refusals: 3, 9.
+pub use box_reads::handles;
 
 // The handles of the boxes that share a cell with the query box, each once, at its first place in the walk. 3, 6, 7, 9.
 pub fn query_broad(

@@ -16,28 +16,32 @@ use Rattle.box_reads.proofs.handles.Tie as tie
 abbrev at-entry : tie.Start → Tables
 at-entry s = tables (s .args .nums .now) (s .args .reals .now) (s .args .map .now) (s .args .pool .now)
 
+-- the check before the answer, and the start
+abbrev checked : tie.After-list-answer → tie.After-check
+checked a = a .before
+
 abbrev start : tie.After-list-answer → tie.Start
-start a = a .before .before
+start a = checked a .before .before
 
 list-answer-requires : tie.Need-list-answer-requires
-list-answer-requires c κs = let s = c .before in λ e. holds-says (at-entry s) .yes (sym (s .pre) ∙ e) .sized .most
+list-answer-requires c κs = λ e. holds-says (at-entry (c .before .before)) .yes (sym (c .check .ensures) ∙ e) .sized .most
 
 -- what the answer is, by the definition
 given : (a : tie.After-list-answer) → a .list-answer .result ≡ listCount (at-entry (start a)) (length (start a .args .out .now))
-given a = let s = start a in listed (at-entry s) (length (s .args .out .now)) (s .args .held) (s .pre) (a .list-answer .result) (a .list-answer .ensures)
+given a = let s = start a in listed (at-entry s) (length (s .args .out .now)) (checked a .check .result) (checked a .check .ensures) (a .list-answer .result) (a .list-answer .ensures)
 
 accepted : (c : tie.Else1) → listAnswer (at-entry (start (c .before .before))) (length (start (c .before .before) .args .out .now)) ≡ 0
 accepted c =
     let a = c .before .before in
     let s = start a in
-    listed-0 (at-entry s) (length (s .args .out .now)) (s .args .held) (s .pre) (a .list-answer .result) (a .list-answer .ensures) (c .if1 .left)
+    listed-0 (at-entry s) (length (s .args .out .now)) (checked a .check .result) (checked a .check .ensures) (a .list-answer .result) (a .list-answer .ensures) (c .if1 .left)
 
 returns : tie.Need-returns
 returns c =
     let a = c .before .before in
     let s = start a in
     ap (λ (k : Count). listing k (s .args .out .now)) (given a)
-    ∙ handles-refused (at-entry s) (s .args .out .now) (listed-no (at-entry s) (length (s .args .out .now)) (s .args .held) (s .pre) (a .list-answer .result) (a .list-answer .ensures) (c .if1 .taken))
+    ∙ handles-refused (at-entry s) (s .args .out .now) (listed-no (at-entry s) (length (s .args .out .now)) (checked a .check .result) (checked a .check .ensures) (a .list-answer .result) (a .list-answer .ensures) (c .if1 .taken))
 
 put-handles-requires : tie.Need-put-handles-requires
 unfolding liveSlots
@@ -55,4 +59,4 @@ returns-2 c =
     (λ z. listing (given a z) (c .before .put-handles .ensures z)) ∙ handles-0 (at-entry s) (s .args .out .now) (accepted e)
 
 pub handles-spec : {M : Type 1} → statement M
-handles-spec = tie.close (tie.spec list-answer-requires returns put-handles-requires (λ c. search needs) returns-2)
+handles-spec = tie.close (tie.spec (λ c κs. search needs) list-answer-requires returns put-handles-requires (λ c. search needs) returns-2)
