@@ -1,10 +1,9 @@
-// The queries of a box grid: `query_broad` and `query`. Each takes the verdict of the check on the tables, `held`.
+// The queries of a box grid: `query_broad` and `query`. Each checks the tables first.
 ghost use mathlib.Core.Path.{_≡_};
 ghost use Prim.Native.Nat.{min};
 ghost use lib.ListN.{length};
 ghost use Rattle.basics.specs.Lent.{was, is};
-ghost use Rattle.box_tables.specs.Lent.{before, lent};
-ghost use Rattle.box_tables.specs.Decide.{holds};
+ghost use Rattle.box_tables.specs.Lent.{before};
 ghost use Rattle.box_queries.specs.Queries.{handlesOf, broadOf, findings, queryOf};
 ghost use Rattle.box_queries.specs.Look.{Looked};
 
@@ -28,14 +27,13 @@ fn look(
     reals: &[[f32; 4]],
     map: &[u64],
     pool: &[[u64; 2]],
-    held: bool,
     q: Aabb,
     found: &mut [u32; 256],
 ) -> Count
-    requires { ⌜ (held ≡ holds (lent nums reals map pool)) × (length (now found) ≡ 256) ⌝ }
+    requires { ⌜ length (now found) ≡ 256 ⌝ }
     ensures { λ r. ⌜ Looked (before nums reals map pool) q r (is found) ⌝ }
 {
-    if !held {
+    if !box_tables::check(nums, reals, map, pool) {
         return replies::refused(3);
     }
     if !aabb_in_domain(q) {
@@ -62,15 +60,13 @@ pub fn query_broad(
     reals: &[[f32; 4]],
     map: &[u64],
     pool: &[[u64; 2]],
-    held: bool,
     q: Aabb,
     handles: &mut [[u32; 2]],
 ) -> Count
-    requires { ⌜ held ≡ holds (lent nums reals map pool) ⌝ }
     ensures { λ r. ⌜ handlesOf r (is handles) ≡ broadOf (before nums reals map pool) q (was handles) ⌝ }
 {
     let mut found: [u32; 256] = [0; 256];
-    let seen = look(nums, reals, map, pool, held, q, &mut found);
+    let seen = look(nums, reals, map, pool, q, &mut found);
     if seen.answer != 0 {
         return seen;
     }
@@ -97,17 +93,15 @@ pub fn query(
     reals: &[[f32; 4]],
     map: &[u64],
     pool: &[[u64; 2]],
-    held: bool,
     q: Aabb,
     handles: &mut [[u32; 2]],
     boxes: &mut [[f32; 4]],
     objs: &mut [u32],
 ) -> Count
-    requires { ⌜ held ≡ holds (lent nums reals map pool) ⌝ }
     ensures { λ r. ⌜ findings r (is handles) (is boxes) (is objs) ≡ queryOf (before nums reals map pool) q (was handles) (was boxes) (was objs) ⌝ }
 {
     let mut found: [u32; 256] = [0; 256];
-    let seen = look(nums, reals, map, pool, held, q, &mut found);
+    let seen = look(nums, reals, map, pool, q, &mut found);
     if seen.answer != 0 {
         return seen;
     }

@@ -1,17 +1,13 @@
 // The public calls of the box grid: src/aabbgrid.rs of the Rust. Each checks the tables first and answers by document 01's numbers, listed
 // with each call in their order. No call has a `requires`, and a refused call changes no table and no output.
 ghost use mathlib.Core.Path.{_≡_};
-ghost use Rattle.basics.specs.Lent.{was, is};
 ghost use Rattle.box_tables.specs.Lent.{after, before};
 ghost use Rattle.box_tables.specs.Outcome.{outcome};
 ghost use Rattle.box_inserts.specs.New.{newOf};
 ghost use Rattle.box_inserts.specs.Insert.{insertOf};
 ghost use Rattle.box_changes.specs.SetAabb.{setAabbOf};
 ghost use Rattle.box_changes.specs.Remove.{removeOf};
-ghost use Rattle.box_queries.specs.Queries.{broadOf, queryOf, findings};
-ghost use Rattle.box_queries.specs.Queries as Queries;
 use geometry::Aabb;
-use replies::Count;
 use replies::Inserted;
 use replies::Reply;
 use slots::Handle;
@@ -85,34 +81,8 @@ pub use box_reads::len;
 // The handles of the objects, ascending by slot. Refusals: 3, 9.
 pub use box_reads::handles;
 
-// The handles of the boxes that share a cell with the query box, each once, at its first place in the walk. 3, 6, 7, 9.
-pub fn query_broad(
-    nums: &[[u32; 4]],
-    reals: &[[f32; 4]],
-    map: &[u64],
-    pool: &[[u64; 2]],
-    q: Aabb,
-    found: &mut [[u32; 2]],
-) -> Count
-    ensures { λ r. ⌜ Queries.handlesOf r (is found) ≡ broadOf (before nums reals map pool) q (was found) ⌝ }
-{
-    let held = box_tables::check(nums, reals, map, pool);
-    box_queries::query_broad(nums, reals, map, pool, held, q, found)
-}
+// The handles of the boxes that share a cell with the query box, each once, at its first place in the walk. Refusals: 3, 6, 7, 9.
+pub use box_queries::query_broad;
 
-// Handle, box and data of those that the query box intersects, by the rounded test. 3, 6, 7, 9.
-pub fn query(
-    nums: &[[u32; 4]],
-    reals: &[[f32; 4]],
-    map: &[u64],
-    pool: &[[u64; 2]],
-    q: Aabb,
-    found: &mut [[u32; 2]],
-    boxes: &mut [[f32; 4]],
-    objs: &mut [u32],
-) -> Count
-    ensures { λ r. ⌜ findings r (is found) (is boxes) (is objs) ≡ queryOf (before nums reals map pool) q (was found) (was boxes) (was objs) ⌝ }
-{
-    let held = box_tables::check(nums, reals, map, pool);
-    box_queries::query(nums, reals, map, pool, held, q, found, boxes, objs)
-}
+// Handle, box and data of those that the query box intersects, by the rounded test. Refusals: 3, 6, 7, 9.
+pub use box_queries::query;

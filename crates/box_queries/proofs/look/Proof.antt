@@ -24,26 +24,31 @@ use Rattle.box_queries.proofs.look.Tie as tie
 abbrev lent : tie.Start → Tables
 lent s = tables (s .args .nums .now) (s .args .reals .now) (s .args .map .now) (s .args .pool .now)
 
+-- the check, and what came before it
+abbrev start : tie.After-check → tie.Start
+start k = k .before .before
+
 -- past the first test the tables hold a grid, and past the second the query box is in the domain
-held : (e : tie.Else1) → holds (lent (e .before .before)) ≡ true
-held e = sym (e .before .before .pre .0) ∙ not-false _ (e .if1 .left)
+held : (e : tie.Else1) → holds (lent (start (e .before))) ≡ true
+held e = sym (e .before .check .ensures) ∙ not-false _ (e .if1 .left)
 
-whole : (e : tie.Else1) → Holds (lent (e .before .before))
-whole e = holds-says (lent (e .before .before)) .yes (held e)
+whole : (e : tie.Else1) → Holds (lent (start (e .before)))
+whole e = holds-says (lent (start (e .before))) .yes (held e)
 
-fine : (e : tie.Else2) → aabbInDomain (e .before .before .before .before .args .q) ≡ true
+fine : (e : tie.Else2) → aabbInDomain (start (e .before .before .before) .args .q) ≡ true
 fine e = sym (e .before .aabb-in-domain .ensures) ∙ not-false _ (e .if2 .left)
 
 returns : tie.Need-returns
 returns c =
-    let s = c .before .before .before in
-    looked-3 (lent s) (s .args .q) (s .args .found .now) (s .pre .1) (c .refused .result) (c .refused .ensures) (sym (s .pre .0) ∙ not-true _ (c .before .if1 .taken))
+    let k = c .before .before in
+    let s = start k in
+    looked-3 (lent s) (s .args .q) (s .args .found .now) (s .pre) (c .refused .result) (c .refused .ensures) (sym (k .check .ensures) ∙ not-true _ (c .before .if1 .taken))
 
 returns-2 : tie.Need-returns-2
 returns-2 c =
     let e = c .before .before .before in
-    let s = e .before .before in
-    looked-6 (lent s) (s .args .q) (s .args .found .now) (s .pre .1) (c .refused2 .result) (c .refused2 .ensures) (held e) (sym (c .before .before .aabb-in-domain .ensures) ∙ not-true _ (c .before .if2 .taken))
+    let s = start (e .before) in
+    looked-6 (lent s) (s .args .q) (s .args .found .now) (s .pre) (c .refused2 .result) (c .refused2 .ensures) (held e) (sym (c .before .before .aabb-in-domain .ensures) ∙ not-true _ (c .before .if2 .taken))
 
 in-map : tie.Need-shared-slice-read-size
 in-map c = omega (arith, whole (c .before .before .before) .sized .of-map)
@@ -52,15 +57,15 @@ span-of-requires : tie.Need-span-of-requires
 span-of-requires c κs = let e = c .before in (whole (e .before .before) .counted .size, subst T (sym (fine e)) tt)
 
 -- the number of cells of the range
-number : (c : tie.After-span-of) → let s = c .before .before .before .before .before .before in c .span-of .result .cells ≡ covers (sizeOf (lent s)) (s .args .q)
+number : (c : tie.After-span-of) → let s = start (c .before .before .before .before .before) in c .span-of .result .cells ≡ covers (sizeOf (lent s)) (s .args .q)
 number c = ap (λ (p : Span). p .cells) (c .span-of .ensures)
 
 returns-3 : tie.Need-returns-3
 returns-3 c =
     let n = c .before .before .before in
     let e = n .before .before in
-    let s = e .before .before .before .before in
-    looked-7 (lent s) (s .args .q) (s .args .found .now) (s .pre .1) (c .refused3 .result) (c .refused3 .ensures) (held (e .before .before)) (fine e) (omega (arith, number n, c .before .if3 .taken))
+    let s = start (e .before .before .before) in
+    looked-7 (lent s) (s .args .q) (s .args .found .now) (s .pre) (c .refused3 .result) (c .refused3 .ensures) (held (e .before .before)) (fine e) (omega (arith, number n, c .before .if3 .taken))
 
 in-map-2 : tie.Need-shared-slice-read-index-of
 in-map-2 c = let e = c .before .before .before .before .before in omega (arith, whole (e .before .before) .sized .of-map)
@@ -69,13 +74,13 @@ gather-requires : tie.Need-gather-requires
 gather-requires c κs =
     let i = c .before .before .before in
     let e = i .before .before .before .before .before .before in
-    let s = e .before .before .before .before in
+    let s = start (e .before .before .before) in
     let t = lent s in
     let h = whole (e .before .before) in (
       subst (λ (u : ℕ). u ≤ length (t .pool)) (sym (i .index-of .ensures)) (h .counted .used-most),
       subst (λ (u : ℕ). Sorted rowKey (take u (t .pool))) (sym (i .index-of .ensures)) (entries-sorted t h),
       λ j l. slots-few t h j (subst (λ (u : ℕ). j < u) (i .index-of .ensures) l),
-      s .pre .1,
+      s .pre,
     )
 
 returns-4 : tie.Need-returns-4
@@ -85,7 +90,7 @@ returns-4 c =
     let x = i .before .before in
     let n = x .before .before in
     let e = n .before .before in
-    let s = e .before .before .before .before in
+    let s = start (e .before .before .before) in
     let g = c .gather .ensures in
     looked-0 (lent s) (s .args .q) _ (g .2) (c .gather .result) (k .before .key-of .result) (k .key-of2 .result) (i .index-of .result) (g .0) (held (e .before .before)) (fine e)
     (omega (arith, number n, x .if3 .left))
@@ -95,6 +100,7 @@ pub look-spec : {M : Type 1} → statement M
 look-spec =
     tie.close
     (tie.spec
+    (λ c κs. search needs)
     (λ c κs. search needs)
     returns
     (λ c κs. search needs)
