@@ -12,7 +12,6 @@ ghost use Rattle.slots.specs.declared.Usable.the-variants.{At};
 ghost use Rattle.slots.specs.Map.{taken, lowestUsable, isSome};
 ghost use Rattle.slots.specs.Slot.{live, versionAt};
 ghost use Rattle.box_tables.specs.Tables.{counting, covers, cornersOf};
-ghost use Rattle.box_tables.specs.Decide.{holds};
 ghost use Rattle.box_tables.specs.Lent.{after, before, lent};
 ghost use Rattle.box_tables.specs.Outcome.{outcome};
 ghost use Rattle.box_inserts.specs.Insert as Insert;
@@ -136,19 +135,17 @@ fn put(
     count(map, s, used + basics::index_of(n));
 }
 
-// The caller has checked whether the tables hold a grid, and hands the verdict down as `held`.
 pub fn insert(
     nums: &mut [[u32; 4]],
     reals: &mut [[f32; 4]],
     map: &mut [u64],
     pool: &mut [[u64; 2]],
-    held: bool,
     b: Aabb,
     obj: u32,
 ) -> Inserted
-    requires { ⌜ held ≡ holds (lent nums reals map pool) ⌝ }
     ensures { λ r. ⌜ outcome r (after nums reals map pool) ≡ insertOf (before nums reals map pool) b obj ⌝ }
 {
+    let held = box_tables::check(nums, reals, map, pool);
     let c = choose(nums, map, pool.len(), held, b);
     let a = c.answer;
     if a != 0 {

@@ -3,42 +3,17 @@
 ghost use mathlib.Core.Path.{_≡_};
 ghost use Rattle.box_tables.specs.Lent.{after, before};
 ghost use Rattle.box_tables.specs.Outcome.{outcome};
-ghost use Rattle.box_inserts.specs.New.{newOf};
-ghost use Rattle.box_inserts.specs.Insert.{insertOf};
 ghost use Rattle.box_changes.specs.SetAabb.{setAabbOf};
 ghost use Rattle.box_changes.specs.Remove.{removeOf};
 use geometry::Aabb;
-use replies::Inserted;
 use replies::Reply;
 use slots::Handle;
 
-// Builds an empty grid with cells of this size. 3: wrong lengths; 2: size outside its limits.
-pub fn new(
-    nums: &mut [[u32; 4]],
-    reals: &[[f32; 4]],
-    map: &mut [u64],
-    pool: &[[u64; 2]],
-    size: u32,
-) -> u32
-    ensures { λ r. ⌜ outcome r (after nums reals map pool) ≡ newOf (before nums reals map pool) size ⌝ }
-{
-    box_inserts::new(nums, reals, map, pool, size)
-}
+// Builds an empty grid with cells of this size. Refusals: 3 (wrong lengths), 2 (size outside its limits).
+pub use box_inserts::new;
 
-// A new object with a box; every cell that it covers lists it. 3, 6, 7, 4, 8.
-pub fn insert(
-    nums: &mut [[u32; 4]],
-    reals: &mut [[f32; 4]],
-    map: &mut [u64],
-    pool: &mut [[u64; 2]],
-    b: Aabb,
-    obj: u32,
-) -> Inserted
-    ensures { λ r. ⌜ outcome r (after nums reals map pool) ≡ insertOf (before nums reals map pool) b obj ⌝ }
-{
-    let held = box_tables::check(nums, reals, map, pool);
-    box_inserts::insert(nums, reals, map, pool, held, b, obj)
-}
+// A new object with a box; every cell that it covers lists it. Refusals: 3, 6, 7, 4, 8.
+pub use box_inserts::insert;
 
 // Another box for the object, at once. 3, 6, 5, 7, 8.
 pub fn set_aabb(
