@@ -1,5 +1,4 @@
-// Moving a box and removing one.
-// The caller has checked whether the tables hold a grid, and hands the verdict down as `held`.
+// Moving a box and removing one: `set_aabb` and `remove`. Each checks the tables first.
 mod placing;
 mod removing;
 

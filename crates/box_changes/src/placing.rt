@@ -2,8 +2,7 @@
 ghost use mathlib.Core.Path.{_≡_};
 ghost use lib.ListN.{set};
 ghost use Rattle.basics.specs.Lent.{was, is};
-ghost use Rattle.box_tables.specs.Decide.{holds};
-ghost use Rattle.box_tables.specs.Lent.{after, before, lent};
+ghost use Rattle.box_tables.specs.Lent.{after, before};
 ghost use Rattle.box_tables.specs.Outcome.{outcome};
 ghost use Rattle.box_tables.specs.Tables.{cornersOf};
 ghost use Rattle.box_changes.specs.SetAabb.{setAabbAnswer, setAabbOf};
@@ -18,14 +17,12 @@ fn answer(
     reals: &[[f32; 4]],
     map: &[u64],
     pool: &[[u64; 2]],
-    held: bool,
     h: Handle,
     b: Aabb,
 ) -> u32
-    requires { ⌜ held ≡ holds (lent nums reals map pool) ⌝ }
     ensures { λ r. ⌜ r ≡ setAabbAnswer (before nums reals map pool) h b ⌝ }
 {
-    if !held {
+    if !box_tables::check(nums, reals, map, pool) {
         return 3;
     }
     if !geometry::aabb_in_domain(b) {
@@ -103,14 +100,12 @@ pub fn set_aabb(
     reals: &mut [[f32; 4]],
     map: &mut [u64],
     pool: &mut [[u64; 2]],
-    held: bool,
     h: Handle,
     b: Aabb,
 ) -> u32
-    requires { ⌜ held ≡ holds (lent nums reals map pool) ⌝ }
     ensures { λ r. ⌜ outcome r (after nums reals map pool) ≡ setAabbOf (before nums reals map pool) h b ⌝ }
 {
-    let a = answer(nums, reals, map, pool, held, h, b);
+    let a = answer(nums, reals, map, pool, h, b);
     if a != 0 {
         return a;
     }

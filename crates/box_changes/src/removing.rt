@@ -7,7 +7,6 @@ ghost use Rattle.basics.specs.Lent.{was, is};
 ghost use Rattle.basics.specs.Refusals.{unless, firstOf};
 ghost use Rattle.slots.specs.Slot.{good, emptiedNums, emptiedMap};
 ghost use Rattle.box_tables.specs.Tables.{counting, objOn};
-ghost use Rattle.box_tables.specs.Decide.{holds};
 ghost use Rattle.box_tables.specs.Lent.{after, before, lent};
 ghost use Rattle.box_tables.specs.Outcome.{outcome};
 ghost use Rattle.box_changes.specs.Remove.{takenOut, removeOf};
@@ -67,12 +66,11 @@ pub fn remove(
     reals: &[[f32; 4]],
     map: &mut [u64],
     pool: &mut [[u64; 2]],
-    held: bool,
     h: Handle,
 ) -> Reply
-    requires { ⌜ held ≡ holds (lent nums reals map pool) ⌝ }
     ensures { λ r. ⌜ outcome r (after nums reals map pool) ≡ removeOf (before nums reals map pool) h ⌝ }
 {
+    let held = box_tables::check(nums, reals, map, pool);
     let a = answer(nums, held, h);
     if a != 0 {
         return Reply { answer: a, obj: 0 };

@@ -16,15 +16,23 @@ use Rattle.box_changes.proofs.placing.answer.Tie as tie
 abbrev at-entry : tie.Start → Tables
 at-entry c = tables (c .args .nums .now) (c .args .reals .now) (c .args .map .now) (c .args .pool .now)
 
+-- the check, and what came before it
+abbrev start : tie.After-check → tie.Start
+start k = k .before .before
+
 returns : tie.Need-returns
-returns c = let s = c .before .before in answer-3 (at-entry s) (s .args .h) (s .args .b) (s .args .held) (s .pre) (not-true _ (c .if1 .taken))
+returns c =
+    let k = c .before in
+    let s = start k in
+    answer-3 (at-entry s) (s .args .h) (s .args .b) (k .check .result) (k .check .ensures) (not-true _ (c .if1 .taken))
 
 returns-2 : tie.Need-returns-2
 returns-2 c =
     let d = c .before in
     let i1 = d .before in
-    let s = i1 .before .before in
-    answer-6 (at-entry s) (s .args .h) (s .args .b) (s .args .held) (s .pre) (not-false _ (i1 .if1 .left)) (sym (d .aabb-in-domain .ensures) ∙ not-true _ (c .if2 .taken))
+    let k = i1 .before in
+    let s = start k in
+    answer-6 (at-entry s) (s .args .h) (s .args .b) (k .check .result) (k .check .ensures) (not-false _ (i1 .if1 .left)) (sym (d .aabb-in-domain .ensures) ∙ not-true _ (c .if2 .taken))
 
 returns-3 : tie.Need-returns-3
 returns-3 c =
@@ -32,22 +40,25 @@ returns-3 c =
     let i2 = g .before in
     let d = i2 .before in
     let i1 = d .before in
-    let s = i1 .before .before in
-    answer-5 (at-entry s) (s .args .h) (s .args .b) (s .args .held) (s .pre) (not-false _ (i1 .if1 .left)) (sym (d .aabb-in-domain .ensures) ∙ not-false _ (i2 .if2 .left)) (sym (g .is-good .ensures) ∙ not-true _ (c .if3 .taken))
+    let k = i1 .before in
+    let s = start k in
+    answer-5 (at-entry s) (s .args .h) (s .args .b) (k .check .result) (k .check .ensures) (not-false _ (i1 .if1 .left)) (sym (d .aabb-in-domain .ensures) ∙ not-false _ (i2 .if2 .left)) (sym (g .is-good .ensures) ∙ not-true _ (c .if3 .taken))
 
 shared-slice-read-covers : tie.Need-shared-slice-read-covers
 shared-slice-read-covers c =
     let i1 = c .before .before .before .before .before in
-    let s = i1 .before .before in
-    omega (arith, holding (at-entry s) (s .args .h) (s .args .b) (s .args .held) (s .pre) (not-false _ (i1 .if1 .left)) .sized .of-map)
+    let k = i1 .before in
+    let s = start k in
+    omega (arith, holding (at-entry s) (s .args .h) (s .args .b) (k .check .result) (k .check .ensures) (not-false _ (i1 .if1 .left)) .sized .of-map)
 
 covers-requires : tie.Need-covers-requires
 covers-requires c κs =
     let i2 = c .before .before .before in
     let d = i2 .before in
     let i1 = d .before in
-    let s = i1 .before .before in
-    (holding (at-entry s) (s .args .h) (s .args .b) (s .args .held) (s .pre) (not-false _ (i1 .if1 .left)) .counted .size, says-t _ .yes (sym (d .aabb-in-domain .ensures) ∙ not-false _ (i2 .if2 .left)))
+    let k = i1 .before in
+    let s = start k in
+    (holding (at-entry s) (s .args .h) (s .args .b) (k .check .result) (k .check .ensures) (not-false _ (i1 .if1 .left)) .counted .size, says-t _ .yes (sym (d .aabb-in-domain .ensures) ∙ not-false _ (i2 .if2 .left)))
 
 returns-4 : tie.Need-returns-4
 returns-4 c =
@@ -57,8 +68,9 @@ returns-4 c =
     let i2 = g .before in
     let d = i2 .before in
     let i1 = d .before in
-    let s = i1 .before .before in
-    answer-7 (at-entry s) (s .args .h) (s .args .b) (s .args .held) (s .pre) (not-false _ (i1 .if1 .left)) (sym (d .aabb-in-domain .ensures) ∙ not-false _ (i2 .if2 .left)) (sym (g .is-good .ensures) ∙ not-false _ (i3 .if3 .left)) (v .covers .result) (v .covers .ensures) (c .if4 .taken)
+    let k = i1 .before in
+    let s = start k in
+    answer-7 (at-entry s) (s .args .h) (s .args .b) (k .check .result) (k .check .ensures) (not-false _ (i1 .if1 .left)) (sym (d .aabb-in-domain .ensures) ∙ not-false _ (i2 .if2 .left)) (sym (g .is-good .ensures) ∙ not-false _ (i3 .if3 .left)) (v .covers .result) (v .covers .ensures) (c .if4 .taken)
 
 load-box-requires : tie.Need-load-box-requires
 load-box-requires c κs =
@@ -68,14 +80,16 @@ load-box-requires c κs =
     let i2 = g .before in
     let d = i2 .before in
     let i1 = d .before in
-    let s = i1 .before .before in
-    omega (arith, c .wide .ensures, slot-inside (at-entry s) (s .args .h) (s .args .b) (s .args .held) (s .pre) (not-false _ (i1 .if1 .left)) (sym (d .aabb-in-domain .ensures) ∙ not-false _ (i2 .if2 .left)) (sym (g .is-good .ensures) ∙ not-false _ (i3 .if3 .left)) (v .covers .result) (v .covers .ensures))
+    let k = i1 .before in
+    let s = start k in
+    omega (arith, c .wide .ensures, slot-inside (at-entry s) (s .args .h) (s .args .b) (k .check .result) (k .check .ensures) (not-false _ (i1 .if1 .left)) (sym (d .aabb-in-domain .ensures) ∙ not-false _ (i2 .if2 .left)) (sym (g .is-good .ensures) ∙ not-false _ (i3 .if3 .left)) (v .covers .result) (v .covers .ensures))
 
 shared-slice-read-covers-2 : tie.Need-shared-slice-read-covers-2
 shared-slice-read-covers-2 c =
     let i1 = c .before .before .before .before .before .before .before .before .before .before in
-    let s = i1 .before .before in
-    omega (arith, holding (at-entry s) (s .args .h) (s .args .b) (s .args .held) (s .pre) (not-false _ (i1 .if1 .left)) .sized .of-map)
+    let k = i1 .before in
+    let s = start k in
+    omega (arith, holding (at-entry s) (s .args .h) (s .args .b) (k .check .result) (k .check .ensures) (not-false _ (i1 .if1 .left)) .sized .of-map)
 
 covers-requires-2 : tie.Need-covers-requires-2
 covers-requires-2 c κs =
@@ -87,14 +101,16 @@ covers-requires-2 c κs =
     let i2 = g .before in
     let d = i2 .before in
     let i1 = d .before in
-    let s = i1 .before .before in
-    (holding (at-entry s) (s .args .h) (s .args .b) (s .args .held) (s .pre) (not-false _ (i1 .if1 .left)) .counted .size, subst (λ (x : Aabb). T (aabbInDomain x)) (sym (l .load-box .ensures ∙ ap (aabbAt (s .args .reals .now)) (w .wide .ensures))) (old-inside (at-entry s) (s .args .h) (s .args .b) (s .args .held) (s .pre) (not-false _ (i1 .if1 .left)) (sym (d .aabb-in-domain .ensures) ∙ not-false _ (i2 .if2 .left)) (sym (g .is-good .ensures) ∙ not-false _ (i3 .if3 .left)) (v .covers .result) (v .covers .ensures)))
+    let k = i1 .before in
+    let s = start k in
+    (holding (at-entry s) (s .args .h) (s .args .b) (k .check .result) (k .check .ensures) (not-false _ (i1 .if1 .left)) .counted .size, subst (λ (x : Aabb). T (aabbInDomain x)) (sym (l .load-box .ensures ∙ ap (aabbAt (s .args .reals .now)) (w .wide .ensures))) (old-inside (at-entry s) (s .args .h) (s .args .b) (k .check .result) (k .check .ensures) (not-false _ (i1 .if1 .left)) (sym (d .aabb-in-domain .ensures) ∙ not-false _ (i2 .if2 .left)) (sym (g .is-good .ensures) ∙ not-false _ (i3 .if3 .left)) (v .covers .result) (v .covers .ensures)))
 
 shared-slice-read-if5 : tie.Need-shared-slice-read-if5
 shared-slice-read-if5 c =
     let i1 = c .before .before .before .before .before .before .before .before .before .before .before .before in
-    let s = i1 .before .before in
-    omega (arith, holding (at-entry s) (s .args .h) (s .args .b) (s .args .held) (s .pre) (not-false _ (i1 .if1 .left)) .sized .of-map)
+    let k = i1 .before in
+    let s = start k in
+    omega (arith, holding (at-entry s) (s .args .h) (s .args .b) (k .check .result) (k .check .ensures) (not-false _ (i1 .if1 .left)) .sized .of-map)
 
 add-if5 : tie.Need-add-if5
 add-if5 c =
@@ -108,8 +124,9 @@ add-if5 c =
     let i2 = g .before in
     let d = i2 .before in
     let i1 = d .before in
-    let s = i1 .before .before in
-    omega (arith, used-small (at-entry s) (s .args .h) (s .args .b) (s .args .held) (s .pre) (not-false _ (i1 .if1 .left)) (sym (d .aabb-in-domain .ensures) ∙ not-false _ (i2 .if2 .left)) (sym (g .is-good .ensures) ∙ not-false _ (i3 .if3 .left)) (v .covers .result) (v .covers .ensures) (i4 .if4 .left) (o .covers2 .result) (o .covers2 .ensures ∙ ap (λ (x : Aabb). covers (sizeOf (at-entry s)) x) (l .load-box .ensures ∙ ap (aabbAt (s .args .reals .now)) (w .wide .ensures))))
+    let k = i1 .before in
+    let s = start k in
+    omega (arith, used-small (at-entry s) (s .args .h) (s .args .b) (k .check .result) (k .check .ensures) (not-false _ (i1 .if1 .left)) (sym (d .aabb-in-domain .ensures) ∙ not-false _ (i2 .if2 .left)) (sym (g .is-good .ensures) ∙ not-false _ (i3 .if3 .left)) (v .covers .result) (v .covers .ensures) (i4 .if4 .left) (o .covers2 .result) (o .covers2 .ensures ∙ ap (λ (x : Aabb). covers (sizeOf (at-entry s)) x) (l .load-box .ensures ∙ ap (aabbAt (s .args .reals .now)) (w .wide .ensures))))
 
 add-if5-2 : tie.Need-add-if5-2
 add-if5-2 c =
@@ -123,8 +140,9 @@ add-if5-2 c =
     let i2 = g .before in
     let d = i2 .before in
     let i1 = d .before in
-    let s = i1 .before .before in
-    omega (arith, c .word-of .ensures, room-small (at-entry s) (s .args .h) (s .args .b) (s .args .held) (s .pre) (not-false _ (i1 .if1 .left)) (sym (d .aabb-in-domain .ensures) ∙ not-false _ (i2 .if2 .left)) (sym (g .is-good .ensures) ∙ not-false _ (i3 .if3 .left)) (v .covers .result) (v .covers .ensures) (i4 .if4 .left) (o .covers2 .result) (o .covers2 .ensures ∙ ap (λ (x : Aabb). covers (sizeOf (at-entry s)) x) (l .load-box .ensures ∙ ap (aabbAt (s .args .reals .now)) (w .wide .ensures))))
+    let k = i1 .before in
+    let s = start k in
+    omega (arith, c .word-of .ensures, room-small (at-entry s) (s .args .h) (s .args .b) (k .check .result) (k .check .ensures) (not-false _ (i1 .if1 .left)) (sym (d .aabb-in-domain .ensures) ∙ not-false _ (i2 .if2 .left)) (sym (g .is-good .ensures) ∙ not-false _ (i3 .if3 .left)) (v .covers .result) (v .covers .ensures) (i4 .if4 .left) (o .covers2 .result) (o .covers2 .ensures ∙ ap (λ (x : Aabb). covers (sizeOf (at-entry s)) x) (l .load-box .ensures ∙ ap (aabbAt (s .args .reals .now)) (w .wide .ensures))))
 
 returns-5 : tie.Need-returns-5
 returns-5 c =
@@ -139,8 +157,9 @@ returns-5 c =
     let i2 = g .before in
     let d = i2 .before in
     let i1 = d .before in
-    let s = i1 .before .before in
-    answer-8 (at-entry s) (s .args .h) (s .args .b) (s .args .held) (s .pre) (not-false _ (i1 .if1 .left)) (sym (d .aabb-in-domain .ensures) ∙ not-false _ (i2 .if2 .left)) (sym (g .is-good .ensures) ∙ not-false _ (i3 .if3 .left)) (v .covers .result) (v .covers .ensures) (i4 .if4 .left) (o .covers2 .result) (o .covers2 .ensures ∙ ap (λ (x : Aabb). covers (sizeOf (at-entry s)) x) (l .load-box .ensures ∙ ap (aabbAt (s .args .reals .now)) (w .wide .ensures))) (omega (arith, z .word-of .ensures, c .if5 .taken))
+    let k = i1 .before in
+    let s = start k in
+    answer-8 (at-entry s) (s .args .h) (s .args .b) (k .check .result) (k .check .ensures) (not-false _ (i1 .if1 .left)) (sym (d .aabb-in-domain .ensures) ∙ not-false _ (i2 .if2 .left)) (sym (g .is-good .ensures) ∙ not-false _ (i3 .if3 .left)) (v .covers .result) (v .covers .ensures) (i4 .if4 .left) (o .covers2 .result) (o .covers2 .ensures ∙ ap (λ (x : Aabb). covers (sizeOf (at-entry s)) x) (l .load-box .ensures ∙ ap (aabbAt (s .args .reals .now)) (w .wide .ensures))) (omega (arith, z .word-of .ensures, c .if5 .taken))
 
 returns-6 : tie.Need-returns-6
 returns-6 c =
@@ -155,13 +174,15 @@ returns-6 c =
     let i2 = g .before in
     let d = i2 .before in
     let i1 = d .before in
-    let s = i1 .before .before in
-    answer-0 (at-entry s) (s .args .h) (s .args .b) (s .args .held) (s .pre) (not-false _ (i1 .if1 .left)) (sym (d .aabb-in-domain .ensures) ∙ not-false _ (i2 .if2 .left)) (sym (g .is-good .ensures) ∙ not-false _ (i3 .if3 .left)) (v .covers .result) (v .covers .ensures) (i4 .if4 .left) (o .covers2 .result) (o .covers2 .ensures ∙ ap (λ (x : Aabb). covers (sizeOf (at-entry s)) x) (l .load-box .ensures ∙ ap (aabbAt (s .args .reals .now)) (w .wide .ensures))) (omega (arith, z .word-of .ensures, c .if5 .left))
+    let k = i1 .before in
+    let s = start k in
+    answer-0 (at-entry s) (s .args .h) (s .args .b) (k .check .result) (k .check .ensures) (not-false _ (i1 .if1 .left)) (sym (d .aabb-in-domain .ensures) ∙ not-false _ (i2 .if2 .left)) (sym (g .is-good .ensures) ∙ not-false _ (i3 .if3 .left)) (v .covers .result) (v .covers .ensures) (i4 .if4 .left) (o .covers2 .result) (o .covers2 .ensures ∙ ap (λ (x : Aabb). covers (sizeOf (at-entry s)) x) (l .load-box .ensures ∙ ap (aabbAt (s .args .reals .now)) (w .wide .ensures))) (omega (arith, z .word-of .ensures, c .if5 .left))
 
 pub answer-spec : {M : Type 1} → statement M
 answer-spec =
     tie.close
     (tie.spec
+    (λ c κs. search needs)
     returns
     (λ c κs. search needs)
     returns-2
