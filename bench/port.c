@@ -70,6 +70,25 @@ static uint32_t set_position_bare(uint32_t s) { return points_set_position_bare(
 static uint32_t around(Spot c, float r) { return points_query_around(POINTS, c[0], c[1], r, QUERY); }
 static uint32_t around_bare(Spot c, float r) { return points_query_around_bare(POINTS, c[0], c[1], r, QUERY); }
 
+/* Calls of the proved static library, where there is one, to hold the figures of the unproved port to. */
+#ifdef PROVED
+#include "chavrupas.h"
+#define LENT(slice) (slice).start, (slice).length
+#define ALL_POINTS LENT(nums), LENT(reals), LENT(ints), LENT(map), LENT(pool), LENT(spots), LENT(cells)
+#define ALL_BOXES LENT(nums), LENT(reals), LENT(map), LENT(pool)
+static void proved_frame(Slice to) {
+  COUNT("batch proved", 1, chavrupas_points_batch(ALL_POINTS, LENT(kinds_), LENT(handles_), LENT(to), LENT(found_)).answer);
+  COUNT("maintain proved", 1, chavrupas_points_maintain(ALL_POINTS).moved);
+  UNDONE("circles proved", PICKS, chavrupas_points_query_around(ALL_POINTS, centres[k][0], centres[k][1], 60, LENT(found_), LENT(places_)).count);
+}
+static void proved_boxes(void) {
+  UNDONE("set_aabb other proved", PICKS, chavrupas_boxes_set_aabb(ALL_BOXES, picked[k], 1, other[k][0], other[k][1], other[k][2], other[k][3]));
+}
+#else
+static void proved_frame(Slice to) { (void)to; }
+static void proved_boxes(void) {}
+#endif
+
 static void point_calls(void) {
   COUNT("get", PICKS, points_get(POINTS, PICK, 1));
   UNDONE("set_position", PICKS, set_position(PICK));
@@ -91,6 +110,7 @@ static void point_frames(void) {
   for (unsigned f = 1; f <= FRAMES; f++) {
     Slice to = {frames[f], n};
     kept = t;
+    proved_frame(to);
     COUNT("batch", 1, points_batch(POINTS, &kinds_, &handles_, &to, &found_));
     UNDONE("maintain", 1, points_maintain(POINTS));
     COUNT("batch bare", 1, points_batch_bare(POINTS, &kinds_, &handles_, &to, &found_));
@@ -136,6 +156,7 @@ static void box_calls(FILE *f) {
   UNDONE("set_aabb same bare", PICKS, boxes_set_aabb_bare(BOXES, picked[k], 1, OF(same[k])));
   UNDONE("set_aabb other", PICKS, boxes_set_aabb(BOXES, picked[k], 1, OF(other[k])));
   UNDONE("set_aabb other bare", PICKS, boxes_set_aabb_bare(BOXES, picked[k], 1, OF(other[k])));
+  proved_boxes();
   COUNT("query", PICKS, boxes_query(BOXES, OF(asked[k]), &found_, &found_boxes_, &objs_));
   COUNT("query bare", PICKS, boxes_query_bare(BOXES, OF(asked[k]), &found_, &found_boxes_, &objs_));
   /* One box is out at a time, so that the pool is as full as it can be. */

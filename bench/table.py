@@ -123,8 +123,22 @@ def print_agreement():
         print('\n- '.join([f'\nBoth sides found as much in {same} of {same + len(other)} series of queries.'] + other))
 
 
+# The proved library's calls with their checks, beside the same calls of the port as it was compiled here.
+def print_proved():
+    apart = {}
+    for folder in glob.glob(COUNTS + '/port/*'):
+        port = read('port', os.path.basename(folder))[0]
+        for label in port:
+            call = label.removesuffix(' proved')
+            if call != label:
+                apart.setdefault(call, []).append(100 * (port[label] / port[call] - 1))
+    if apart:
+        print('\nThe proved library, more or less: ' + '; '.join(f'{call} {min(all):+.1f} to {max(all):+.1f} %' for call, all in sorted(apart.items())) + '.')
+
+
 if 'spread' in WORDS or 'clustered' in WORDS:
     print_points()
 if 'boxes' in WORDS:
     print_boxes()
 print_agreement()
+print_proved()
