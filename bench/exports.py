@@ -19,11 +19,11 @@ MADE = {
     BOX: 'Aabb { ll: Position { x: left, y: low }, ur: Position { x: right, y: high } }',
 }
 
-# grid, call, crate of the inner call or none, tables that it changes, parameters, what of the result is returned
+# grid, call, crate of the inner call or none, tables that it changes, parameters, the part of the result that is returned (all of a number; a bool as 1 or 0)
 DEFERRED = 'nums reals ints cells'
 CALLS = [
     (POINTS, 'points::new', None, 'nums map', ['size: u32'], ''),
-    (POINTS, 'point_tables::check', None, '', [], ' as u32'),
+    (POINTS, 'point_tables::check', None, '', [], 'bool'),
     (POINTS, 'points::get', None, '', [HANDLE], '.answer'),
     (POINTS, 'points::remove_maintain', None, 'nums map pool spots cells', [HANDLE], '.answer'),
     (POINTS, 'points::insert', 'inserts', ' '.join(POINTS), [AT, 'obj: u32'], '.answer'),
@@ -33,7 +33,7 @@ CALLS = [
     (POINTS, 'points::maintain', 'upkeep', ' '.join(POINTS), [], '.moved'),
     (POINTS, 'points::query_around', 'queries', '', [AT, 'radius: f32', FOUND], '.count'),
     (BOXES, 'boxes::new', None, 'nums map', ['size: u32'], ''),
-    (BOXES, 'box_tables::check', None, '', [], ' as u32'),
+    (BOXES, 'box_tables::check', None, '', [], 'bool'),
     (BOXES, 'boxes::insert', 'box_inserts', ' '.join(BOXES), [BOX, 'obj: u32'], '.answer'),
     (BOXES, 'boxes::set_aabb', 'box_changes', 'reals map pool', [HANDLE, BOX], ''),
     (BOXES, 'boxes::remove', 'box_changes', 'nums map pool', [HANDLE], '.answer'),
@@ -49,7 +49,7 @@ def export(grid, call, name, changed, parameters, verdict, result):
     tables = [f"{t}: &{'mut ' if t in changed.split() else ''}{grid[t]}" for t in grid]
     given = [MADE.get(p) or ', '.join(names(p)) for p in parameters]
     arguments = ', '.join(list(grid) + verdict + given)
-    value = f'if {call}({arguments}) {{ 1 }} else {{ 0 }}' if result == ' as u32' else f'let r = {call}({arguments});\n    r{result}'
+    value = f'if {call}({arguments}) {{ 1 }} else {{ 0 }}' if result == 'bool' else f'let r = {call}({arguments});\n    r{result}'
     text = f'pub extern "C" fn {name}({", ".join(tables + parameters)}) -> u32 {{\n    {value}\n}}\n'
     slots = [f'Slice *{t}' for t in grid]
     for word in re.findall(r'(\w+): (&|u32|f32)', ', '.join(parameters)):
