@@ -1,5 +1,5 @@
 # exports.py FOLDER: writes FOLDER/src/main.rt, a program with each counted call under a C name, and FOLDER/calls.h. Prints the crates that it reaches.
-# NAME is the public call; NAME_bare is the inner call handed the verdict `true`, so without the check. It cannot be proved, and is only compiled.
+# NAME is the public call; NAME_bare is the same call over crates whose check is `true`, written to FOLDER/bare: it cannot be proved, and is only compiled.
 import os
 import re
 import sys
@@ -19,25 +19,25 @@ MADE = {
     BOX: 'Aabb { ll: Position { x: left, y: low }, ur: Position { x: right, y: high } }',
 }
 
-# grid, call, crate of the inner call or none, tables that it changes, parameters, the part of the result that is returned (all of a number; a bool as 1 or 0)
+# grid, call, tables that it changes, parameters, the part of the result that is returned (all of a number; a bool as 1 or 0)
 DEFERRED = 'nums reals ints cells'
 CALLS = [
-    (POINTS, 'points::new', None, 'nums map', ['size: u32'], ''),
-    (POINTS, 'point_tables::check', None, '', [], 'bool'),
-    (POINTS, 'points::get', None, '', [HANDLE], '.answer'),
-    (POINTS, 'points::remove_maintain', None, 'nums map pool spots cells', [HANDLE], '.answer'),
-    (POINTS, 'points::insert', 'inserts', ' '.join(POINTS), [AT, 'obj: u32'], '.answer'),
-    (POINTS, 'points::set_position', 'moves', DEFERRED, [HANDLE, AT], ''),
-    (POINTS, 'points::remove', 'moves', DEFERRED, [HANDLE], '.answer'),
-    (POINTS, 'points::batch', 'moves', DEFERRED, [LISTS], '.answer'),
-    (POINTS, 'points::maintain', 'upkeep', ' '.join(POINTS), [], '.moved'),
-    (POINTS, 'points::query_around', 'queries', '', [AT, 'radius: f32', FOUND], '.count'),
-    (BOXES, 'boxes::new', None, 'nums map', ['size: u32'], ''),
-    (BOXES, 'box_tables::check', None, '', [], 'bool'),
-    (BOXES, 'boxes::insert', 'box_inserts', ' '.join(BOXES), [BOX, 'obj: u32'], '.answer'),
-    (BOXES, 'boxes::set_aabb', 'box_changes', 'reals map pool', [HANDLE, BOX], ''),
-    (BOXES, 'boxes::remove', 'box_changes', 'nums map pool', [HANDLE], '.answer'),
-    (BOXES, 'boxes::query', 'box_queries', '', [BOX, BOXES_FOUND], '.count'),
+    (POINTS, 'points::new', 'nums map', ['size: u32'], ''),
+    (POINTS, 'point_tables::check', '', [], 'bool'),
+    (POINTS, 'points::get', '', [HANDLE], '.answer'),
+    (POINTS, 'points::remove_maintain', 'nums map pool spots cells', [HANDLE], '.answer'),
+    (POINTS, 'points::insert', ' '.join(POINTS), [AT, 'obj: u32'], '.answer'),
+    (POINTS, 'points::set_position', DEFERRED, [HANDLE, AT], ''),
+    (POINTS, 'points::remove', DEFERRED, [HANDLE], '.answer'),
+    (POINTS, 'points::batch', DEFERRED, [LISTS], '.answer'),
+    (POINTS, 'points::maintain', ' '.join(POINTS), [], '.moved'),
+    (POINTS, 'points::query_around', '', [AT, 'radius: f32', FOUND], '.count'),
+    (BOXES, 'boxes::new', 'nums map', ['size: u32'], ''),
+    (BOXES, 'box_tables::check', '', [], 'bool'),
+    (BOXES, 'boxes::insert', ' '.join(BOXES), [BOX, 'obj: u32'], '.answer'),
+    (BOXES, 'boxes::set_aabb', 'reals map pool', [HANDLE, BOX], ''),
+    (BOXES, 'boxes::remove', 'nums map pool', [HANDLE], '.answer'),
+    (BOXES, 'boxes::query', '', [BOX, BOXES_FOUND], '.count'),
 ]
 
 
@@ -45,16 +45,16 @@ def names(parameters):
     return re.findall(r'(\w+):', parameters)
 
 
-def export(grid, call, name, changed, parameters, verdict, result):
+def export(grid, call, name, changed, parameters, result):
     tables = [f"{t}: &{'mut ' if t in changed.split() else ''}{grid[t]}" for t in grid]
     given = [MADE.get(p) or ', '.join(names(p)) for p in parameters]
-    arguments = ', '.join(list(grid) + verdict + given)
+    arguments = ', '.join(list(grid) + given)
     value = f'if {call}({arguments}) {{ 1 }} else {{ 0 }}' if result == 'bool' else f'let r = {call}({arguments});\n    r{result}'
     text = f'pub extern "C" fn {name}({", ".join(tables + parameters)}) -> u32 {{\n    {value}\n}}\n'
     slots = [f'Slice *{t}' for t in grid]
     for word in re.findall(r'(\w+): (&|u32|f32)', ', '.join(parameters)):
         slots.append({'&': 'Slice *', 'u32': 'uint32_t ', 'f32': 'float '}[word[1]] + word[0])
-    return '#[no_mangle]\n' + text, f'uint32_t {name}({", ".join(slots)});'
+    return '#[no_mangle]\n' + text, ''.join(f'uint32_t {shown}({", ".join(slots)});\n' for shown in (name, name + '_bare'))
 
 
 def reached(start):
@@ -72,18 +72,25 @@ def reached(start):
     return [crate for crate in deps if crate in seen]
 
 
+# The crate with a check that says `true` of all tables.
+def unchecked(folder, crate):
+    with open(f'crates/{crate}/src/lib.rt') as f:
+        text, n = re.subn(r'(\npub fn check\(.*?\n\{\n).*?\n\}\n', r'\1    true\n}\n', f.read(), flags=re.S)
+    assert n == 1, crate
+    os.makedirs(f'{folder}/bare/{crate}', exist_ok=True)
+    with open(f'{folder}/bare/{crate}/lib.rt', 'w') as f:
+        f.write(text)
+
+
 def main(folder):
     program = ['use geometry::Aabb;\nuse geometry::Position;\nuse slots::Handle;\n']
     header = ['#include <stddef.h>', '#include <stdint.h>', 'typedef struct { void *start; size_t length; } Slice;']
-    for grid, call, inner, changed, parameters, result in CALLS:
-        name = call.replace('::', '_')
-        forms = [(call, name, [])]
-        if inner:
-            forms.append((f"{inner}::{call.split('::')[1]}", name + '_bare', ['true']))
-        for target, shown, verdict in forms:
-            text, line = export(grid, target, shown, changed, parameters, verdict, result)
-            program.append(text)
-            header.append(line)
+    for grid, call, changed, parameters, result in CALLS:
+        text, lines = export(grid, call, call.replace('::', '_'), changed, parameters, result)
+        program.append(text)
+        header.append(lines)
+    for crate in ('point_tables', 'box_tables'):
+        unchecked(folder, crate)
     os.makedirs(folder + '/src', exist_ok=True)
     with open(folder + '/src/main.rt', 'w') as f:
         f.write('\n'.join(program + ['fn main() {}\n']))

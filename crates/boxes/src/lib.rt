@@ -1,4 +1,4 @@
-// The public calls of the box grid: src/aabbgrid.rs of the Rust. Each checks the tables first and answers by document 01's numbers, listed
+// The public calls of the box grid: src/aabbgrid.rs of the Rust. Each but `new` checks the tables first and answers by document 01's numbers, listed
 // with each call in their order. No call has a `requires`, and a refused call changes no table and no output.
 
 // Builds an empty grid with cells of this size. Refusals: 3 (wrong lengths), 2 (size outside its limits).
