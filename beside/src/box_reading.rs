@@ -154,11 +154,7 @@ impl Boxes {
         let filled = Filled::fitted(self.slots.objects().map(|(_, o)| (o.aabb, o.data)).collect(), places);
         if filled.answer == DONE {
             self.lists.clear();
-            for slot in 0..self.slots.slots.len() {
-                if self.slots.live(slot as u32).is_some() {
-                    self.slots.empty(slot);
-                }
-            }
+            self.slots.empty_all();
         }
         filled
     }

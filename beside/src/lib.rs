@@ -15,6 +15,7 @@ pub mod point_round;
 pub mod point_steps;
 pub mod port;
 pub mod random;
+pub mod rounds;
 pub mod ruin;
 pub mod rules;
 pub mod sample;

@@ -194,11 +194,7 @@ impl Points {
         let filled = Filled::fitted(self.slots.objects().map(|(_, o)| (o.at, o.data)).collect(), places);
         if filled.answer == DONE {
             self.lists.clear();
-            for slot in 0..self.slots.slots.len() {
-                if self.slots.live(slot as u32).is_some() {
-                    self.slots.empty(slot);
-                }
-            }
+            self.slots.empty_all();
         }
         filled
     }

@@ -86,6 +86,14 @@ impl<T> Slots<T> {
         }
     }
 
+    pub fn empty_all(&mut self) {
+        for slot in 0..self.slots.len() {
+            if self.live(slot as u32).is_some() {
+                self.empty(slot);
+            }
+        }
+    }
+
     /// The objects, ascending by slot.
     pub fn objects(&self) -> impl Iterator<Item = (Handle, &T)> {
         self.slots.iter().enumerate().filter_map(|(s, slot)| match slot {

@@ -5,6 +5,7 @@ use beside::log::Log;
 use beside::places::{Ground, Kind, KINDS};
 use beside::point_round::PointRound;
 use beside::random::Rng;
+use beside::rounds;
 use beside::sample;
 
 /// Sizes, slots and pools at which something changes; or any.
@@ -58,24 +59,5 @@ fn main() {
     if words.len() == 2 && words[0] == "sample" {
         return sample::write(words[1].as_ref()).expect("a folder to write to");
     }
-    let numbers: Vec<u64> = words.iter().map(|w| w.parse().expect("compare [CALLS [SEED [ROUND]]], all numbers")).collect();
-    let calls = numbers.first().copied().unwrap_or(1_000_000);
-    let seed = numbers.get(1).copied().unwrap_or(1);
-    let mut log = Log::new(seed, calls);
-    println!("seed {seed}, {calls} calls");
-    log.round = numbers.get(2).copied().unwrap_or(0);
-    loop {
-        let mut rng = Rng::of_round(seed, log.round);
-        if rng.below(5) < 3 {
-            points(rng, &mut log);
-        } else {
-            boxes(rng, &mut log);
-        }
-        log.round += 1;
-        if log.done() || numbers.len() > 2 {
-            break;
-        }
-    }
-    log.summary("compare");
-    std::process::exit(i32::from(log.differences > 0));
+    rounds::run("compare", &words, |mut rng, log| if rng.below(5) < 3 { points(rng, log) } else { boxes(rng, log) })
 }

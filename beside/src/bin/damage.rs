@@ -9,10 +9,10 @@ use beside::places::{Ground, KINDS};
 use beside::point_calls::PointCall;
 use beside::point_round::PointRound;
 use beside::random::Rng;
+use beside::rounds;
 use beside::ruin::{Ruin, VALUES};
 use beside::rules::DONE;
 use beside::tables::{BoxTables, PointTables};
-use beside::traps;
 
 /// Tables whose every word is set to every value; larger ones are damaged at random.
 const SMALL: usize = 400;
@@ -167,27 +167,6 @@ fn boxes(mut rng: Rng, log: &mut Log) {
 }
 
 fn main() {
-    let words = std::env::args().skip(1);
-    let numbers: Vec<u64> = words.map(|w| w.parse().expect("damage [CALLS [SEED [ROUND]]], all numbers")).collect();
-    let calls = numbers.first().copied().unwrap_or(1_000_000);
-    let seed = numbers.get(1).copied().unwrap_or(1);
-    let mut log = Log::new(seed, calls);
-    println!("seed {seed}, {calls} calls");
-    traps::watch(seed);
-    log.round = numbers.get(2).copied().unwrap_or(0);
-    loop {
-        traps::round(log.round);
-        let mut rng = Rng::of_round(seed, log.round);
-        if rng.once_in(2) {
-            points(rng, &mut log);
-        } else {
-            boxes(rng, &mut log);
-        }
-        log.round += 1;
-        if log.done() || numbers.len() > 2 {
-            break;
-        }
-    }
-    log.summary("damage");
-    std::process::exit(i32::from(log.differences > 0));
+    let words: Vec<String> = std::env::args().skip(1).collect();
+    rounds::run("damage", &words, |mut rng, log| if rng.once_in(2) { points(rng, log) } else { boxes(rng, log) })
 }
