@@ -1,4 +1,4 @@
-# exports.py FOLDER: writes FOLDER/src/main.rt, a program with each counted call under a C name, and FOLDER/calls.h. Prints the crates that it reaches.
+# exports.py FOLDER: writes FOLDER/src/main.rt, a program with each counted call under a C name, and FOLDER/calls.h.
 # NAME is the public call; NAME_bare is the same call over crates whose check is `true`, written to FOLDER/bare: it cannot be proved, and is only compiled.
 import os
 import re
@@ -57,21 +57,6 @@ def export(grid, call, name, changed, parameters, result):
     return '#[no_mangle]\n' + text, ''.join(f'uint32_t {shown}({", ".join(slots)});\n' for shown in (name, name + '_bare'))
 
 
-def reached(start):
-    deps = {}
-    for line in open('crates.txt'):
-        crate, colon, rest = line.split('#')[0].partition(':')
-        if colon:
-            deps[crate.strip()] = rest.split()
-    seen, todo = set(), list(start)
-    while todo:
-        crate = todo.pop()
-        if crate not in seen:
-            seen.add(crate)
-            todo += deps[crate]
-    return [crate for crate in deps if crate in seen]
-
-
 # The crate with a check that says `true` of all tables.
 def unchecked(folder, crate):
     with open(f'crates/{crate}/src/lib.rt') as f:
@@ -96,7 +81,6 @@ def main(folder):
         f.write('\n'.join(program + ['fn main() {}\n']))
     with open(folder + '/calls.h', 'w') as f:
         f.write('\n'.join(header) + '\n')
-    print(' '.join(reached(['points', 'boxes'])))
 
 
 main(sys.argv[1])
