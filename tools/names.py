@@ -1,13 +1,15 @@
 #!/usr/bin/env python3
 """Holds docs/PROMISES.md and docs/WORDS.md to the tree: every file that they name is there, and every name in backticks that stands with
-a file is declared in it. A cell of a table is read part by part, parted by semicolons. Prints what is not so, and ends in 1 then."""
+a file is declared in it. A cell of a table, or a point below a point of a list, is read part by part, parted by semicolons. Prints what is not so, and
+ends in 1 then."""
+import glob
 import os
 import re
 import sys
 
 os.chdir(os.path.join(os.path.dirname(os.path.abspath(__file__)), '..'))
 DOCUMENTS = 'docs/PROMISES.md', 'docs/WORDS.md'
-FILE = re.compile(r'([a-z_]+)/((?:specs|proofs/laws|src)(?:/[A-Za-z0-9_.]+)+)')
+FILE = re.compile(r'([a-z_]+)/((?:specs|proofs/laws|src)(?:/[A-Za-z0-9_.]+)+|src)')
 # a further file of the same folder, by its name alone: "demands/specs/Demands and BoxDemands"
 FURTHER = re.compile(r'(?:,| and) ([A-Z][A-Za-z]+)(?=[ ,:.()]|$)')
 # words in backticks that are no names: lines of the trace, words of the language
@@ -23,8 +25,11 @@ def text_of(file):
 
 
 def find(crate, rest):
+    """The files that this names: one, or all of `src`."""
     base = f'crates/{crate}/{rest}'
-    return next((f for f in (base, base + '.antt', base + '.rt') if os.path.isfile(f)), None)
+    if rest == 'src':
+        return sorted(glob.glob(base + '/*.rt'))
+    return [f for f in (base, base + '.antt', base + '.rt') if os.path.isfile(f)]
 
 
 def declares(file, name):
@@ -38,25 +43,41 @@ def wrong_in(part):
     """What a part of a cell says that is not so."""
     files = []
     for named in FILE.finditer(part):
-        file = find(*named.groups())
-        if file is None:
+        found = find(*named.groups())
+        if not found:
             yield f'there is no {named[0]}'
             continue
-        folder = os.path.dirname(file)
+        folder = os.path.dirname(found[0])
         further = [f'{folder}/{m[1]}.antt' for m in FURTHER.finditer(part[named.end():])]
-        files += [file] + [f for f in further if os.path.isfile(f)]
+        files += found + [f for f in further if os.path.isfile(f)]
     for name in re.findall(r'`([^` /:.]+)`', part) if files else []:
         if name not in WORDS and not any(declares(f, name) for f in files):
             yield f'{name} is not in {", ".join(files)}'
 
 
+def cells(lines):
+    """Each cell of a table but the first of its row, and each point below a point, whole, with the number of its line."""
+    point = None
+    for number, line in enumerate(lines, 1):
+        if point and not line.startswith('    '):
+            yield point
+            point = None
+        if line.startswith('|'):
+            yield from ((number, cell) for cell in line.split('|')[2:])
+        elif line.startswith('  - '):
+            point = number, line[4:].strip()
+        elif point:
+            point = point[0], f'{point[1]} {line.strip()}'
+    if point:
+        yield point
+
+
 def wrong_lines(document):
     with open(document) as lines:
-        for number, line in enumerate(lines, 1):
-            for cell in line.split('|')[2:] if line.startswith('|') else []:
-                for part in cell.split(';'):
-                    for what in wrong_in(part):
-                        yield f'{document}:{number}: {what}'
+        for number, cell in cells(lines):
+            for part in cell.split(';'):
+                for what in wrong_in(part):
+                    yield f'{document}:{number}: {what}'
 
 
 wrong = [line for document in DOCUMENTS for line in wrong_lines(document)]
