@@ -1,15 +1,13 @@
 -- One slot of the pass, by its state; and the pass up to a slot, with one slot more. Assumes nothing.
 use Prim.Native.Nat.{ℕ, suc, _+_, _≤_, _<_}
 use mathlib.Core.Path.{_≡_, refl, sym, _∙_, ap, ap₂}
-use mathlib.Core.Bool.{true, false}
 use mathlib.Core.List.{List, [], _∷_, map}
 use native.Mathlib.Omega.{arith}
 use native.Mathlib.Numerals.{add-one}
-use lib.IntN.{ℤ}
-use lib.Ieee.{Float}
-use lib.ListN.{length, set, length-map}
+use lib.IntN.{ℤ, pos}
+use lib.Ieee.{Float, nan}
+use lib.ListN.{length, getD, set, length-map}
 use borrow.Author.Tests.{eq-eqb, ne-eqb}
-use Rattle.geometry.specs.declared.Position.{Position}
 use Rattle.cells.specs.declared.Cell.{Cell}
 use Rattle.cells.specs.Key.{keyOf}
 use Rattle.slots.specs.Map.{head, wordsFor}
@@ -17,84 +15,90 @@ use Rattle.slots.specs.Slot.{live, phaseAt, emptiedNums, emptiedMap}
 use Rattle.storage.specs.Entries.{rowOf}
 use Rattle.objects.specs.declared.State.{State}
 use Rattle.objects.specs.declared.State.the-variants.{Unchanged, NewPos, Relocate, Removed}
-use Rattle.objects.specs.declared.Record.{Record}
-use Rattle.objects.specs.Columns.{recordAt, numsOf, realsOf, intsOf}
+use Rattle.objects.specs.Columns.{recordAt}
 use Rattle.point_tables.specs.Tables.{Tables, slotsOf, recordOn}
 use Rattle.point_tables.specs.CountLaws.{isLive}
-use Rattle.maintain.specs.Walk.{placed, settled, settledBy}
+use Rattle.maintain.specs.Walk.{settled, settledBy}
 use Rattle.maintain.specs.Settle.{settledIn, settledAll}
 use Rattle.maintain.specs.SettleLaws.{Shaped}
 use Rattle.maintain.specs.SettleAllLaws.{in-slots, in-shaped}
 use Rattle.maintain.specs.Closed.{relocatedBelow}
-use Rattle.settle.specs.Pass.{recordsIn, Slotted, Ready, targetRows, turned, turnedRows, putAt, Passed}
+use Rattle.settle.specs.Pass.{recordsIn, Slotted, Ready, targetRows, pendingAt, Placed, turned, turnedRows, putAt, Passed}
 use Rattle.settle.proofs.laws.PutLaws.{put-none, put-one, put-length, put-more}
 use Rattle.settle.proofs.laws.PassLaws.{next-turned, next-rows, next-slotted, below-next, below-count, below-grows}
 
--- ---- a slot is settled: r is its record, and st its state
-module _ (ns : List (List ℕ)) (qs : List (List Float)) (zs : List (List ℤ)) (m : List ℕ) (s : ℕ) (r : Record) (e : r ≡ recordAt ns qs zs s) where
-  by-state : (st : State) → r .state ≡ st → settledBy (recordsIn ns qs zs m) s st ≡ settled (recordsIn ns qs zs m) s
-  unfolding settled
-  by-state st q = ap (settledBy (recordsIn ns qs zs m) s) (sym q ∙ ap (λ (k : Record). k .state) e)
+-- ---- the rows that `place` writes, where each signed number is known by an equation
+pub made : (ns : List (List ℕ)) (qs : List (List Float)) (zs : List (List ℤ)) (s : ℕ) (c : Cell) (x y u v : ℤ) → x ≡ c .x → y ≡ c .y → u ≡ c .x → v ≡ c .y
+    → Placed ns qs zs s c
+    (set ns s (getD (getD ns s []) 0 0 ∷ getD (getD ns s []) 1 0 ∷ getD (getD ns s []) 2 0 ∷ 0 ∷ []))
+    (set qs s (getD (getD qs s []) 2 nan ∷ getD (getD qs s []) 3 nan ∷ getD (getD qs s []) 2 nan ∷ getD (getD qs s []) 3 nan ∷ []))
+    (set zs s (x ∷ y ∷ u ∷ v ∷ []))
+made ns qs zs s c x y u v ex ey eu ev = (refl, refl, cc)
 
-  pub left-alone : r .state ≡ Unchanged → recordsIn ns qs zs m ≡ settled (recordsIn ns qs zs m) s
-  left-alone q = by-state Unchanged q
+-- ---- the turn of slot s, by its phase and its tag: what stands in the tables then, the rows put, and the pool
+module _ (ns : List (List ℕ)) (qs : List (List Float)) (zs : List (List ℤ)) (m : List ℕ) (s at : ℕ) (l : List (List ℕ)) where
+  abbrev t : Tables
+  t = recordsIn ns qs zs m
 
-  module _ (ns′ : List (List ℕ)) (qs′ : List (List Float)) (zs′ : List (List ℤ)) (p : Position) where
-    module _ (c : Cell) (w : (ns′ ≡ set ns s (numsOf (placed r p c))) × (qs′ ≡ set qs s (realsOf (placed r p c))) × (zs′ ≡ set zs s (intsOf (placed r p c)))) where
-      stored-at : recordsIn ns′ qs′ zs′ m ≡ settledBy (recordsIn ns qs zs m) s (Relocate p c)
-      stored-at =
-          (λ z. recordsIn (w .0 z) (w .1 z) (w .2 z) m)
-          ∙ ap (λ (k : Record). recordsIn (set ns s (numsOf (placed k p c))) (set qs s (realsOf (placed k p c))) (set zs s (intsOf (placed k p c))) m) e
+  abbrev tag : ℕ
+  tag = getD (getD ns s []) 3 0
 
-      pub relocated : r .state ≡ Relocate p c → recordsIn ns′ qs′ zs′ m ≡ settled (recordsIn ns qs zs m) s
-      relocated q = stored-at ∙ by-state (Relocate p c) q
+  abbrev cell : Cell
+  cell = recordAt ns qs zs s .cell
 
-    -- in the cell that it has
-    pub moved : (w : (ns′ ≡ set ns s (numsOf (placed r p (r .cell)))) × (qs′ ≡ set qs s (realsOf (placed r p (r .cell)))) × (zs′ ≡ set zs s (intsOf (placed r p (r .cell))))) → r .state ≡ NewPos p → recordsIn ns′ qs′ zs′ m ≡ settled (recordsIn ns qs zs m) s
-    moved w q =
-        stored-at (r .cell) w
-        ∙ ap (λ (k : Record). settledBy (recordsIn ns qs zs m) s (Relocate p (k .cell))) e
-        ∙ by-state (NewPos p) q
+  abbrev target : Cell
+  target = record { x = getD (getD zs s []) 2 (pos 0); y = getD (getD zs s []) 3 (pos 0) }
 
-  pub removed : (ns′ : List (List ℕ)) (m′ : List ℕ) → ns′ ≡ emptiedNums ns s → m′ ≡ emptiedMap ns m s → r .state ≡ Removed → recordsIn ns′ qs zs m′ ≡ settled (recordsIn ns qs zs m) s
-  removed ns′ m′ a b q = (λ z. recordsIn (a z) qs zs (b z)) ∙ by-state Removed q
-
--- ---- the row of a relocated object
-module _ (at s : ℕ) (st : State) (l : List (List ℕ)) where
-  pub no-target : targetRows s st ≡ [] → (0 ≡ length (targetRows s st)) × (l ≡ putAt at (targetRows s st) l)
-  no-target e = (ap length (sym e), sym (put-none at l) ∙ ap (λ (r : List (List ℕ)). putAt at r l) (sym e))
-
-  module _ (p : Position) (c : Cell) (q : st ≡ Relocate p c) (room : at + length (targetRows s st) ≤ length l) where
-    pub target-room : at < length l
-    target-room = omega (arith, ap (λ (k : State). length (targetRows s k)) q)
-
-    pub one-target : (n : ℕ) (put : List (List ℕ)) → (n ≡ 1) × (put ≡ set l at (keyOf c ∷ s ∷ [])) → (n ≡ length (targetRows s st)) × (put ≡ putAt at (targetRows s st) l)
-    one-target n put w =
-        let e : (keyOf c ∷ s ∷ []) ∷ [] ≡ targetRows s st = ap (targetRows s) (sym q) in
-        (w .0 ∙ ap length e, w .1 ∙ sym (put-one at (keyOf c ∷ s ∷ []) l target-room) ∙ ap (λ (r : List (List ℕ)). putAt at r l) e)
-
--- ---- the turn of a slot, whose record is r: what stands in the tables then, the rows put, and the pool
-module _ (t : Tables) (s at : ℕ) (l : List (List ℕ)) (r : Record) (e : r ≡ recordOn t s) where
   abbrev Turned : Tables → ℕ → List (List ℕ) → Type 0
   Turned after n put = (after ≡ turned t s) × ((n ≡ length (turnedRows t s)) × (put ≡ putAt at (turnedRows t s) l))
 
-  pub turn-idle : (r .phase ≡ live → ⊥) → Turned t 0 l
-  turn-idle n =
-      let q : isLive t s ≡ false = ne-eqb (phaseAt (t .nums) s) live (λ z. n (ap (λ (k : Record). k .phase) e ∙ z)) in
-      rw q (refl, (refl, sym (put-none at l)))
+  pub turn-idle : (phaseAt ns s ≡ live → ⊥) → Turned t 0 l
+  turn-idle n = rw (ne-eqb (phaseAt ns s) live n) (refl, (refl, sym (put-none at l)))
 
-  module _ (p : r .phase ≡ live) where
-    is-live : isLive t s ≡ true
-    is-live = eq-eqb (phaseAt (t .nums) s) live (sym (ap (λ (k : Record). k .phase) e) ∙ p)
+  -- the columns with the object at its pending position in cell c
+  stored-at : (c : Cell) (ns′ : List (List ℕ)) (qs′ : List (List Float)) (zs′ : List (List ℤ)) → Placed ns qs zs s c ns′ qs′ zs′ → recordsIn ns′ qs′ zs′ m ≡ settledBy t s (Relocate (pendingAt qs s) c)
+  stored-at c ns′ qs′ zs′ w = λ z. recordsIn (w .0 z) (w .1 z) (w .2 z) m
 
-    rows-are : targetRows s (r .state) ≡ turnedRows t s
-    rows-are = ap (λ (k : Record). targetRows s (k .state)) e ∙ rw is-live
+  module _ (p : phaseAt ns s ≡ live) where
+    turned-by : (st : State) → recordOn t s .state ≡ st → settledBy t s st ≡ turned t s
+    unfolding settled
+    turned-by st q = ap (settledBy t s) (sym q) ∙ rw (eq-eqb (phaseAt ns s) live p)
 
-    pub turn-asks : at + length (turnedRows t s) ≤ length l → at + length (targetRows s (r .state)) ≤ length l
-    turn-asks h = rw rows-are h
+    rows-by : (st : State) → recordOn t s .state ≡ st → targetRows s st ≡ turnedRows t s
+    rows-by st q = ap (targetRows s) (sym q) ∙ rw (eq-eqb (phaseAt ns s) live p)
 
-    pub turn-live : (after : Tables) (n : ℕ) (put : List (List ℕ)) → (n ≡ length (targetRows s (r .state))) × (put ≡ putAt at (targetRows s (r .state)) l) → after ≡ settled t s → Turned after n put
-    turn-live after n put w a = (a ∙ rw is-live, (w .0 ∙ ap length rows-are, w .1 ∙ ap (λ (k : List (List ℕ)). putAt at k l) rows-are))
+    turn-by : (st : State) → recordOn t s .state ≡ st → (after : Tables) (n : ℕ) (put : List (List ℕ)) → after ≡ settledBy t s st → n ≡ length (targetRows s st) → put ≡ putAt at (targetRows s st) l → Turned after n put
+    turn-by st q after n put a b c =
+        (a ∙ turned-by st q, (b ∙ ap length (rows-by st q), c ∙ ap (λ (k : List (List ℕ)). putAt at k l) (rows-by st q)))
+
+    pub turn-unchanged : tag ≡ 0 → Turned t 0 l
+    turn-unchanged e = turn-by Unchanged (rw (eq-eqb tag 0 e)) t 0 l refl refl (sym (put-none at l))
+
+    pub turn-moved : tag ≡ 1 → (c : Cell) → c ≡ cell → (ns′ : List (List ℕ)) (qs′ : List (List Float)) (zs′ : List (List ℤ)) → Placed ns qs zs s c ns′ qs′ zs′ → Turned (recordsIn ns′ qs′ zs′ m) 0 l
+    turn-moved e c q ns′ qs′ zs′ w =
+        turn-by (NewPos (pendingAt qs s)) (rw (ne-eqb tag 0 (λ z. omega arith), eq-eqb tag 1 e)) (recordsIn ns′ qs′ zs′ m) 0 l
+        (stored-at c ns′ qs′ zs′ w ∙ ap (λ (d : Cell). settledBy t s (Relocate (pendingAt qs s) d)) q)
+        refl
+        (sym (put-none at l))
+
+    pub turn-removed : (tag ≡ 0 → ⊥) → (tag ≡ 1 → ⊥) → (tag ≡ 2 → ⊥) → (ns′ : List (List ℕ)) (m′ : List ℕ) → ns′ ≡ emptiedNums ns s → m′ ≡ emptiedMap ns m s → Turned (recordsIn ns′ qs zs m′) 0 l
+    turn-removed x y z ns′ m′ a b =
+        turn-by Removed (rw (ne-eqb tag 0 x, ne-eqb tag 1 y, ne-eqb tag 2 z)) (recordsIn ns′ qs zs m′) 0 l (λ k. recordsIn (a k) qs zs (b k)) refl (sym (put-none at l))
+
+    -- a relocated object has one row
+    module _ (e : tag ≡ 2) (c : Cell) (q : c ≡ target) (room : at + length (turnedRows t s) ≤ length l) where
+      relocates : recordOn t s .state ≡ Relocate (pendingAt qs s) target
+      relocates = rw (ne-eqb tag 0 (λ z. omega arith), ne-eqb tag 1 (λ z. omega arith), eq-eqb tag 2 e)
+
+      pub target-room : at < length l
+      target-room = omega (arith, ap length (rows-by (Relocate (pendingAt qs s) target) relocates))
+
+      pub turn-relocated : (ns′ : List (List ℕ)) (qs′ : List (List Float)) (zs′ : List (List ℤ)) → Placed ns qs zs s c ns′ qs′ zs′ → (n : ℕ) (put : List (List ℕ)) → (n ≡ 1) × (put ≡ set l at (keyOf c ∷ s ∷ [])) → Turned (recordsIn ns′ qs′ zs′ m) n put
+      turn-relocated ns′ qs′ zs′ w n put o =
+          turn-by (Relocate (pendingAt qs s) target) relocates (recordsIn ns′ qs′ zs′ m) n put
+          (stored-at c ns′ qs′ zs′ w ∙ ap (λ (d : Cell). settledBy t s (Relocate (pendingAt qs s) d)) q)
+          (o .0)
+          (o .1 ∙ sym (put-one at (keyOf c ∷ s ∷ []) l target-room) ∙ ap (λ (d : Cell). putAt at (targetRows s (Relocate (pendingAt qs s) d)) l) q)
 
 -- ---- the slots below i are done: what stands in the tables, k rows put, and the pool
 pub record Done (t : Tables) (w : ℕ) (pool : List (List ℕ)) (i : ℕ) (now : Tables) (put : List (List ℕ)) (k : ℕ) : Type 0 where

@@ -3,20 +3,23 @@ use Prim.Native.Nat.{ℕ, _+_, _/_, _<_}
 use mathlib.Core.Path.{_≡_}
 use mathlib.Core.List.{List, [], _∷_, _++_, map}
 use lib.IntN.{ℤ}
-use lib.Ieee.{Float}
-use lib.ListN.{length, take, drop}
+use lib.Ieee.{Float, nan}
+use lib.ListN.{length, getD, set, take, drop}
 use denote.Ref.{RefT, now}
 use Rattle.basics.specs.Refusals.{pick}
+use Rattle.geometry.specs.declared.Position.{Position}
+use Rattle.cells.specs.declared.Cell.{Cell}
 use Rattle.cells.specs.Key.{keyOf}
 use Rattle.slots.specs.Map.{head}
 use Rattle.slots.specs.Slot.{live, phaseAt}
 use Rattle.storage.specs.Entries.{rowOf}
 use Rattle.objects.specs.declared.State.{State}
 use Rattle.objects.specs.declared.State.the-variants.{Unchanged, NewPos, Relocate, Removed}
+use Rattle.objects.specs.Columns.{recordAt, numsOf, realsOf, intsOf}
 use Rattle.objects.specs.Occupied.{Agrees}
 use Rattle.point_tables.specs.Tables.{Tables, tables, sizeOf, slotsOf, recordOn}
 use Rattle.point_tables.specs.CountLaws.{isLive}
-use Rattle.maintain.specs.Walk.{settled}
+use Rattle.maintain.specs.Walk.{placed, settled}
 use Rattle.maintain.specs.Settle.{settledAll}
 use Rattle.maintain.specs.SettleLaws.{Shaped}
 use Rattle.maintain.specs.Closed.{relocatedBelow}
@@ -50,6 +53,16 @@ targetRows s Unchanged = []
 targetRows s (NewPos p) = []
 targetRows s (Relocate p c) = (keyOf c ∷ s ∷ []) ∷ []
 targetRows s Removed = []
+
+-- the position that is pending for slot s
+abbrev pub pendingAt : List (List Float) → ℕ → Position
+pendingAt qs s = record { x = getD (getD qs s []) 2 nan; y = getD (getD qs s []) 3 nan }
+
+-- the three columns once the object of slot s stands at its pending position in cell c
+abbrev pub Placed : List (List ℕ) → List (List Float) → List (List ℤ) → ℕ → Cell → List (List ℕ) → List (List Float) → List (List ℤ) → Type 0
+Placed ns qs zs s c ns′ qs′ zs′ =
+    let r = placed (recordAt ns qs zs s) (pendingAt qs s) c in
+    (ns′ ≡ set ns s (numsOf r)) × (qs′ ≡ set qs s (realsOf r)) × (zs′ ≡ set zs s (intsOf r))
 
 abbrev pub turned : Tables → ℕ → Tables
 turned t s = pick (isLive t s) (settled t s) t

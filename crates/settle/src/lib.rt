@@ -5,15 +5,10 @@ ghost use Prim.Native.Nat.{_+_, _≤_, _<_};
 ghost use lib.ListN.{length, set};
 ghost use Rattle.basics.specs.Lent.{was, is};
 ghost use Rattle.cells.specs.Key.{keyOf};
-ghost use Rattle.objects.specs.Columns.{numsOf, realsOf, intsOf};
-ghost use Rattle.maintain.specs.Walk.{placed, settled};
 ghost use Rattle.maintain.specs.Closed.{relocatedBelow};
-ghost use Rattle.settle.specs.Pass.{lentRecords, Slotted, Ready, targetRows, turned, turnedRows, putAt, Passed};
+ghost use Rattle.settle.specs.Pass.{lentRecords, Slotted, Ready, Placed, turned, turnedRows, putAt, Passed};
 ghost use Rattle.settle.specs.Counts.{counts, numbered, movedIn, removedIn, oneMoved, oneRemoved};
 use cells::Cell;
-use geometry::Position;
-use objects::Record;
-use objects::State;
 
 // How many objects had either new-position state, and how many were removed.
 pub struct Counts {
@@ -21,50 +16,16 @@ pub struct Counts {
     pub removed: u32,
 }
 
-// The object of slot s, whose record is r, stands at p in cell c, and nothing is pending for it.
-fn place(
-    nums: &mut [[u32; 4]],
-    reals: &mut [[f32; 4]],
-    ints: &mut [[i32; 4]],
-    s: usize,
-    r: Record,
-    p: Position,
-    c: Cell,
-)
+// The object of slot s stands at its pending position in cell c, and nothing is pending for it. By columns, since no record need be made.
+fn place(nums: &mut [[u32; 4]], reals: &mut [[f32; 4]], ints: &mut [[i32; 4]], s: usize, c: Cell)
     requires { ⌜ (s < length (now nums)) × (s < length (now reals)) × (s < length (now ints)) ⌝ }
-    ensures { λ _. ⌜ (is nums ≡ set (was nums) s (numsOf (placed r p c))) × (is reals ≡ set (was reals) s (realsOf (placed r p c))) × (is ints ≡ set (was ints) s (intsOf (placed r p c))) ⌝ }
+    ensures { λ _. ⌜ Placed (was nums) (was reals) (was ints) s c (is nums) (is reals) (is ints) ⌝ }
 {
-    let q = Record {
-        version: r.version,
-        phase: r.phase,
-        obj: r.obj,
-        position: p,
-        cell: c,
-        state: State::Unchanged,
-    };
-    objects::store(nums, reals, ints, s, q);
-}
-
-// What is pending for the object of slot s is done to its record; the slot of a removed object is emptied.
-pub fn settle_slot(
-    nums: &mut [[u32; 4]],
-    reals: &mut [[f32; 4]],
-    ints: &mut [[i32; 4]],
-    map: &mut [u64],
-    s: usize,
-)
-    requires { ⌜ Slotted (lentRecords nums reals ints map) s ⌝ }
-    ensures { λ _. ⌜ lentRecords (nums .exit) (reals .exit) (ints .exit) (map .exit) ≡ settled (lentRecords (nums .entry) (reals .entry) (ints .entry) (map .entry)) s ⌝ }
-{
-    let r = objects::load(nums, reals, ints, s);
-    let c = r.cell;
-    let state = r.state;
-    match state {
-        State::Unchanged => {}
-        State::NewPos(p) => place(nums, reals, ints, s, r, p, c),
-        State::Relocate(p, d) => place(nums, reals, ints, s, r, p, d),
-        State::Removed => slots::empty(nums, map, s),
-    }
+    let n = nums[s];
+    let q = reals[s];
+    nums[s] = [n[0], n[1], n[2], 0];
+    reals[s] = [q[2], q[3], q[2], q[3]];
+    ints[s] = [c.x, c.y, c.x, c.y];
 }
 
 // The row of slot s under the key of cell c, at a place of the pool. Returns 1, the rows put.
@@ -78,20 +39,7 @@ fn put_row(pool: &mut [[u64; 2]], at: usize, c: Cell, s: usize) -> usize
     1
 }
 
-// A relocated object of slot s has its row, under the key of its target cell, put at a place of the pool. Returns the rows put.
-fn put_target(pool: &mut [[u64; 2]], at: usize, s: usize, state: State) -> usize
-    requires { ⌜ at + length (targetRows s state) ≤ length (now pool) ⌝ }
-    ensures { λ r. ⌜ (r ≡ length (targetRows s state)) × (is pool ≡ putAt at (targetRows s state) (was pool)) ⌝ }
-{
-    match state {
-        State::Unchanged => 0,
-        State::NewPos(_) => 0,
-        State::Relocate(_, c) => put_row(pool, at, c, s),
-        State::Removed => 0,
-    }
-}
-
-// Slot s, if it is live, is settled, and the row of a relocated object is put at a place of the pool. Returns the rows put.
+// Slot s, if it is live, is settled by its tag, and the row of a relocated object is put at a place of the pool. Returns the rows put.
 fn turn(
     nums: &mut [[u32; 4]],
     reals: &mut [[f32; 4]],
@@ -105,14 +53,26 @@ fn turn(
     ensures records { λ _. ⌜ lentRecords (nums .exit) (reals .exit) (ints .exit) (map .exit) ≡ turned (lentRecords (nums .entry) (reals .entry) (ints .entry) (map .entry)) s ⌝ }
     ensures rows { λ r. ⌜ (r ≡ length (turnedRows (lentRecords (nums .entry) (reals .entry) (ints .entry) (map .entry)) s)) × (is pool ≡ putAt at (turnedRows (lentRecords (nums .entry) (reals .entry) (ints .entry) (map .entry)) s) (was pool)) ⌝ }
 {
-    let r = objects::load(nums, reals, ints, s);
-    if r.phase != 1 {
+    let n = nums[s];
+    if n[1] != 1 {
         return 0;
     }
-    let state = r.state;
-    let n = put_target(pool, at, s, state);
-    settle_slot(nums, reals, ints, map, s);
-    n
+    let tag = n[3];
+    let z = ints[s];
+    if tag == 1 {
+        place(nums, reals, ints, s, Cell { x: z[0], y: z[1] });
+        return 0;
+    }
+    if tag == 2 {
+        let c = Cell { x: z[2], y: z[3] };
+        place(nums, reals, ints, s, c);
+        return put_row(pool, at, c, s);
+    }
+    if tag == 0 {
+        return 0;
+    }
+    slots::empty(nums, map, s);
+    0
 }
 
 // Every live slot is settled, in ascending order, and the rows of relocated objects are put into the pool from place w on.
