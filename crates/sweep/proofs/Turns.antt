@@ -5,7 +5,7 @@ use mathlib.Core.List.{List, []}
 use native.Mathlib.Omega.{arith}
 use lib.Ieee.{Float}
 use lib.ListN.{length, getD, set}
-use Rattle.storage.specs.Entries.{Entry, entry}
+use Rattle.storage.specs.Entries.{Entry}
 use Rattle.storage.specs.Packed.{second}
 use Rattle.storage.specs.FilterLaws.{all-any}
 use Rattle.point_tables.specs.EntryLaws.{entryAt}
@@ -50,11 +50,15 @@ module _ (nums : List (List ℕ)) (reals : List (List Float)) (P : List (List �
     fate-at : fateIn nums reals (entryAt pool spots p) ≡ fateOfTag (getD (getD nums s []) 3 0) (getD reals s []) (entryAt pool spots p)
     fate-at = ap (λ (x : ℕ). fateOfTag (getD (getD nums x []) 3 0) (getD reals x []) (entryAt pool spots p)) (sym q)
 
-    pub walk-stays : getD (getD nums s []) 3 0 < 2 → (spot : List Float) → spot ≡ spotBy (getD (getD nums s []) 3 0) (getD reals s []) (getD spots p [])
-        → Walking (fateIn nums reals) P S from to w₀ (i + 1) (i + 1) end (w + 1) (set pool w (getD pool p [])) (set spots w spot)
-    walk-stays g spot e =
-        walking-stays (fateIn nums reals) P S from to w₀ room p i end w pool spots k h (getD pool p []) spot
-        (fate-at ∙ tag-stays (getD (getD nums s []) 3 0) (getD reals s []) (entryAt pool spots p) g ∙ ap (λ (x : List Float). stays (entry (getD pool p []) x)) (sym e))
+    abbrev laid : List Float
+    laid = spotBy (getD (getD nums s []) 3 0) (getD reals s []) (getD spots p [])
+
+    pub walk-stays : getD (getD nums s []) 3 0 < 2 → (spots′ : List (List Float)) → spots′ ≡ set spots w laid
+        → Walking (fateIn nums reals) P S from to w₀ (i + 1) (i + 1) end (w + 1) (set pool w (getD pool p [])) spots′
+    walk-stays g spots′ e =
+        rw e
+        (walking-stays (fateIn nums reals) P S from to w₀ room p i end w pool spots k h (getD pool p []) laid
+        (fate-at ∙ tag-stays (getD (getD nums s []) 3 0) (getD reals s []) (entryAt pool spots p) g))
 
     pub walk-leaves : 2 ≤ getD (getD nums s []) 3 0 → Walking (fateIn nums reals) P S from to w₀ (end - 1) i (end - 1) w pool spots
     walk-leaves g =

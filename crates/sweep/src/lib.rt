@@ -2,7 +2,8 @@
 // What is laid never comes past the entry that is looked at, so the places behind it stay as they were and no copy is made.
 ghost use mathlib.Core.Path.{_≡_};
 ghost use Prim.Native.Nat.{_+_, _-_, _≤_, _<_};
-ghost use lib.ListN.{length};
+ghost use mathlib.Core.List.{[]};
+ghost use lib.ListN.{length, getD, set};
 ghost use Rattle.basics.specs.Lent.{was, is};
 ghost use Rattle.storage.specs.Pooled.{Columns};
 ghost use Rattle.point_tables.specs.Lent.{before, lent};
@@ -12,14 +13,18 @@ ghost use Rattle.maintain.specs.Closed.{keptEntries};
 ghost use Rattle.sweep.specs.Tags.{spotBy, fateIn};
 ghost use Rattle.sweep.specs.Laid.{Room, Slotted, Laid, listAt, keptIf};
 
-// The position of an entry that stays: with tag 1 it is the pending one, which is in its slot's row.
-fn spot_after(tag: u32, q: [f32; 4], spot: [f32; 2]) -> [f32; 2]
-    ensures { λ r. ⌜ r ≡ spotBy tag q spot ⌝ }
+// The position of an entry that stays is laid at place w: with tag 1 it is the pending one, which is in its slot's row.
+// By a branch, so that only the position that is laid is read.
+fn lay_spot(reals: &[[f32; 4]], spots: &mut [[f32; 2]], tag: u32, s: usize, at: usize, w: usize)
+    requires { ⌜ (s < length (now reals)) × (at < length (now spots)) × (w < length (now spots)) ⌝ }
+    ensures { λ _. ⌜ is spots ≡ set (was spots) w (spotBy tag (getD (was reals) s []) (getD (was spots) at [])) ⌝ }
 {
     if tag == 1 {
-        return [q[2], q[3]];
+        let q = reals[s];
+        spots[w] = [q[2], q[3]];
+        return;
     }
-    spot
+    spots[w] = spots[at];
 }
 
 // Walks the list at the places from..to and lays what it keeps from place `start` on; returns the place behind that.
@@ -46,9 +51,8 @@ pub fn walk_run(
         let n = nums[s];
         let tag = n[3];
         if tag < 2 {
-            let spot = spot_after(tag, reals[s], spots[at]);
+            lay_spot(reals, spots, tag, s, at, w);
             pool[w] = row;
-            spots[w] = spot;
             w += 1;
             i += 1;
             at = i;

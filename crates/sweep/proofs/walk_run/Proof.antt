@@ -37,8 +37,15 @@ slot c =
     rw (c .index-of .ensures)
     (walk-slot (a .nums .now) (a .reals .now) (a .pool .now) (a .spots .now) (a .from) (a .to) (a .start) (s .pre .0) (l .at) (l .i) (l .end) (l .w) (l .pool) (l .spots) (l .inv) (t .loop-test .taken) (s .pre .1))
 
+lay-spot-requires : tie.Need-lay-spot-requires Inv-loop μ-loop
+lay-spot-requires c κs =
+    let n = c .before .before in
+    let h = slot (n .before) in
+    let g = within (n .before .before .before) in
+    (omega arith, omega arith, omega arith)
+
 -- the entry at hand, seen from where it is laid
-abbrev at-hand : tie.After-spot-after Inv-loop μ-loop → tie.In-loop Inv-loop μ-loop
+abbrev at-hand : tie.After-spots Inv-loop μ-loop → tie.In-loop Inv-loop μ-loop
 at-hand c = c .before .before .before .before .before .before .before
 
 loop-again : tie.Need-loop-again Inv-loop μ-loop
@@ -49,7 +56,7 @@ loop-again c =
     let s = t .before .before in
     let a = s .args in
     walk-stays (a .nums .now) (a .reals .now) (a .pool .now) (a .spots .now) (a .from) (a .to) (a .start) (s .pre .0) (l .at) (l .i) (l .end) (l .w) (l .pool) (l .spots) (l .inv) (t .loop-test .taken)
-    (d .index-of .result) (d .index-of .ensures) (c .before .before .before .if1 .taken) (c .spot-after .result) (c .spot-after .ensures)
+    (d .index-of .result) (d .index-of .ensures) (c .before .before .before .if1 .taken) (c .before .lay-spot .last .1 .0) (c .before .lay-spot .ensures)
 
 loop-again-2 : tie.Need-loop-again-2 Inv-loop μ-loop
 loop-again-2 c =
@@ -96,13 +103,7 @@ walk-run-spec =
     (λ c. let h = slot c in omega arith)
     slot
     (λ c. search needs)
-    (λ c. let h = slot (c .before .before) in omega arith)
-    (λ c. let h = slot (c .before .before) in omega arith)
-    (λ c. let h = within (c .before .before .before .before .before) in omega arith)
-    (λ c. let h = within (c .before .before .before .before .before) in omega arith)
-    (λ c κs. search needs)
-    (λ c. let h = within (at-hand c) in omega arith)
-    (λ c. let h = within (at-hand c) in omega arith)
+    lay-spot-requires
     (λ c. let h = within (at-hand c) in omega arith)
     (λ c. let h = within (at-hand c) in omega arith)
     (λ c. let h = within (at-hand c) in omega arith)
