@@ -1,6 +1,7 @@
 -- Laws, and what the proofs share.
 pub mod SweepingLaws
 pub mod MergingLaws
+pub mod RaisingLaws
 pub mod LayingLaws
 pub mod LeavingLaws
 pub mod LeaveLaws
