@@ -19,34 +19,40 @@ use Rattle.slots.proofs.laws.SlotLaws.{lowest-free}
 use Rattle.box_tables.specs.Tables.{Tables, sizeOf, slotsOf, covers}
 use Rattle.box_tables.specs.Decide.{holds, holds-says}
 use Rattle.box_tables.specs.Outcome.{outcome}
+use Rattle.box_tables.specs.Way.{spanOf}
+use Rattle.box_tables.specs.declared.Span.{Span}
 use Rattle.replies.specs.declared.Inserted.{Inserted}
 use Rattle.replies.specs.Replies.{inserted}
+use Rattle.box_inserts.specs.declared.inserting.Choice.{Choice}
 use Rattle.box_inserts.specs.Insert.{usableSlot, put, fewCells, hasRoom, insertAnswer, insertOf}
 use Rattle.box_inserts.specs.Fresh.{answerBy, Ready, Fresh}
 use Rattle.box_inserts.proofs.laws.InsertLaws.{few-says, room-says, insert-done}
 
 -- ---- the choice, test by test
 module _ (held : Bool) (b : Aabb) (m : List ℕ) (n room : ℕ) where
-  abbrev pub Chose : ℕ → ℕ → Type 0
-  Chose a s = (a ≡ answerBy held (aabbInDomain b) (fewCells (getD m 0 0) b) (lowestUsable m n) (leb (getD m 1 0 + covers (getD m 0 0) b) room)) × (a ≡ 0 → lowestUsable m n ≡ At s)
+  abbrev pub Chose : Choice → Type 0
+  Chose c = (c .answer ≡ answerBy held (aabbInDomain b) (fewCells (getD m 0 0) b) (lowestUsable m n) (leb (getD m 1 0 + covers (getD m 0 0) b) room)) × (c .answer ≡ 0 → (lowestUsable m n ≡ At (c .slot)) × (c .span ≡ spanOf (getD m 0 0) b))
 
-  pub chose-3 : held ≡ false → Chose 3 0
-  chose-3 e = (rw e, λ q. absurd (omega arith))
+  pub chose-3 : held ≡ false → (c : Choice) → c .answer ≡ 3 → Chose c
+  chose-3 e c h = (rw e h, λ q. absurd (omega arith))
 
-  pub chose-6 : held ≡ true → aabbInDomain b ≡ false → Chose 6 0
-  chose-6 e f = (rw (e, f), λ q. absurd (omega arith))
+  pub chose-6 : held ≡ true → aabbInDomain b ≡ false → (c : Choice) → c .answer ≡ 6 → Chose c
+  chose-6 e f c h = (rw (e, f) h, λ q. absurd (omega arith))
 
-  module _ (e : held ≡ true) (f : aabbInDomain b ≡ true) (k : ℕ) (ek : k ≡ covers (getD m 0 0) b) where
-    pub chose-7 : 4096 < k → Chose 7 0
-    chose-7 l =
-        let w : fewCells (getD m 0 0) b ≡ false = lt-leb (covers (getD m 0 0) b) 4096 (omega arith) in
-        (rw (e, f, w), λ q. absurd (omega arith))
+  module _ (e : held ≡ true) (f : aabbInDomain b ≡ true) (p : Span) (ep : p ≡ spanOf (getD m 0 0) b) where
+    cells-are : p .cells ≡ covers (getD m 0 0) b
+    cells-are = ap (λ (q : Span). q .cells) ep
 
-    pub chose-slot : k ≤ 4096 → (u : Usable) (fits : Bool) → u ≡ lowestUsable m n → fits ≡ leb (getD m 1 0 + k) room → (a s : ℕ) → (a ≡ orElse (isSome u) 4 (orElse fits 8 0)) × (a ≡ 0 → u ≡ At s) → Chose a s
-    chose-slot l u fits eu ef a s h =
-        let w : fewCells (getD m 0 0) b ≡ true = le-leb (covers (getD m 0 0) b) 4096 (omega arith) in
-        let g : fits ≡ leb (getD m 1 0 + covers (getD m 0 0) b) room = ef ∙ ap (λ (j : ℕ). leb (getD m 1 0 + j) room) ek in
-        (rw (e, f, w, ← eu, ← g) (h .0), λ q. sym eu ∙ h .1 q)
+    pub chose-7 : 4096 < p .cells → (c : Choice) → c .answer ≡ 7 → Chose c
+    chose-7 l c h =
+        let w : fewCells (getD m 0 0) b ≡ false = lt-leb (covers (getD m 0 0) b) 4096 (omega (arith, cells-are)) in
+        (rw (e, f, w) h, λ q. absurd (omega arith))
+
+    pub chose-slot : p .cells ≤ 4096 → (u : Usable) (fits : Bool) → u ≡ lowestUsable m n → fits ≡ leb (getD m 1 0 + p .cells) room → (c : Choice) → (c .answer ≡ orElse (isSome u) 4 (orElse fits 8 0)) × (c .answer ≡ 0 → (u ≡ At (c .slot)) × (c .span ≡ p)) → Chose c
+    chose-slot l u fits eu ef c h =
+        let w : fewCells (getD m 0 0) b ≡ true = le-leb (covers (getD m 0 0) b) 4096 (omega (arith, cells-are)) in
+        let g : fits ≡ leb (getD m 1 0 + covers (getD m 0 0) b) room = ef ∙ ap (λ (j : ℕ). leb (getD m 1 0 + j) room) cells-are in
+        (rw (e, f, w, ← eu, ← g) (h .0), λ q. (sym eu ∙ h .1 q .0, h .1 q .1 ∙ ep))
 
 all-passed : (a b c : Bool) (u : Usable) (d : Bool) → answerBy a b c u d ≡ 0 → (a ≡ true) × (b ≡ true) × (c ≡ true) × (d ≡ true)
 all-passed true true true (At s) true e = (refl, refl, refl, refl)

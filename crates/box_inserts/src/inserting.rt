@@ -14,56 +14,81 @@ ghost use Rattle.slots.specs.Slot.{live, versionAt};
 ghost use Rattle.box_tables.specs.Tables.{counting, covers, cornersOf};
 ghost use Rattle.box_tables.specs.Lent.{after, before, lent};
 ghost use Rattle.box_tables.specs.Outcome.{outcome};
+ghost use Rattle.box_tables.specs.Way.{spanOf};
 ghost use Rattle.box_inserts.specs.Insert as Insert;
 ghost use Rattle.box_inserts.specs.Insert.{fewCells, insertOf};
 ghost use Rattle.box_inserts.specs.Fresh.{answerBy, Ready, Fresh};
 ghost use Rattle.replies.specs.Replies.{inserted};
+use box_tables::Span;
+use cells::Cell;
 use geometry::Aabb;
 use replies::Inserted;
 use slots::Handle;
 use slots::Usable;
 
-// The answer, and where it is 0 the slot.
+// The answer, and where it is 0 the slot and the range of cells.
 struct Choice {
     answer: u32,
     slot: usize,
+    span: Span,
+}
+
+// A refusal: neither slot nor cells.
+fn refusal(answer: u32) -> Choice
+    ensures { λ r. ⌜ r .answer ≡ answer ⌝ }
+{
+    let none = Cell { x: 0, y: 0 };
+    let span = Span {
+        low: none,
+        high: none,
+        cells: 0,
+    };
+    Choice {
+        answer,
+        slot: 0,
+        span,
+    }
 }
 
 // The slot that there is, if the pool has room.
-fn slot_for(u: Usable, fits: bool) -> Choice
-    ensures { λ r. ⌜ (r .answer ≡ orElse (isSome u) 4 (orElse fits 8 0)) × (r .answer ≡ 0 → u ≡ At (r .slot)) ⌝ }
+fn slot_for(u: Usable, fits: bool, p: Span) -> Choice
+    ensures { λ r. ⌜ (r .answer ≡ orElse (isSome u) 4 (orElse fits 8 0)) × (r .answer ≡ 0 → (u ≡ At (r .slot)) × (r .span ≡ p)) ⌝ }
 {
     match u {
         Usable::At(s) => {
             if fits {
-                Choice { answer: 0, slot: s }
+                Choice {
+                    answer: 0,
+                    slot: s,
+                    span: p,
+                }
             } else {
-                Choice { answer: 8, slot: 0 }
+                refusal(8)
             }
         }
-        Usable::Nothing => Choice { answer: 4, slot: 0 },
+        Usable::Nothing => refusal(4),
     }
 }
 
 // The first refusal that applies, or the lowest usable slot. The pool has `room` entries.
 fn choose(nums: &[[u32; 4]], map: &[u64], room: usize, held: bool, b: Aabb) -> Choice
     requires { ⌜ (held ≡ true → Ready (now nums) (now map)) ⌝ }
-    ensures { λ r. ⌜ (r .answer ≡ answerBy held (aabbInDomain b) (fewCells (getD (was map) 0 0) b) (lowestUsable (was map) (length (was nums))) (leb (getD (was map) 1 0 + covers (getD (was map) 0 0) b) room)) × (r .answer ≡ 0 → lowestUsable (was map) (length (was nums)) ≡ At (r .slot)) ⌝ }
+    ensures { λ r. ⌜ (r .answer ≡ answerBy held (aabbInDomain b) (fewCells (getD (was map) 0 0) b) (lowestUsable (was map) (length (was nums))) (leb (getD (was map) 1 0 + covers (getD (was map) 0 0) b) room)) × (r .answer ≡ 0 → (lowestUsable (was map) (length (was nums)) ≡ At (r .slot)) × (r .span ≡ spanOf (getD (was map) 0 0) b)) ⌝ }
 {
     if !held {
-        return Choice { answer: 3, slot: 0 };
+        return refusal(3);
     }
     if !geometry::aabb_in_domain(b) {
-        return Choice { answer: 6, slot: 0 };
+        return refusal(6);
     }
     let p = box_tables::span_of(map[0], b);
     let n = p.cells;
     if n > 4096 {
-        return Choice { answer: 7, slot: 0 };
+        return refusal(7);
     }
     let u = slots::lowest(map, nums.len());
     let fits = basics::index_of(map[1] + n) <= room;
-    slot_for(u, fits)
+    slot_for(u, fits, p)
 }
 
 // The object is in slot s, at the version that the slot has.
@@ -110,7 +135,7 @@ fn count(map: &mut [u64], s: usize, used: usize)
     map[1] = basics::word_of(used);
 }
 
-// Slot s, which is free, takes box b, and the lists of the cells that it covers its entries.
+// Slot s, which is free, takes box b, and the lists of the cells of p, which it covers, its entries.
 fn put(
     nums: &mut [[u32; 4]],
     reals: &mut [[f32; 4]],
@@ -118,13 +143,13 @@ fn put(
     pool: &mut [[u64; 2]],
     s: usize,
     b: Aabb,
+    p: Span,
     obj: u32,
 )
-    requires { ⌜ Fresh (lent nums reals map pool) s b ⌝ }
+    requires { ⌜ Fresh (lent nums reals map pool) s b × (p ≡ spanOf (getD (now map) 0 0) b) ⌝ }
     ensures { λ _. ⌜ after nums reals map pool ≡ Insert.put (before nums reals map pool) s b obj ⌝ }
 {
     let used = basics::index_of(map[1]);
-    let p = box_tables::span_of(map[0], b);
     let low = p.low;
     let high = p.high;
     let n = p.cells;
@@ -152,7 +177,8 @@ pub fn insert(
         return replies::refused_insert(a);
     }
     let s = c.slot;
+    let p = c.span;
     let r = accepted(nums, s);
-    put(nums, reals, map, pool, s, b, obj);
+    put(nums, reals, map, pool, s, b, p, obj);
     r
 }

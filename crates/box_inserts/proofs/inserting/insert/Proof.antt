@@ -32,30 +32,30 @@ returns c =
 
 accepted-requires : tie.Need-accepted-requires
 accepted-requires c κs =
-    let l = c .before in
+    let l = c .before .before in
     let k = l .before in
     let v = checked k in
     let s = start v in
-    let f = chosen (at-entry s) (s .args .b) (s .args .obj) (v .check .result) (v .check .ensures) (k .choose .result .answer) (k .choose .ensures .0) (l .if1 .left) (k .choose .result .slot) (k .choose .ensures .1 (l .if1 .left)) in
+    let f = chosen (at-entry s) (s .args .b) (s .args .obj) (v .check .result) (v .check .ensures) (k .choose .result .answer) (k .choose .ensures .0) (l .if1 .left) (k .choose .result .slot) (k .choose .ensures .1 (l .if1 .left) .0) in
     (f .inside, f .holds .sized .most)
 
 put-requires : tie.Need-put-requires
 put-requires c κs =
-    let l = c .before .before .before .before .before .before in
+    let l = c .before .before .before .before .before .before .before in
     let k = l .before in
     let v = checked k in
     let s = start v in
-    chosen (at-entry s) (s .args .b) (s .args .obj) (v .check .result) (v .check .ensures) (k .choose .result .answer) (k .choose .ensures .0) (l .if1 .left) (k .choose .result .slot) (k .choose .ensures .1 (l .if1 .left))
+    (chosen (at-entry s) (s .args .b) (s .args .obj) (v .check .result) (v .check .ensures) (k .choose .result .answer) (k .choose .ensures .0) (l .if1 .left) (k .choose .result .slot) (k .choose .ensures .1 (l .if1 .left) .0), k .choose .ensures .1 (l .if1 .left) .1)
 
 returns-2 : tie.Need-returns-2
 returns-2 c =
     let p = c .before .before .before .before .before in
     let w = p .before .before .before .before .before in
-    let l = w .before .before in
+    let l = w .before .before .before in
     let k = l .before in
     let v = checked k in
     let s = start v in
-    done (at-entry s) (s .args .b) (s .args .obj) (v .check .result) (v .check .ensures) (k .choose .result .answer) (k .choose .ensures .0) (l .if1 .left) (k .choose .result .slot) (k .choose .ensures .1 (l .if1 .left))
+    done (at-entry s) (s .args .b) (s .args .obj) (v .check .result) (v .check .ensures) (k .choose .result .answer) (k .choose .ensures .0) (l .if1 .left) (k .choose .result .slot) (k .choose .ensures .1 (l .if1 .left) .0)
     (w .accepted .result) _ (w .accepted .ensures) (p .put .ensures)
 
 pub insert-spec : {M : Type 1} → statement M

@@ -12,17 +12,15 @@ at-entry c = tables (c .args .nums .now) (c .args .reals .now) (c .args .map .no
 
 enter-requires : tie.Need-enter-requires
 enter-requires c κs =
-    let p = c .before .before .before .before .before .before .before .before .before .before in
-    let u = p .before .before in
+    let u = c .before .before .before .before .before .before .before .before .before .before in
     let s = u .before .before .before in
-    enter-asks (at-entry s) (s .args .s) (s .args .b) (s .pre) (u .index-of .result) (u .index-of .ensures) (p .span-of .result) (p .span-of .ensures)
+    enter-asks (at-entry s) (s .args .s) (s .args .b) (s .pre .0) (u .index-of .result) (u .index-of .ensures) (s .args .p) (s .pre .1)
 
 add-count : tie.Need-add-count
 add-count c =
-    let p = c .before .before .before .before .before .before .before .before .before .before .before .before .before .before in
-    let u = p .before .before in
+    let u = c .before .before .before .before .before .before .before .before .before .before .before .before .before .before in
     let s = u .before .before .before in
-    omega (arith, c .index-of2 .ensures, few-more (at-entry s) (s .args .s) (s .args .b) (s .pre) (u .index-of .result) (u .index-of .ensures) (p .span-of .result) (p .span-of .ensures))
+    omega (arith, c .index-of2 .ensures, few-more (at-entry s) (s .args .s) (s .args .b) (s .pre .0) (u .index-of .result) (u .index-of .ensures) (s .args .p) (s .pre .1))
 
 returns : tie.Need-returns
 returns c =
@@ -31,10 +29,9 @@ returns c =
     let r = e .before .before .before in
     let o = r .before .before .before in
     let i = o .before .before in
-    let p = i .before .before .before in
-    let u = p .before .before in
+    let u = i .before .before .before in
     let s = u .before .before .before in
-    put-is (at-entry s) (s .args .s) (s .args .b) (s .pre) (u .index-of .result) (u .index-of .ensures) (p .span-of .result) (p .span-of .ensures)
+    put-is (at-entry s) (s .args .s) (s .args .b) (s .pre .0) (u .index-of .result) (u .index-of .ensures) (s .args .p) (s .pre .1)
     (s .args .obj) (i .item-of .result) (n .index-of2 .result) (i .item-of .ensures) (n .index-of2 .ensures)
     _ _ _ _ (o .occupy .ensures) (r .store-box .ensures) (e .enter .ensures) (c .before .before .count .ensures)
 
@@ -42,8 +39,6 @@ pub put-spec : {M : Type 1} → statement M
 put-spec =
     tie.close
     (tie.spec
-    (λ c. search needs)
-    (λ c κs. search needs)
     (λ c. search needs)
     (λ c κs. search needs)
     (λ c κs. search needs)
