@@ -1,6 +1,6 @@
 -- `set_aabb` by its answer: the answer test by test, what holds where it is 0, and the outcome either way. Assumes nothing.
 use Prim.Native.Nat.{ℕ, _+_, _<_, _≤_}
-use mathlib.Core.Path.{_≡_, refl, sym, _∙_}
+use mathlib.Core.Path.{_≡_, refl, sym, _∙_, ap}
 use mathlib.Core.Bool.{Bool, true, false}
 use native.Mathlib.Omega.{arith}
 use lib.Dec.{T}
@@ -14,12 +14,21 @@ use Rattle.box_tables.specs.Tables.{Tables, sizeOf, usedOf, aabbOn, covers}
 use Rattle.box_tables.specs.Holds.{Holds}
 use Rattle.box_tables.specs.Decide.{holds, holds-says}
 use Rattle.box_tables.specs.Outcome.{outcome}
+use Rattle.box_tables.specs.declared.Span.{Span}
 use Rattle.box_inserts.specs.Insert.{fewCells}
 use Rattle.box_inserts.proofs.laws.InsertLaws.{few-says}
 use Rattle.box_changes.specs.SetAabb.{placed, hasRoomFor, setAabbAnswer, setAabbOf}
 use Rattle.box_changes.proofs.laws.RemoveLaws.{isGood, Names, names}
 use Rattle.box_changes.proofs.laws.SetAabbLaws.{answerBy, room-for-says}
-use Rattle.box_changes.specs.Steps.{Movable}
+use Rattle.box_changes.specs.declared.placing.Change.{Change}
+use Rattle.box_changes.specs.Steps.{Movable, Judged}
+
+-- ---- what is told with an answer
+pub refuses : (t : Tables) (h : Handle) (b : Aabb) (k : ℕ) (c : Change) → c .answer ≡ k → 0 < k → k ≡ setAabbAnswer t h b → Judged t h b c
+refuses t h b k c e l q = record { answers = e ∙ q; spans = λ z. absurd (omega arith) }
+
+pub cells-are : {p q : Span} → p ≡ q → p .cells ≡ q .cells
+cells-are e = ap (λ (x : Span). x .cells) e
 
 module _ (t : Tables) (h : Handle) (b : Aabb) (held : Bool) (eh : held ≡ holds t) where
   by-five : answerBy held (aabbInDomain b) (isGood t h) (fewCells (sizeOf t) b) (hasRoomFor t (h .slot) b) ≡ setAabbAnswer t h b

@@ -1,5 +1,5 @@
 -- What the steps of `set_aabb` ask of their calls, and what they leave, put together. Assumes nothing.
-use Prim.Native.Nat.{ℕ, _+_, _≤_}
+use Prim.Native.Nat.{ℕ, _+_, _<_, _≤_}
 use mathlib.Core.Path.{_≡_, refl, sym, _∙_, ap}
 use mathlib.Core.Bool.{Bool, true, false}
 use mathlib.Core.List.{List}
@@ -24,7 +24,7 @@ use Rattle.box_tables.proofs.laws.BoxLaws as Box
 use Rattle.box_tables.proofs.laws.HoldsLaws.{entries-sorted, low-near, high-near}
 use Rattle.box_tables.specs.declared.Span.{Span}
 use Rattle.box_changes.specs.SetAabb.{Same, d-stay, cellsStay, recorded, moved, placed}
-use Rattle.box_changes.specs.Steps.{Movable, itemIn, leftIn, shiftedRows, shiftedMap, shiftedPool, stayIn, relistedMap, relistedPool, oldSpan, newSpan, Shifting, Placing}
+use Rattle.box_changes.specs.Steps.{Movable, itemIn, leftIn, shiftedRows, shiftedMap, shiftedPool, stayIn, relistedMap, relistedPool, oldSpan, newSpan, Shifting}
 
 -- ---- both corner cells stay
 same-cells : {r : Bool} {a b : Cell} → Says r (a ≡ b) → Says r (Same a b)
@@ -102,43 +102,40 @@ module _ (m : List ℕ) (pool : List (List ℕ)) (s : ℕ) (p q : Span) (b : Boo
 
 -- ---- box b in the place of the box of slot s
 module _ (t : Tables) (s : ℕ) (b : Aabb) (f : Movable t s b) where
-  pub placing : Placing (t .reals) (t .map) (t .pool) s b
-  placing =
+  shifting : Shifting (t .map) (t .pool) s (oldSpan (t .reals) (t .map) s) (newSpan (t .map) b)
+  shifting =
       let h = f .object .held in
       let l = f .object .inside in
       let v = f .object .occupied in
-      let d = h .boxes s l v .in-domain in
       record {
-        inside = rw (h .sized .of-reals) l;
-        size = h .counted .size;
-        old = d;
-        new = f .in-domain;
-        shifting = record {
-          small = omega (arith, l, h .sized .most);
-          heads = omega (arith, h .sized .of-map);
-          used-most = h .counted .used-most;
-          pool-most = h .sized .pool-most;
-          sorted = entries-sorted t h;
-          old-low = low-near t h s l v;
-          old-high = high-near t h s l v;
-          new-low = Box.low-near b (f .in-domain) (sizeOf t);
-          new-high = Box.high-near b (f .in-domain) (sizeOf t);
-          stands = h .every s l v;
-          cells = refl;
-          few = f .few;
-          room = f .room;
-        };
+        small = omega (arith, l, h .sized .most);
+        heads = omega (arith, h .sized .of-map);
+        used-most = h .counted .used-most;
+        pool-most = h .sized .pool-most;
+        sorted = entries-sorted t h;
+        old-low = low-near t h s l v;
+        old-high = high-near t h s l v;
+        new-low = Box.low-near b (f .in-domain) (sizeOf t);
+        new-high = Box.high-near b (f .in-domain) (sizeOf t);
+        stands = h .every s l v;
+        cells = refl;
+        few = f .few;
+        room = f .room;
       }
 
-  pub placed-is :
-      (qs : List (List Float)) (m : List ℕ) (pool : List (List ℕ))
-      → qs ≡ set (t .reals) s (cornersOf b)
-      → m ≡ relistedMap s (oldSpan (t .reals) (t .map) s) (newSpan (t .map) b) (t .map) (t .pool)
-      → pool ≡ relistedPool s (oldSpan (t .reals) (t .map) s) (newSpan (t .map) b) (t .map) (t .pool)
-      → tables (t .nums) qs m pool ≡ placed t s b
-  unfolding placed recorded moved
-  placed-is qs m pool e1 e2 e3 = rw (e1, e2, e3) (go (cellsStay (sizeOf t) (aabbOn t s) b))
-    where
-      go : (c : Bool) → tables (t .nums) (set (t .reals) s (cornersOf b)) (pick c (t .map) (shiftedMap s (oldSpan (t .reals) (t .map) s) (newSpan (t .map) b) (t .map) (t .pool))) (pick c (t .pool) (shiftedPool s (oldSpan (t .reals) (t .map) s) (newSpan (t .map) b) (t .map) (t .pool))) ≡ pick c (recorded t s b) (moved t s b)
-      go true = refl
-      go false = refl
+  module _ (p q : Span) (ep : p ≡ oldSpan (t .reals) (t .map) s) (eq : q ≡ newSpan (t .map) b) where
+    pub place-asks : (s < length (t .reals)) × Shifting (t .map) (t .pool) s p q
+    place-asks = (rw (f .object .held .sized .of-reals) (f .object .inside), rw (ep, eq) shifting)
+
+    pub placed-is :
+        (qs : List (List Float)) (m : List ℕ) (pool : List (List ℕ))
+        → qs ≡ set (t .reals) s (cornersOf b)
+        → m ≡ relistedMap s p q (t .map) (t .pool)
+        → pool ≡ relistedPool s p q (t .map) (t .pool)
+        → tables (t .nums) qs m pool ≡ placed t s b
+    unfolding placed recorded moved
+    placed-is qs m pool e1 e2 e3 = rw (e1, e2, e3, ep, eq) (go (cellsStay (sizeOf t) (aabbOn t s) b))
+      where
+        go : (c : Bool) → tables (t .nums) (set (t .reals) s (cornersOf b)) (pick c (t .map) (shiftedMap s (oldSpan (t .reals) (t .map) s) (newSpan (t .map) b) (t .map) (t .pool))) (pick c (t .pool) (shiftedPool s (oldSpan (t .reals) (t .map) s) (newSpan (t .map) b) (t .map) (t .pool))) ≡ pick c (recorded t s b) (moved t s b)
+        go true = refl
+        go false = refl

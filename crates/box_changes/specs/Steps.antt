@@ -12,7 +12,7 @@ use Rattle.geometry.specs.declared.Aabb.{Aabb}
 use Rattle.geometry.specs.Domain.{aabbInDomain}
 use Rattle.cells.specs.Numbers.{Near}
 use Rattle.cells.specs.Range.{cellsIn}
-use Rattle.cells.specs.Size.{SizeInDomain}
+use Rattle.slots.specs.declared.Handle.{Handle}
 use Rattle.slots.specs.Slot.{live, phaseAt}
 use Rattle.storage.specs.Keyed.{Sorted, written}
 use Rattle.storage.specs.Entries.{rowKey}
@@ -21,7 +21,8 @@ use Rattle.box_tables.specs.Tables.{Tables, sizeOf, usedOf, slotsOf, counting, 
 use Rattle.box_tables.specs.Holds.{Holds}
 use Rattle.box_tables.specs.declared.Span.{Span}
 use Rattle.box_tables.specs.Way.{spanOf}
-use Rattle.box_changes.specs.SetAabb.{d-stay}
+use Rattle.box_changes.specs.declared.placing.Change.{Change}
+use Rattle.box_changes.specs.SetAabb.{d-stay, setAabbAnswer}
 
 -- slot s has an object, in tables that hold a grid
 pub record Object (t : Tables) (s : ℕ) : Type 0 where
@@ -85,9 +86,7 @@ oldSpan reals map s = spanOf (getD map 0 0) (aabbAt reals s)
 abbrev pub newSpan : List ℕ → Aabb → Span
 newSpan map b = spanOf (getD map 0 0) b
 
-pub record Placing (reals : List (List Float)) (map : List ℕ) (pool : List (List ℕ)) (s : ℕ) (b : Aabb) : Type 0 where
-  pub inside : s < length reals
-  pub size : SizeInDomain (getD map 0 0)
-  pub old : T (aabbInDomain (aabbAt reals s))
-  pub new : T (aabbInDomain b)
-  pub shifting : Shifting map pool s (oldSpan reals map s) (newSpan map b)
+-- what the tests give: the answer, and where it is 0 both ranges
+pub record Judged (t : Tables) (h : Handle) (b : Aabb) (c : Change) : Type 0 where
+  pub answers : c .answer ≡ setAabbAnswer t h b
+  pub spans : c .answer ≡ 0 → (c .old ≡ oldSpan (t .reals) (t .map) (h .slot)) × (c .new ≡ newSpan (t .map) b)

@@ -1,46 +1,72 @@
 // `set_aabb`: if both corner cells stay, only the record changes; otherwise the box leaves its old lists and enters its new ones.
 ghost use mathlib.Core.Path.{_≡_};
-ghost use lib.ListN.{set};
+ghost use Prim.Native.Nat.{_<_};
+ghost use lib.ListN.{length, set};
 ghost use Rattle.basics.specs.Lent.{was, is};
 ghost use Rattle.box_tables.specs.Lent.{after, before};
 ghost use Rattle.box_tables.specs.Outcome.{outcome};
 ghost use Rattle.box_tables.specs.Tables.{cornersOf};
-ghost use Rattle.box_changes.specs.SetAabb.{setAabbAnswer, setAabbOf};
-ghost use Rattle.box_changes.specs.Steps.{stayIn, shiftedMap, shiftedPool, relistedMap, relistedPool, oldSpan, newSpan, Shifting, Placing};
+ghost use Rattle.box_changes.specs.SetAabb.{setAabbOf};
+ghost use Rattle.box_changes.specs.Steps.{stayIn, shiftedMap, shiftedPool, relistedMap, relistedPool, Shifting, Judged};
 use box_tables::Span;
 use geometry::Aabb;
 use slots::Handle;
 
-// The answer: the first refusal that applies, or 0. The box's old entries make room for its new ones.
-fn answer(
+// The answer, and where it is 0 the old and the new range of cells.
+struct Change {
+    answer: u32,
+    old: Span,
+    new: Span,
+}
+
+// A refusal: no ranges.
+fn refusal(answer: u32) -> Change
+    ensures { λ r. ⌜ r .answer ≡ answer ⌝ }
+{
+    let none = box_inserts::no_cells();
+    Change {
+        answer,
+        old: none,
+        new: none,
+    }
+}
+
+// The first refusal that applies, or 0 and both ranges. The box's old entries make room for its new ones.
+fn judge(
     nums: &[[u32; 4]],
     reals: &[[f32; 4]],
     map: &[u64],
     pool: &[[u64; 2]],
     h: Handle,
     b: Aabb,
-) -> u32
-    ensures { λ r. ⌜ r ≡ setAabbAnswer (before nums reals map pool) h b ⌝ }
+) -> Change
+    ensures { λ r. ⌜ Judged (before nums reals map pool) h b r ⌝ }
 {
     if !box_tables::check(nums, reals, map, pool) {
-        return 3;
+        return refusal(3);
     }
     if !geometry::aabb_in_domain(b) {
-        return 6;
+        return refusal(6);
     }
     if !slots::is_good(nums, h) {
-        return 5;
+        return refusal(5);
     }
-    let n = box_tables::covers(map[0], b);
+    let new = box_tables::span_of(map[0], b);
+    let n = new.cells;
     if n > 4096 {
-        return 7;
+        return refusal(7);
     }
-    let old = box_tables::load_box(reals, basics::wide(h.slot));
-    let o = box_tables::covers(map[0], old);
+    let there = box_tables::load_box(reals, basics::wide(h.slot));
+    let old = box_tables::span_of(map[0], there);
+    let o = old.cells;
     if map[1] + n > basics::word_of(pool.len()) + o {
-        return 8;
+        return refusal(8);
     }
-    0
+    Change {
+        answer: 0,
+        old,
+        new,
+    }
 }
 
 // Whether both corner cells stay.
@@ -81,16 +107,21 @@ fn relist(map: &mut [u64], pool: &mut [[u64; 2]], s: usize, p: Span, q: Span)
     shift(map, pool, s, p, q);
 }
 
-// Box b takes the place of the box of slot s.
-fn place(reals: &mut [[f32; 4]], map: &mut [u64], pool: &mut [[u64; 2]], s: usize, b: Aabb)
-    requires { ⌜ Placing (now reals) (now map) (now pool) s b ⌝ }
+// Box b takes the place of the box of slot s, which goes from the cells of p to those of q.
+fn place(
+    reals: &mut [[f32; 4]],
+    map: &mut [u64],
+    pool: &mut [[u64; 2]],
+    s: usize,
+    b: Aabb,
+    p: Span,
+    q: Span,
+)
+    requires { ⌜ (s < length (now reals)) × Shifting (now map) (now pool) s p q ⌝ }
     ensures reals { λ _. ⌜ is reals ≡ set (was reals) s (cornersOf b) ⌝ }
-    ensures map { λ _. ⌜ is map ≡ relistedMap s (oldSpan (was reals) (was map) s) (newSpan (was map) b) (was map) (was pool) ⌝ }
-    ensures pool { λ _. ⌜ is pool ≡ relistedPool s (oldSpan (was reals) (was map) s) (newSpan (was map) b) (was map) (was pool) ⌝ }
+    ensures map { λ _. ⌜ is map ≡ relistedMap s p q (was map) (was pool) ⌝ }
+    ensures pool { λ _. ⌜ is pool ≡ relistedPool s p q (was map) (was pool) ⌝ }
 {
-    let old = box_tables::load_box(reals, s);
-    let p = box_tables::span_of(map[0], old);
-    let q = box_tables::span_of(map[0], b);
     box_inserts::store_box(reals, s, b);
     relist(map, pool, s, p, q);
 }
@@ -105,10 +136,13 @@ pub fn set_aabb(
 ) -> u32
     ensures { λ r. ⌜ outcome r (after nums reals map pool) ≡ setAabbOf (before nums reals map pool) h b ⌝ }
 {
-    let a = answer(nums, reals, map, pool, h, b);
+    let c = judge(nums, reals, map, pool, h, b);
+    let a = c.answer;
     if a != 0 {
         return a;
     }
-    place(reals, map, pool, basics::wide(h.slot), b);
+    let p = c.old;
+    let q = c.new;
+    place(reals, map, pool, basics::wide(h.slot), b, p, q);
     0
 }

@@ -33,16 +33,21 @@ struct Choice {
     span: Span,
 }
 
+// What stands for the range of cells in a refusal.
+pub fn no_cells() -> Span {
+    let none = Cell { x: 0, y: 0 };
+    Span {
+        low: none,
+        high: none,
+        cells: 0,
+    }
+}
+
 // A refusal: neither slot nor cells.
 fn refusal(answer: u32) -> Choice
     ensures { λ r. ⌜ r .answer ≡ answer ⌝ }
 {
-    let none = Cell { x: 0, y: 0 };
-    let span = Span {
-        low: none,
-        high: none,
-        cells: 0,
-    };
+    let span = no_cells();
     Choice {
         answer,
         slot: 0,

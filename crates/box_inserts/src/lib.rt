@@ -4,4 +4,5 @@ mod inserting;
 
 pub use building::new;
 pub use inserting::insert;
+pub use inserting::no_cells;
 pub use inserting::store_box;
