@@ -1,6 +1,9 @@
 -- An item taken out of every list that has it. Assumes nothing.
-use Prim.Native.Nat.{ℕ}
+use Prim.Native.Nat.{ℕ, _<_, _≤_}
+use mathlib.Core.Path.{_≡_}
+use mathlib.Core.Bool.{false}
 use mathlib.Core.List.{List, [], _∷_, map}
+use lib.ListN.{getD}
 use Rattle.storage.specs.Keyed.{filter, onList, takeOut}
 use Rattle.storage.specs.Entries.{rowKey, isItem}
 
@@ -15,3 +18,7 @@ keysWith item rows = map rowKey (filter (isItem item) rows)
 
 abbrev pub taken : ℕ → List (List ℕ) → List (List ℕ)
 taken item rows = takenFrom (keysWith item rows) item rows
+
+-- no row from a place up to another has it
+abbrev pub Without : ℕ → List (List ℕ) → ℕ → ℕ → Type 0
+Without item pool from to = (m : ℕ) → from ≤ m → m < to → isItem item (getD pool m []) ≡ false
