@@ -10,3 +10,4 @@ pub mod ScanLaws
 pub mod CornerLaws
 pub mod CaseLaws
 pub mod PlacesLaws
+pub mod BegunLaws

@@ -2,4 +2,5 @@
 pub mod Queries
 pub mod Places
 pub mod Fill
+pub mod Begun
 pub mod Cases

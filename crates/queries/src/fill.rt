@@ -9,7 +9,9 @@ ghost use Rattle.storage.specs.Keyed.{written};
 ghost use Rattle.queries.specs.Queries.{findings};
 ghost use Rattle.queries.specs.Places.{placesOf};
 ghost use Rattle.queries.specs.Fill.{findingOf, handleOf, placeOf, handleAt, placeAt, filled, Stocked, Findable};
+ghost use Rattle.queries.specs.Begun.{Begun};
 use crate::Finding;
+use crate::Part;
 use crate::Test;
 use crate::gather::gather;
 use cells::Cell;
@@ -68,7 +70,74 @@ fn put_findings(
     }
 }
 
-// Collects the places in one pass, and writes the findings unless an output is too short: nothing is written before that is known.
+// Writes the findings of the first r places found, unless an output is too short: nothing is written before that is known.
+fn report(
+    nums: &[[u32; 4]],
+    pool: &[[u64; 2]],
+    spots: &[[f32; 2]],
+    found: &[u32],
+    r: usize,
+    handles: &mut [[u32; 2]],
+    places: &mut [[f32; 2]],
+) -> Count
+    requires { ⌜ (r ≤ length (now found)) × (r ≤ 4096) × (length (now nums) ≤ 4096) × ((k : ℕ) → k < r → Findable (now nums) (now pool) (now spots) (getD (now found) k 0)) ⌝ }
+    ensures { λ c. ⌜ findings c (is handles) (is places) ≡ filled (was nums) (was pool) (was spots) (take r (was found)) (was handles) (was places) ⌝ }
+{
+    let number = r as u32;
+    if handles.len() < r {
+        return Count {
+            answer: 9,
+            count: number,
+        };
+    }
+    if places.len() < r {
+        return Count {
+            answer: 9,
+            count: number,
+        };
+    }
+    put_findings(nums, pool, spots, found, r, handles, places);
+    Count {
+        answer: 0,
+        count: number,
+    }
+}
+
+fn copy(few: &[u32], n: usize, all: &mut [u32])
+    requires { ⌜ (n ≤ length (now few)) × (n ≤ length (now all)) × (length (now all) ≤ 4096) ⌝ }
+    ensures { λ _. ⌜ (is all ≡ written (take n (was few)) (was all)) × (length (is all) ≡ length (was all)) ⌝ }
+{
+    let mut k = 0;
+    while k < n {
+        all[k] = few[k];
+        k += 1;
+    }
+}
+
+// More places than `few` has room for: the collecting goes on in an array that holds them all.
+fn fill_many(
+    nums: &[[u32; 4]],
+    pool: &[[u64; 2]],
+    spots: &[[f32; 2]],
+    used: usize,
+    a: Cell,
+    b: Cell,
+    test: Test,
+    few: &[u32],
+    part: Part,
+    handles: &mut [[u32; 2]],
+    places: &mut [[f32; 2]],
+) -> Count
+    requires { ⌜ Stocked (now pool) (now spots) used × Near a × Near b × (length (now nums) ≤ 4096) × ((j : ℕ) → j < used → Findable (now nums) (now pool) (now spots) j) × (part .place ≤ used) × Begun a b test (now pool) (now spots) (part .number) (part .place) (now few) ⌝ }
+    ensures { λ r. ⌜ findings r (is handles) (is places) ≡ filled (was nums) (was pool) (was spots) (placesOf a b test (was pool) (was spots) used) (was handles) (was places) ⌝ }
+{
+    let mut all: [u32; 4096] = [0; 4096];
+    copy(few, part.number, &mut all);
+    let whole = gather(pool, spots, used, a, b, test, part, &mut all);
+    report(nums, pool, spots, &all, whole.number, handles, places)
+}
+
+// Collects the places in one pass, in a small array as long as they fit, and writes the findings.
 pub fn fill(
     nums: &[[u32; 4]],
     pool: &[[u64; 2]],
@@ -83,24 +152,26 @@ pub fn fill(
     requires { ⌜ Stocked (now pool) (now spots) used × Near a × Near b × (length (now nums) ≤ 4096) × ((j : ℕ) → j < used → Findable (now nums) (now pool) (now spots) j) ⌝ }
     ensures { λ r. ⌜ findings r (is handles) (is places) ≡ filled (was nums) (was pool) (was spots) (placesOf a b test (was pool) (was spots) used) (was handles) (was places) ⌝ }
 {
-    let mut found: [u32; 4096] = [0; 4096];
-    let r = gather(pool, spots, used, a, b, test, &mut found);
-    let number = r as u32;
-    if handles.len() < r {
-        return Count {
-            answer: 9,
-            count: number,
-        };
+    let mut few: [u32; 256] = [0; 256];
+    let start = Part {
+        number: 0,
+        place: 0,
+    };
+    let part = gather(pool, spots, used, a, b, test, start, &mut few);
+    if part.place == used {
+        return report(nums, pool, spots, &few, part.number, handles, places);
     }
-    if places.len() < r {
-        return Count {
-            answer: 9,
-            count: number,
-        };
-    }
-    put_findings(nums, pool, spots, &found, r, handles, places);
-    Count {
-        answer: 0,
-        count: number,
-    }
+    fill_many(
+        nums,
+        pool,
+        spots,
+        used,
+        a,
+        b,
+        test,
+        &few,
+        part,
+        handles,
+        places,
+    )
 }

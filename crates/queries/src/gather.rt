@@ -1,14 +1,16 @@
 // Collecting the places of the entries that a search is for.
 ghost use mathlib.Core.Path.{_≡_};
 ghost use mathlib.Core.List.{_++_};
-ghost use Prim.Native.Nat.{_+_, _-_, _≤_};
+ghost use Prim.Native.Nat.{_+_, _-_, _≤_, min};
 ghost use lib.ListN.{length, take};
 ghost use Rattle.basics.specs.Lent.{was, is};
 ghost use Rattle.cells.specs.Numbers.{Near};
 ghost use Rattle.storage.specs.Keyed.{written};
 ghost use Rattle.queries.specs.Queries as Queries;
-ghost use Rattle.queries.specs.Places.{placesIn, spotPasses, placesOf};
+ghost use Rattle.queries.specs.Places.{placesIn, spotPasses};
 ghost use Rattle.queries.specs.Fill.{Stocked};
+ghost use Rattle.queries.specs.Begun.{Gathered, Begun};
+use crate::Part;
 use crate::Test;
 use cells::Cell;
 use geometry::Position;
@@ -32,7 +34,7 @@ fn gather_run(
     n: usize,
     places: &mut [u32],
 ) -> usize
-    requires { ⌜ (n ≤ from) × (from ≤ to) × (to ≤ length (now spots)) × (to ≤ 4096) × (to ≤ length (now places)) ⌝ }
+    requires { ⌜ (from ≤ to) × (to ≤ length (now spots)) × (to ≤ 4096) × (n + (to - from) ≤ length (now places)) × (length (now places) ≤ 4096) ⌝ }
     ensures { λ r. ⌜ (r ≡ n + length (placesIn (spotPasses test (was spots)) from (to - from))) × (is places ≡ written (take n (was places) ++ placesIn (spotPasses test (was spots)) from (to - from)) (was places)) ⌝ }
 {
     let mut k = n;
@@ -48,7 +50,48 @@ fn gather_run(
     k
 }
 
-// One pass over the range: the places of the entries that pass, ascending. Returns how many there are.
+fn lesser(a: usize, b: usize) -> usize
+    ensures { λ r. ⌜ r ≡ min a b ⌝ }
+{
+    if a < b {
+        return a;
+    }
+    b
+}
+
+// The same as far as `places` has room: no more entries are tested at once than it could hold. Ends early only where it is full.
+fn gather_part(
+    spots: &[[f32; 2]],
+    from: usize,
+    to: usize,
+    test: Test,
+    n: usize,
+    places: &mut [u32],
+) -> Part
+    requires { ⌜ (from ≤ to) × (to ≤ length (now spots)) × (to ≤ 4096) × (n ≤ length (now places)) × (length (now places) ≤ 4096) ⌝ }
+    ensures { λ r. ⌜ Gathered (spotPasses test (was spots)) from to n (was places) (r .number) (r .place) (is places) ⌝ }
+{
+    let mut k = n;
+    let mut j = from;
+    while j < to {
+        let room = places.len() - k;
+        if room == 0 {
+            return Part {
+                number: k,
+                place: j,
+            };
+        }
+        let end = lesser(to, j + room);
+        k = gather_run(spots, j, end, test, k, places);
+        j = end;
+    }
+    Part {
+        number: k,
+        place: j,
+    }
+}
+
+// One pass over the range, from where `start` ended: the places of the entries that pass, ascending, until all are met or `places` is full.
 pub fn gather(
     pool: &[[u64; 2]],
     spots: &[[f32; 2]],
@@ -56,19 +99,30 @@ pub fn gather(
     a: Cell,
     b: Cell,
     test: Test,
+    start: Part,
     places: &mut [u32],
-) -> usize
-    requires { ⌜ Stocked (now pool) (now spots) used × Near a × Near b × (used ≤ length (now places)) ⌝ }
-    ensures { λ r. ⌜ (r ≡ length (placesOf a b test (was pool) (was spots) used)) × (is places ≡ written (placesOf a b test (was pool) (was spots) used) (was places)) ⌝ }
+) -> Part
+    requires { ⌜ Stocked (now pool) (now spots) used × Near a × Near b × (start .place ≤ used) × Begun a b test (now pool) (now spots) (start .number) (start .place) (now places) × (length (now places) ≤ 4096) ⌝ }
+    ensures { λ r. ⌜ Begun a b test (was pool) (was spots) (r .number) (r .place) (is places) × (r .place ≤ used) × (used ≤ length (was places) → r .place ≡ used) ⌝ }
 {
     let low = cells::key_of(a);
     let high = cells::key_of(b);
-    let mut n = 0;
-    let mut i = 0;
+    let mut n = start.number;
+    let mut i = start.place;
     while i < used {
+        if places.len() == n {
+            return Part {
+                number: n,
+                place: i,
+            };
+        }
         let run = storage::next_run(pool, used, i, low, high);
-        n = gather_run(spots, run.from, run.to, test, n, places);
-        i = run.to;
+        let part = gather_part(spots, run.from, run.to, test, n, places);
+        n = part.number;
+        i = part.place;
     }
-    n
+    Part {
+        number: n,
+        place: i,
+    }
 }

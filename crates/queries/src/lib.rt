@@ -33,6 +33,12 @@ pub struct Finding {
     pub position: Position,
 }
 
+// How many places a walk has collected, and the place up to which.
+pub struct Part {
+    pub number: usize,
+    pub place: usize,
+}
+
 // What the three queries are: the range from the cell of `ll` to that of `ur`, and a test. `ok` says whether the numbers that were given are in the domain.
 fn search(
     nums: &[[u32; 4]],

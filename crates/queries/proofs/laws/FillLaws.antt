@@ -6,14 +6,13 @@ use mathlib.Core.List.{List, map, map-map}
 use native.Mathlib.Omega.{arith}
 use lib.Dec.{leb}
 use lib.Ieee.{Float}
-use lib.ListN.{length, getD, take, drop, length-map, length-append, List·getD-append}
+use lib.ListN.{length, getD, take, drop, length-map, List·getD-append}
 use borrow.Author.Tests.{leb-true, leb-false, le-leb, lt-leb}
 use Rattle.geometry.specs.declared.Position.{Position}
 use Rattle.cells.specs.declared.Cell.{Cell}
 use Rattle.cells.specs.CellRule.{cellAt, Reached}
 use Rattle.cells.specs.Range.{cellsIn}
 use Rattle.storage.specs.Keyed.{All, written}
-use Rattle.storage.proofs.laws.KeepsLaws.{written-take}
 use Rattle.storage.specs.FilterLaws.{by-test, all-map, all-at}
 use Rattle.point_tables.specs.Tables.{Tables, sizeOf, usedOf}
 use Rattle.point_tables.specs.Holds.{Holds}
@@ -62,12 +61,6 @@ places-used a b test pool spots used =
 
 -- an array fs whose first n places are js
 module _ (js o fs : List ℕ) (n : ℕ) (en : n ≡ length js) (ef : fs ≡ written js o) where
-  pub array-room : n ≤ length fs
-  array-room = omega (arith, en, ap length ef ∙ length-append js (drop (length js) o))
-
-  pub array-first : take n fs ≡ js
-  array-first = ap (take n) ef ∙ written-take js o n en
-
   pub array-each : (P : ℕ → Type 0) → All P js → (k : ℕ) → k < n → P (getD fs k 0)
   array-each P f k l =
       let m : k < length js = omega arith in

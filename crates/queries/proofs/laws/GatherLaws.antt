@@ -55,8 +55,8 @@ module _ (test : ℕ → Bool) (from n : ℕ) (o : List ℕ) (size : n ≤ lengt
     pub up-passed : test j ≡ false → upTo test from n o (j + 1) ≡ upTo test from n o j
     up-passed e = ap (λ (m : ℕ). take n o ++ placesIn test from m) next ∙ ap (λ (l : List ℕ). take n o ++ l) (place-passed test from (j - from) (ap test back ∙ e))
 
-    pub up-room : n ≤ from → j < length o → length (upTo test from n o j) < length o
-    up-room b r = omega (arith, up-length j, places-length test from (j - from))
+    pub up-room : n + (j - from) < length o → length (upTo test from n o j) < length o
+    up-room r = omega (arith, up-length j, places-length test from (j - from))
 
-    pub up-written : n ≤ from → j < length o → test j ≡ true → set (written (upTo test from n o j) o) (length (upTo test from n o j)) j ≡ written (upTo test from n o (j + 1)) o
-    up-written b r e = written-next 0 (upTo test from n o j) o j (up-room b r) ∙ ap (λ (l : List ℕ). written l o) (sym (up-taken e))
+    pub up-written : n + (j - from) < length o → test j ≡ true → set (written (upTo test from n o j) o) (length (upTo test from n o j)) j ≡ written (upTo test from n o (j + 1)) o
+    up-written r e = written-next 0 (upTo test from n o j) o j (up-room r) ∙ ap (λ (l : List ℕ). written l o) (sym (up-taken e))

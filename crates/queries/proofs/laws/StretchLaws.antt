@@ -1,19 +1,15 @@
--- Collecting stretch after stretch: what a stretch of the range adds to the places, and what is written then. Assumes nothing.
+-- What a stretch of the range adds to the places. Assumes nothing.
 use Prim.Native.Nat.{ℕ, _+_, _-_, _<_, _≤_}
 use mathlib.Core.Path.{_≡_, sym, ap, ap₂, _∙_}
 use mathlib.Core.Bool.{Bool, true, false, _&&_}
 use mathlib.Core.List.{List, _++_, append-nil}
-use mathlib.Core.Logic.{⊎-elim}
 use native.Mathlib.Omega.{arith}
 use lib.Ieee.{Float}
-use lib.ListN.{length, take, drop, length-append}
-use lib.Seq.{take-append-seam, drop-append-add, drop-drop}
-use Rattle.basics.specs.Says.{d-lt}
+use lib.ListN.{length}
 use Rattle.cells.specs.declared.Cell.{Cell}
 use Rattle.cells.specs.Numbers.{Near, near-fits}
 use Rattle.cells.specs.Key.{keyOf, columnOf, lineOf}
 use Rattle.storage.specs.declared.Run.{Run}
-use Rattle.storage.specs.Keyed.{written}
 use Rattle.storage.specs.Packed.{first}
 use Rattle.storage.specs.Window.{inWindow}
 use Rattle.storage.specs.WindowLaws.{windowOf}
@@ -22,22 +18,6 @@ use Rattle.storage.proofs.laws.RunStepLaws.{key-windows}
 use Rattle.queries.specs.declared.Test.{Test}
 use Rattle.queries.specs.Places.{placesIn, wantedAt, spotPasses, placesOf}
 use Rattle.queries.proofs.laws.PlacesLaws.{places-append, places-none, places-same, places-length}
-
--- written again, behind what was written before
-written-again : {A : Type 0} (p l o : List A) → written (take (length p) (written p o) ++ l) (written p o) ≡ written (p ++ l) o
-written-again p l o =
-    ap (λ q. written (q ++ l) (written p o)) (take-append-seam p (drop (length p) o))
-    ∙ ap (λ n. (p ++ l) ++ drop n (written p o)) (length-append p l)
-    ∙ ap (λ q. (p ++ l) ++ q) (drop-append-add p (drop (length p) o) (length l) ∙ drop-drop (length l) (length p) o)
-    ∙ ap (λ n. (p ++ l) ++ drop n o) (sym (length-append p l))
-
--- a stretch l behind the places js
-pub stretch-written : (js l more ps o last : List ℕ) (n r : ℕ) → n ≡ length js → ps ≡ written js o → more ≡ js ++ l
-    → r ≡ n + length l → last ≡ written (take n ps ++ l) ps → (r ≡ length more) × (last ≡ written more o)
-stretch-written js l more ps o last n r en ep em er el = (
-  er ∙ ap (λ (k : ℕ). k + length l) en ∙ sym (length-append js l) ∙ ap length (sym em),
-  el ∙ (λ z. written (take (en z) (ep z) ++ l) (ep z)) ∙ written-again js l o ∙ ap (λ (k : List ℕ). written k o) (sym em),
-)
 
 module _ (a b : Cell) (test : Test) (pool : List (List ℕ)) (spots : List (List Float)) where
   abbrev W : ℕ → Bool

@@ -53,7 +53,7 @@ room c =
     let l = c .before .before .before .before in
     let s = l .before .before in
     let a = s .args in
-    omega (arith, up-room (test-of s) (a .from) (a .n) (a .places .now) (size s) (l .loop .j) (l .loop .inv .0) (s .pre .0) (omega (arith, s .pre)))
+    omega (arith, up-room (test-of s) (a .from) (a .n) (a .places .now) (size s) (l .loop .j) (l .loop .inv .0) (omega (arith, s .pre)))
 
 mul-places : tie.Need-mul-places Inv-loop μ-loop
 mul-places c =
@@ -80,14 +80,14 @@ loop-again c =
     let t = test-of s in
     let o = a .places .now in
     let j = l .loop .j in
-    let r : j < length o = omega (arith, s .pre) in
+    let r : a .n + (j - a .from) < length o = omega (arith, s .pre) in
     ⊎-elim
     (λ w.
     let e = sym (tested (c .before)) ∙ w .0 .taken in (
       omega arith,
       omega arith,
       w .2 ∙ ap (λ n. n + 1) (l .loop .inv .2) ∙ up-count t (a .from) (a .n) o (size s) j (l .loop .inv .0) e,
-      w .1 ∙ (λ z. set (l .loop .inv .3 z) (l .loop .inv .2 z) j) ∙ up-written t (a .from) (a .n) o (size s) j (l .loop .inv .0) (s .pre .0) r e,
+      w .1 ∙ (λ z. set (l .loop .inv .3 z) (l .loop .inv .2 z) j) ∙ up-written t (a .from) (a .n) o (size s) j (l .loop .inv .0) r e,
     ))
     (λ w.
     let e = up-passed t (a .from) (a .n) o (size s) j (l .loop .inv .0) (sym (tested (c .before)) ∙ w .0 .left) in
