@@ -11,3 +11,4 @@ pub mod CornerLaws
 pub mod CaseLaws
 pub mod PlacesLaws
 pub mod BegunLaws
+pub mod RowLaws

@@ -1,19 +1,21 @@
 // Writing what a search found into the outputs.
 ghost use mathlib.Core.Path.{_≡_};
-ghost use mathlib.Core.List.{map};
-ghost use Prim.Native.Nat.{ℕ, _≤_, _<_};
+ghost use mathlib.Core.List.{_++_, map};
+ghost use Prim.Native.Nat.{ℕ, _+_, _-_, _≤_, _<_};
 ghost use lib.ListN.{length, getD, set, take};
 ghost use Rattle.basics.specs.Lent.{was, is};
 ghost use Rattle.cells.specs.Numbers.{Near};
 ghost use Rattle.storage.specs.Keyed.{written};
 ghost use Rattle.queries.specs.Queries.{findings};
-ghost use Rattle.queries.specs.Places.{placesOf};
+ghost use Rattle.queries.specs.Places.{placesIn, spotPasses, placesOf};
 ghost use Rattle.queries.specs.Fill.{findingOf, handleOf, placeOf, handleAt, placeAt, filled, Stocked, Findable};
 ghost use Rattle.queries.specs.Begun.{Begun};
 use crate::Finding;
 use crate::Part;
 use crate::Test;
 use crate::gather::gather;
+use crate::gather::lesser;
+use crate::gather::passes;
 use cells::Cell;
 use objects::Entry;
 use replies::Count;
@@ -103,6 +105,7 @@ fn report(
     }
 }
 
+// The first n places of the small array go to the large one, so that none is looked for twice.
 fn copy(few: &[u32], n: usize, all: &mut [u32])
     requires { ⌜ (n ≤ length (now few)) × (n ≤ length (now all)) × (length (now all) ≤ 4096) ⌝ }
     ensures { λ _. ⌜ (is all ≡ written (take n (was few)) (was all)) × (length (is all) ≡ length (was all)) ⌝ }
@@ -137,8 +140,8 @@ fn fill_many(
     report(nums, pool, spots, &all, whole.number, handles, places)
 }
 
-// Collects the places in one pass, in a small array as long as they fit, and writes the findings.
-pub fn fill(
+// An output has not room for all entries in use: the places are collected in one pass, in a small array as long as they fit, before any is written.
+fn fill_few(
     nums: &[[u32; 4]],
     pool: &[[u64; 2]],
     spots: &[[f32; 2]],
@@ -174,4 +177,96 @@ pub fn fill(
         handles,
         places,
     )
+}
+
+// Writes what is reported of the entries of a stretch whose positions pass, from place n of the outputs on. Returns the place behind them.
+fn put_run(
+    nums: &[[u32; 4]],
+    pool: &[[u64; 2]],
+    spots: &[[f32; 2]],
+    from: usize,
+    to: usize,
+    test: Test,
+    n: usize,
+    handles: &mut [[u32; 2]],
+    places: &mut [[f32; 2]],
+) -> usize
+    requires { ⌜ (n ≤ from) × (from ≤ to) × (to ≤ 4096) × (to ≤ length (now handles)) × (to ≤ length (now places)) × (length (now nums) ≤ 4096) × ((j : ℕ) → j < to → Findable (now nums) (now pool) (now spots) j) ⌝ }
+    ensures { λ r. ⌜ (r ≡ n + length (placesIn (spotPasses test (was spots)) from (to - from))) × (is handles ≡ written (take n (was handles) ++ map (handleAt (was nums) (was pool) (was spots)) (placesIn (spotPasses test (was spots)) from (to - from))) (was handles)) × (is places ≡ written (take n (was places) ++ map (placeAt (was nums) (was pool) (was spots)) (placesIn (spotPasses test (was spots)) from (to - from))) (was places)) ⌝ }
+{
+    let mut k = n;
+    let mut j = from;
+    while j < to {
+        let e = objects::entry_at(pool, spots, j);
+        let p = e.position;
+        if passes(test, p) {
+            let f = finding_of(nums, e);
+            put_finding(handles, places, k, f);
+            k += 1;
+        }
+        j += 1;
+    }
+    k
+}
+
+// The same of the whole range, from place 0 on.
+fn put_range(
+    nums: &[[u32; 4]],
+    pool: &[[u64; 2]],
+    spots: &[[f32; 2]],
+    used: usize,
+    a: Cell,
+    b: Cell,
+    test: Test,
+    handles: &mut [[u32; 2]],
+    places: &mut [[f32; 2]],
+) -> usize
+    requires { ⌜ Stocked (now pool) (now spots) used × Near a × Near b × (length (now nums) ≤ 4096) × ((j : ℕ) → j < used → Findable (now nums) (now pool) (now spots) j) × (used ≤ length (now handles)) × (used ≤ length (now places)) ⌝ }
+    ensures { λ r. ⌜ (r ≡ length (placesOf a b test (was pool) (was spots) used)) × (is handles ≡ written (map (handleAt (was nums) (was pool) (was spots)) (placesOf a b test (was pool) (was spots) used)) (was handles)) × (is places ≡ written (map (placeAt (was nums) (was pool) (was spots)) (placesOf a b test (was pool) (was spots) used)) (was places)) ⌝ }
+{
+    let low = cells::key_of(a);
+    let high = cells::key_of(b);
+    let mut n = 0;
+    let mut i = 0;
+    while i < used {
+        let run = storage::next_run(pool, used, i, low, high);
+        n = put_run(
+            nums,
+            pool,
+            spots,
+            run.from,
+            run.to,
+            test,
+            n,
+            handles,
+            places,
+        );
+        i = run.to;
+    }
+    n
+}
+
+// What a search writes and returns. Outputs with room for all entries in use are never too short: what is found is written as it is met.
+pub fn fill(
+    nums: &[[u32; 4]],
+    pool: &[[u64; 2]],
+    spots: &[[f32; 2]],
+    used: usize,
+    a: Cell,
+    b: Cell,
+    test: Test,
+    handles: &mut [[u32; 2]],
+    places: &mut [[f32; 2]],
+) -> Count
+    requires { ⌜ Stocked (now pool) (now spots) used × Near a × Near b × (length (now nums) ≤ 4096) × ((j : ℕ) → j < used → Findable (now nums) (now pool) (now spots) j) ⌝ }
+    ensures { λ r. ⌜ findings r (is handles) (is places) ≡ filled (was nums) (was pool) (was spots) (placesOf a b test (was pool) (was spots) used) (was handles) (was places) ⌝ }
+{
+    if lesser(handles.len(), places.len()) < used {
+        return fill_few(nums, pool, spots, used, a, b, test, handles, places);
+    }
+    let r = put_range(nums, pool, spots, used, a, b, test, handles, places);
+    Count {
+        answer: 0,
+        count: r as u32,
+    }
 }

@@ -15,7 +15,7 @@ use crate::Test;
 use cells::Cell;
 use geometry::Position;
 
-fn passes(test: Test, p: Position) -> bool
+pub fn passes(test: Test, p: Position) -> bool
     ensures { λ r. ⌜ r ≡ Queries.passes test p ⌝ }
 {
     match test {
@@ -50,7 +50,7 @@ fn gather_run(
     k
 }
 
-fn lesser(a: usize, b: usize) -> usize
+pub fn lesser(a: usize, b: usize) -> usize
     ensures { λ r. ⌜ r ≡ min a b ⌝ }
 {
     if a < b {

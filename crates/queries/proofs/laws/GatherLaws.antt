@@ -1,5 +1,5 @@
 -- Collecting places, one after the other and stretch after stretch. Assumes nothing.
-use Prim.Native.Nat.{ℕ, suc, _+_, _-_, _<_, _≤_}
+use Prim.Native.Nat.{ℕ, _+_, _-_, _<_, _≤_}
 use mathlib.Core.Path.{_≡_, sym, ap, _∙_}
 use mathlib.Core.Bool.{Bool, true, false}
 use mathlib.Core.List.{List, [], _∷_, _++_, append-nil, append-assoc}
@@ -10,7 +10,7 @@ use Rattle.storage.specs.Keyed.{written}
 use Rattle.storage.proofs.laws.WrittenLaws.{written-next}
 use Rattle.storage.proofs.laws.PlaceLaws.{written-same}
 use Rattle.queries.specs.Places.{placesIn}
-use Rattle.queries.proofs.laws.PlacesLaws.{places-length, place-taken, place-passed}
+use Rattle.queries.proofs.laws.PlacesLaws.{places-length, passed-more, passed-same}
 
 -- the first n of o, and behind them the places of a stretch up to j that pass
 abbrev pub upTo : (ℕ → Bool) → ℕ → ℕ → List ℕ → ℕ → List ℕ
@@ -35,25 +35,16 @@ module _ (test : ℕ → Bool) (from n : ℕ) (o : List ℕ) (size : n ≤ lengt
       ∙ written-same o n size
 
   module _ (j : ℕ) (after : from ≤ j) where
-    back : from + (j - from) ≡ j
-    back = omega arith
-
-    next : j + 1 - from ≡ suc (j - from)
-    next = omega arith
-
     -- a place that passes
     pub up-taken : test j ≡ true → upTo test from n o (j + 1) ≡ upTo test from n o j ++ (j ∷ [])
-    up-taken e =
-        ap (λ (m : ℕ). take n o ++ placesIn test from m) next
-        ∙ ap (λ (l : List ℕ). take n o ++ l) (place-taken test from (j - from) (ap test back ∙ e) ∙ ap (λ (m : ℕ). placesIn test from (j - from) ++ (m ∷ [])) back)
-        ∙ sym (append-assoc (take n o) (placesIn test from (j - from)) (j ∷ []))
+    up-taken e = ap (λ (l : List ℕ). take n o ++ l) (passed-more test from j after e) ∙ sym (append-assoc (take n o) (placesIn test from (j - from)) (j ∷ []))
 
     pub up-count : test j ≡ true → length (upTo test from n o j) + 1 ≡ length (upTo test from n o (j + 1))
     up-count e = sym (ap length (up-taken e) ∙ length-append (upTo test from n o j) (j ∷ []))
 
     -- a place that does not
     pub up-passed : test j ≡ false → upTo test from n o (j + 1) ≡ upTo test from n o j
-    up-passed e = ap (λ (m : ℕ). take n o ++ placesIn test from m) next ∙ ap (λ (l : List ℕ). take n o ++ l) (place-passed test from (j - from) (ap test back ∙ e))
+    up-passed e = ap (λ (l : List ℕ). take n o ++ l) (passed-same test from j after e)
 
     pub up-room : n + (j - from) < length o → length (upTo test from n o j) < length o
     up-room r = omega (arith, up-length j, places-length test from (j - from))

@@ -1,5 +1,5 @@
 -- Places that pass a test: stretch by stretch, how many, which; and the entries at them are a filter of all. Assumes nothing.
-use Prim.Native.Nat.{ℕ, zero, suc, _+_, _<_, _≤_}
+use Prim.Native.Nat.{ℕ, zero, suc, _+_, _-_, _<_, _≤_}
 use mathlib.Core.Path.{_≡_, refl, sym, ap, ap₂, _∙_}
 use mathlib.Core.Bool.{Bool, true, false}
 use mathlib.Core.List.{List, [], _∷_, _++_, append-nil, append-assoc, map, map-append}
@@ -67,6 +67,25 @@ module _ (test : ℕ → Bool) (from : ℕ) where
   pub place-passed : (n : ℕ) → test (from + n) ≡ false → placesIn test from (suc n) ≡ placesIn test from n
   unfolding placesIn
   place-passed n e = rw e (append-nil (placesIn test from n))
+
+-- those of the stretch up to j
+module _ (test : ℕ → Bool) (from : ℕ) where
+  abbrev pub passed : ℕ → List ℕ
+  passed j = placesIn test from (j - from)
+
+  module _ (j : ℕ) (after : from ≤ j) where
+    back : from + (j - from) ≡ j
+    back = omega arith
+
+    next : j + 1 - from ≡ suc (j - from)
+    next = omega arith
+
+    pub passed-more : test j ≡ true → passed (j + 1) ≡ passed j ++ (j ∷ [])
+    passed-more e =
+        ap (placesIn test from) next ∙ place-taken test from (j - from) (ap test back ∙ e) ∙ ap (λ (m : ℕ). placesIn test from (j - from) ++ (m ∷ [])) back
+
+    pub passed-same : test j ≡ false → passed (j + 1) ≡ passed j
+    passed-same e = ap (placesIn test from) next ∙ place-passed test from (j - from) (ap test back ∙ e)
 
 from-zero : (test : ℕ → Bool) (n : ℕ) → placesIn test 0 (suc n) ≡ placesIn test 0 n ++ one (test n) n
 unfolding placesIn

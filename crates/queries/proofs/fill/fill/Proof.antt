@@ -1,70 +1,55 @@
 -- `queries::fill::fill` meets its contract. Assumes nothing.
-use Prim.Native.Nat.{ℕ}
-use mathlib.Core.Path.{ap, _∙_}
+use Prim.Native.Nat.{ℕ, _≤_}
+use mathlib.Core.Path.{_∙_}
 use mathlib.Core.List.{List}
 use native.Mathlib.Omega.{arith}
+use lib.ListN.{length}
 use borrow.Author.Needs.{needs}
+use Rattle.queries.specs.Queries.{findings}
 use Rattle.queries.specs.Places.{placesOf}
-use Rattle.queries.specs.Fill.{filled, Findable}
-use Rattle.queries.specs.Begun.{Begun}
-use Rattle.queries.proofs.laws.BegunLaws.{begun-none, begun-few, begun-room, begun-each}
+use Rattle.queries.proofs.laws.StretchLaws.{places-most}
+use Rattle.queries.proofs.laws.FillLaws.{filled-0}
 use Rattle.queries.proofs.fill.fill.Statement.{statement}
 use Rattle.queries.proofs.fill.fill.Tie as tie
+use Rattle.replies.specs.Replies.{count}
 
-gather-requires : tie.Need-gather-requires
-gather-requires c κs =
-    let s = c .before in
-    let a = s .args in
-    (s .pre .0, s .pre .1, s .pre .2, search needs, begun-none (a .a) (a .b) (a .test) (a .pool .now) (a .spots .now) _, search needs)
-
--- what was gathered
-module _ (g : tie.After-gather) where
+-- what was met, where the outputs have room for all entries in use
+module _ (p : tie.After-put-range) where
   abbrev start : tie.Start
-  start = g .before .before
+  start = p .before .before .before .before .before
 
-  abbrev last : List ℕ
-  last = g .gather .last .1 .1 .1 .1 .1 .1 .1 .0
+  abbrev js : List ℕ
+  js = let a = start .args in placesOf (a .a) (a .b) (a .test) (a .pool .now) (a .spots .now) (a .used)
 
-  begun : let a = start .args in Begun (a .a) (a .b) (a .test) (a .pool .now) (a .spots .now) (g .gather .result .number) (g .gather .result .place) last
-  begun = g .gather .ensures .0
+  few : length js ≤ start .args .used
+  few = let a = start .args in places-most (a .a) (a .b) (a .test) (a .pool .now) (a .spots .now) (a .used)
 
-report-requires : tie.Need-report-requires
-report-requires c κs =
-    let g = c .before .before .before .before .before .before in
-    let s = start g in
-    let a = s .args in
-    let r = g .gather .result in
-    let few = begun-few (a .a) (a .b) (a .test) (a .pool .now) (a .spots .now) (r .number) (r .place) (last g) (begun g) in (
-      begun-room (a .a) (a .b) (a .test) (a .pool .now) (a .spots .now) (r .number) (r .place) (last g) (begun g),
-      omega (arith, few, g .gather .ensures .1, s .pre .0 .most),
-      s .pre .3,
-      begun-each (a .a) (a .b) (a .test) (a .pool .now) (a .spots .now) (r .number) (r .place) (last g) (begun g)
-          (Findable (a .nums .now) (a .pool .now) (a .spots .now)) (λ j l. s .pre .4 j (omega (arith, l, g .gather .ensures .1))),
-    )
-
-returns : tie.Need-returns
-returns c =
+cast-count : tie.Need-cast-t23
+cast-count c =
     let p = c .before .before in
-    let t = p .before .before .before .before in
-    let g = t .before .before .before in
-    let a = start g .args in
-    p .report .ensures
-    ∙ ap (λ (js : List ℕ). filled (a .nums .now) (a .pool .now) (a .spots .now) js (a .handles .now) (a .places .now))
-    (begun g .collected ∙ ap (placesOf (a .a) (a .b) (a .test) (a .pool .now) (a .spots .now)) (t .if1 .taken))
+    let most : p .put-range .result ≤ 4096 = omega (arith, p .put-range .ensures .0, few p, start p .pre .0 .most) in
+    search needs
+
+returns-2 : tie.Need-returns-2
+returns-2 c =
+    let p = c .before .before in
+    let e = p .before .before .before in
+    let a = start p .args in
+    let g = p .put-range .ensures in
+    (λ z. findings (count 0 (g .0 z)) (g .1 z) (g .2 z))
+    ∙ filled-0 (a .nums .now) (a .pool .now) (a .spots .now) (js p) (a .handles .now) (a .places .now) (omega (arith, few p, e .before .lesser .ensures, e .if1 .left))
 
 pub fill-spec : {M : Type 1} → statement M
 fill-spec =
     tie.close
     (tie.spec
-    (λ c. search needs)
-    gather-requires
-    (λ c. search needs)
-    report-requires
-    (λ c. search needs)
-    (λ c. search needs)
-    returns
-    (λ c. search needs)
+    (λ c κs. search needs)
     (λ c κs. search needs)
     (λ c. search needs)
     (λ c. search needs)
-    (λ c. search needs))
+    (λ c. search needs)
+    (λ c κs. search needs)
+    cast-count
+    (λ c. search needs)
+    (λ c. search needs)
+    returns-2)
