@@ -5,7 +5,7 @@ use mathlib.Core.List.{List, [], _∷_}
 use lib.Dec.{eqb, leb}
 use lib.Ieee.{Float, nan}
 use lib.ListN.{length, getD}
-use Rattle.basics.specs.Refusals.{unless, firstOf, pick}
+use Rattle.basics.specs.Refusals.{Refusal, unless, firstOf, pick, byTests}
 use Rattle.geometry.specs.declared.Position.{Position}
 use Rattle.slots.specs.declared.Handle.{Handle}
 use Rattle.storage.specs.Keyed.{written}
@@ -55,9 +55,12 @@ replyRows (r ∷ rs) = (r .answer ∷ r .obj ∷ []) ∷ replyRows rs
 abbrev pub even : List ℕ → List (List ℕ) → List (List Float) → Bool
 even kinds handles positions = eqb (length handles) (length kinds) && eqb (length positions) (length kinds)
 
+abbrev pub batchTests : Tables → List ℕ → List (List ℕ) → List (List Float) → List (List ℕ) → List Refusal
+batchTests t kinds handles positions out =
+    unless (even kinds handles positions && holds t) 3 ∷ unless (leb (length kinds) (length out)) 9 ∷ []
+
 unfoldable pub batchAnswer : Tables → List ℕ → List (List ℕ) → List (List Float) → List (List ℕ) → ℕ
-batchAnswer t kinds handles positions out =
-    firstOf (unless (even kinds handles positions && holds t) 3 ∷ unless (leb (length kinds) (length out)) 9 ∷ [])
+batchAnswer t kinds handles positions out = firstOf (batchTests t kinds handles positions out)
 
 -- what a batch returns: its answer, and the number of its calls with 0 and with 9; and the output after it
 pub record Batched : Type 0 where
@@ -71,8 +74,7 @@ batched a n o = record { answer = a; count = n; out = o }
 unfoldable pub batchOf : Tables → List ℕ → List (List ℕ) → List (List Float) → List (List ℕ) → Outcome Batched
 unfolding batchAnswer replies tablesAfter
 batchOf t kinds handles positions out =
-    let a = batchAnswer t kinds handles positions out in
     let calls = callsOf kinds handles positions in
-    pick (eqb a 0)
+    byTests (batchTests t kinds handles positions out)
     (outcome (batched 0 (length kinds) (written (replyRows (replies t calls)) out)) (tablesAfter t calls))
-    (outcome (batched a (pick (eqb a 9) (length kinds) 0) out) t)
+    (λ a. outcome (batched a (pick (eqb a 9) (length kinds) 0) out) t)

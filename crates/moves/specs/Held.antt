@@ -2,7 +2,6 @@
 -- its positions are neither read nor written, so that the tables may be without them. Assumes nothing.
 use Prim.Native.Nat.{ℕ}
 use mathlib.Core.Path.{_≡_}
-use mathlib.Core.Bool.{not}
 use mathlib.Core.List.{List, [], _∷_}
 use lib.Dec.{eqb}
 use denote.Ref.{RefT, now}
@@ -10,22 +9,20 @@ use lib.IntN.{ℤ}
 use lib.Ieee.{Float}
 use lib.ListN.{set}
 use Rattle.basics.specs.Says.{said}
-use Rattle.basics.specs.Refusals.{unless, firstOf, pick}
-use Rattle.geometry.specs.Domain.{positionInDomain}
+use Rattle.basics.specs.Refusals.{firstOf, pick}
 use Rattle.geometry.specs.declared.Position.{Position}
 use Rattle.cells.specs.declared.Cell.{Cell}
 use Rattle.slots.specs.declared.Handle.{Handle}
-use Rattle.slots.specs.Slot.{good}
 use Rattle.objects.specs.declared.State.{State}
 use Rattle.objects.specs.declared.State.the-variants.{Removed}
 use Rattle.objects.specs.declared.Record.{Record}
 use Rattle.objects.specs.Columns.{recordAt, numsOf, realsOf, intsOf}
-use Rattle.objects.specs.States.{isRemoved, aimed, withState}
+use Rattle.objects.specs.States.{aimed, withState}
 use Rattle.objects.specs.Decide.{d-cell}
 use Rattle.point_tables.specs.Tables.{Tables, tables, sizeOf, recordOn}
 use Rattle.point_tables.specs.Outcome.{Outcome, outcome, stored}
 use Rattle.replies.specs.declared.Reply.{Reply}
-use Rattle.moves.specs.Moves.{pended}
+use Rattle.moves.specs.Moves.{pended, setHeldTests, removeHeldTests}
 use Rattle.moves.specs.Batch.{Call}
 use Rattle.replies.specs.Replies.{reply}
 
@@ -44,16 +41,10 @@ call k h p = record { kind = k; handle = h; at = p }
 
 -- ---- the refusals past the check, for an object of that state
 unfoldable pub setRefusal : List (List ℕ) → State → Handle → Position → ℕ
-setRefusal nums state h at =
-    firstOf (
-    unless (positionInDomain at) 6
-    ∷ unless (good nums (h .slot) (h .version)) 5
-    ∷ unless (not (isRemoved state)) 1
-    ∷ []
-    )
+setRefusal nums state h at = firstOf (setHeldTests nums state h at)
 
 unfoldable pub removeRefusal : List (List ℕ) → Handle → ℕ
-removeRefusal nums h = firstOf (unless (good nums (h .slot) (h .version)) 5 ∷ [])
+removeRefusal nums h = firstOf (removeHeldTests nums h)
 
 abbrev pub refusalOf : List (List ℕ) → State → Call → ℕ
 refusalOf nums state c = pick (eqb (c .kind) 0) (setRefusal nums state (c .handle) (c .at)) (removeRefusal nums (c .handle))

@@ -1,9 +1,8 @@
 -- `set_position` and the deferred `remove`: their answers, and the tables after them. Assumes nothing.
 use Prim.Native.Nat.{ℕ}
 use mathlib.Core.Bool.{not}
-use mathlib.Core.List.{[], _∷_}
-use lib.Dec.{eqb}
-use Rattle.basics.specs.Refusals.{unless, firstOf, pick}
+use mathlib.Core.List.{List, [], _∷_}
+use Rattle.basics.specs.Refusals.{Refusal, unless, firstOf, byTests}
 use Rattle.geometry.specs.Domain.{positionInDomain}
 use Rattle.geometry.specs.declared.Position.{Position}
 use Rattle.cells.specs.Key.{keyOf}
@@ -24,31 +23,40 @@ use Rattle.replies.specs.Replies.{reply}
 unfoldable pub pended : Tables → ℕ → State → Tables
 pended t s state = stored t s (withState (recordOn t s) state) (written (marked (keyOf (recordOn t s .cell)) (cellRows t)) (t .cells))
 
--- ---- set_position
-unfoldable pub setPositionAnswer : Tables → Handle → Position → ℕ
-setPositionAnswer t h at =
-    firstOf (
-    unless (holds t) 3
-    ∷ unless (positionInDomain at) 6
-    ∷ unless (good (t .nums) (h .slot) (h .version)) 5
-    ∷ unless (not (isRemoved (recordOn t (h .slot) .state))) 1
+-- ---- set_position: its tests past the check, for an object of that state, and all of them
+abbrev pub setHeldTests : List (List ℕ) → State → Handle → Position → List Refusal
+setHeldTests nums state h at =
+    unless (positionInDomain at) 6
+    ∷ unless (good nums (h .slot) (h .version)) 5
+    ∷ unless (not (isRemoved state)) 1
     ∷ []
-    )
+
+abbrev pub setPositionTests : Tables → Handle → Position → List Refusal
+setPositionTests t h at = unless (holds t) 3 ∷ setHeldTests (t .nums) (recordOn t (h .slot) .state) h at
+
+unfoldable pub setPositionAnswer : Tables → Handle → Position → ℕ
+setPositionAnswer t h at = firstOf (setPositionTests t h at)
 
 unfoldable pub setPositionOf : Tables → Handle → Position → Outcome Reply
 unfolding setPositionAnswer pended
 setPositionOf t h at =
-    pick (eqb (setPositionAnswer t h at) 0)
+    byTests (setPositionTests t h at)
     (outcome (reply 0 0) (pended t (h .slot) (aimed (sizeOf t) (recordOn t (h .slot) .cell) at)))
-    (outcome (reply (setPositionAnswer t h at) 0) t)
+    (λ a. outcome (reply a 0) t)
 
 -- ---- remove: marks and returns the data; a second one before maintain returns it again
+abbrev pub removeHeldTests : List (List ℕ) → Handle → List Refusal
+removeHeldTests nums h = unless (good nums (h .slot) (h .version)) 5 ∷ []
+
+abbrev pub removeTests : Tables → Handle → List Refusal
+removeTests t h = unless (holds t) 3 ∷ removeHeldTests (t .nums) h
+
 unfoldable pub removeAnswer : Tables → Handle → ℕ
-removeAnswer t h = firstOf (unless (holds t) 3 ∷ unless (good (t .nums) (h .slot) (h .version)) 5 ∷ [])
+removeAnswer t h = firstOf (removeTests t h)
 
 unfoldable pub removeOf : Tables → Handle → Outcome Reply
 unfolding removeAnswer pended
 removeOf t h =
-    pick (eqb (removeAnswer t h) 0)
+    byTests (removeTests t h)
     (outcome (reply 0 (recordOn t (h .slot) .obj)) (pended t (h .slot) Removed))
-    (outcome (reply (removeAnswer t h) 0) t)
+    (λ a. outcome (reply a 0) t)
