@@ -1,18 +1,15 @@
 -- What the work of an insert needs, and its parts in the words of the code. Assumes nothing.
 use Prim.Native.Nat.{ℕ, _<_}
 use mathlib.Core.Path.{_≡_}
-use mathlib.Core.Bool.{Bool}
-use Rattle.basics.specs.Refusals.{orElse}
 use Rattle.geometry.specs.declared.Position.{Position}
 use Rattle.cells.specs.declared.Cell.{Cell}
-use Rattle.slots.specs.declared.Usable.{Usable}
-use Rattle.slots.specs.Map.{isSome}
 use Rattle.slots.specs.Slot.{free, live, phaseAt}
 use Rattle.objects.specs.declared.State.the-variants.{Unchanged}
 use Rattle.objects.specs.declared.Record.{Record}
 use Rattle.objects.specs.Occupied.{InDomain}
 use Rattle.point_tables.specs.Tables.{Tables, slotsOf}
 use Rattle.point_tables.specs.Holds.{Holds}
+pub use Rattle.inserts.specs.Insert.{answerBy}
 
 -- tables that hold a grid, a position of the domain, and a slot that is free
 pub record Fresh (t : Tables) (s : ℕ) (p : Position) : Type 0 where
@@ -20,10 +17,6 @@ pub record Fresh (t : Tables) (s : ℕ) (p : Position) : Type 0 where
   pub in-domain : InDomain p
   pub inside : s < slotsOf t
   pub is-free : phaseAt (t .nums) s ≡ free
-
--- the answer by the three tests
-abbrev pub answerBy : Bool → Bool → Usable → ℕ
-answerBy held inside u = orElse held 3 (orElse inside 6 (orElse (isSome u) 4 0))
 
 -- an object at p, in its cell, with nothing pending
 abbrev pub freshRecord : ℕ → Position → Cell → ℕ → Record

@@ -1,9 +1,9 @@
 -- `insert`: the lowest usable slot takes the object, and (handle, position) goes to the end of its cell's list. Assumes nothing.
 use Prim.Native.Nat.{ℕ}
+use mathlib.Core.Bool.{Bool}
 use mathlib.Core.List.{List, [], _∷_, map}
-use lib.Dec.{eqb}
 use lib.ListN.{length, set}
-use Rattle.basics.specs.Refusals.{unless, firstOf, pick}
+use Rattle.basics.specs.Refusals.{Refusal, unless, firstOf, byTests}
 use Rattle.geometry.specs.Domain.{positionInDomain}
 use Rattle.geometry.specs.declared.Position.{Position}
 use Rattle.cells.specs.CellRule.{cellAt}
@@ -49,13 +49,21 @@ put t s p d =
     (written (map spotOf (entriesWith t s p)) (t .spots))
     (written (rowsWith t p) (t .cells))
 
+-- its tests, by the verdict of the check, whether the position is in the domain, and the slot
+abbrev pub insertTestsBy : Bool → Bool → Usable → List Refusal
+insertTestsBy held inside u = unless held 3 ∷ unless inside 6 ∷ unless (isSome u) 4 ∷ []
+
+abbrev pub answerBy : Bool → Bool → Usable → ℕ
+answerBy held inside u = firstOf (insertTestsBy held inside u)
+
+abbrev pub insertTests : Tables → Position → List Refusal
+insertTests t p = insertTestsBy (holds t) (positionInDomain p) (usableSlot t)
+
 unfoldable pub insertAnswer : Tables → Position → ℕ
-insertAnswer t p = firstOf (unless (holds t) 3 ∷ unless (positionInDomain p) 6 ∷ unless (isSome (usableSlot t)) 4 ∷ [])
+insertAnswer t p = firstOf (insertTests t p)
 
 unfoldable pub insertOf : Tables → Position → ℕ → Outcome Inserted
 unfolding insertAnswer put
 insertOf t p d =
     let s = slotIn (usableSlot t) in
-    pick (eqb (insertAnswer t p) 0)
-    (outcome (inserted 0 s (versionAt (t .nums) s)) (put t s p d))
-    (outcome (inserted (insertAnswer t p) 0 0) t)
+    byTests (insertTests t p) (outcome (inserted 0 s (versionAt (t .nums) s)) (put t s p d)) (λ a. outcome (inserted a 0 0) t)
