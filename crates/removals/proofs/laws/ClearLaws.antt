@@ -16,7 +16,7 @@ use Rattle.point_tables.specs.Tables.{Tables, usedOf}
 use Rattle.point_tables.specs.Holds.{Holds}
 use Rattle.point_tables.specs.Decide.{holds, holds-says}
 use Rattle.point_tables.specs.Outcome.{Outcome, outcome}
-use Rattle.removals.specs.Meaning.Clear.{liveSlots, cleared, placeOn, objOn, Written, wrote, clearAnswer, clearOf}
+use Rattle.removals.specs.Meaning.Clear.{liveSlots, cleared, placeOn, objOn, Written, wrote, clearOf}
 use Rattle.removals.proofs.laws.LiveLaws.{live-used}
 use Rattle.removals.proofs.laws.ClearKeeps.{cleared-keeps, cleared-used}
 use Rattle.replies.specs.Replies.{count}
@@ -40,7 +40,7 @@ module _ (t : Tables) (places : List (List Float)) (objs : List ℕ) where
       (outcome (wrote (count (answerBy a b) (pick (eqb (answerBy a b) 9) found 0)) places objs) t)
 
   by-tests : clearOf t places objs ≡ clearBy (holds t) (leb found room)
-  unfolding clearOf clearAnswer
+  unfolding clearOf
   by-tests = refl
 
   -- ---- exactly when each answer is given

@@ -13,7 +13,7 @@ use Rattle.point_tables.specs.Holds.{Holds}
 use Rattle.point_tables.specs.Decide.{holds, holds-says}
 use Rattle.point_tables.specs.Outcome.{Outcome, outcome}
 use Rattle.replies.specs.declared.Reply.{Reply}
-use Rattle.removals.specs.Meaning.RemoveMaintain.{takenOut, removeMaintainAnswer, removeMaintainOf}
+use Rattle.removals.specs.Meaning.RemoveMaintain.{takenOut, removeMaintainOf}
 use Rattle.removals.proofs.laws.RemoveKeeps.{taken-keeps, taken-count}
 use Rattle.replies.specs.Replies.{reply}
 
@@ -30,7 +30,7 @@ module _ (t : Tables) (h : Handle) where
       (outcome (reply (orElse a 3 (orElse b 5 0)) 0) t)
 
   by-tests : removeMaintainOf t h ≡ removeBy (holds t) (isGood t h)
-  unfolding removeMaintainOf removeMaintainAnswer
+  unfolding removeMaintainOf
   by-tests = refl
 
   -- ---- exactly when each answer is given

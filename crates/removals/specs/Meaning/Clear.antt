@@ -4,7 +4,7 @@ use mathlib.Core.List.{List, [], _∷_, map}
 use lib.Dec.{eqb, leb}
 use lib.Ieee.{Float}
 use lib.ListN.{length}
-use Rattle.basics.specs.Refusals.{Refusal, unless, firstOf, pick}
+use Rattle.basics.specs.Refusals.{Refusal, unless, pick, byTests}
 use Rattle.storage.specs.Keyed.{written}
 use Rattle.slot_walks.specs.Live.{liveFrom}
 use Rattle.slot_walks.specs.Cleared.{clearedRows, clearedMap}
@@ -38,18 +38,14 @@ pub record Written : Type 0 where
 abbrev pub wrote : Count → List (List Float) → List ℕ → Written
 wrote c p o = record { returned = c; places = p; objs = o }
 
-abbrev pub clearTests : Tables → ℕ → List Refusal
-clearTests t room = unless (holds t) 3 ∷ unless (leb (length (liveSlots t)) room) 9 ∷ []
+abbrev pub clearTests : Tables → List (List Float) → List ℕ → List Refusal
+clearTests t places objs = unless (holds t) 3 ∷ unless (leb (length (liveSlots t)) (min (length places) (length objs))) 9 ∷ []
 
-unfoldable pub clearAnswer : Tables → ℕ → ℕ
-unfolding liveSlots
-clearAnswer t room = firstOf (clearTests t room)
-
+-- 9 returns the number of objects
 unfoldable pub clearOf : Tables → List (List Float) → List ℕ → Outcome Written
-unfolding liveSlots clearAnswer cleared
+unfolding liveSlots cleared
 clearOf t places objs =
-    let a = clearAnswer t (min (length places) (length objs)) in
     let n = length (liveSlots t) in
-    pick (eqb a 0)
+    byTests (clearTests t places objs)
     (outcome (wrote (count 0 n) (written (map (placeOn t) (liveSlots t)) places) (written (map (objOn t) (liveSlots t)) objs)) (cleared t))
-    (outcome (wrote (count a (pick (eqb a 9) n 0)) places objs) t)
+    (λ a. outcome (wrote (count a (pick (eqb a 9) n 0)) places objs) t)

@@ -2,9 +2,8 @@
 use Prim.Native.Nat.{ℕ}
 use mathlib.Core.Bool.{Bool, true, false}
 use mathlib.Core.List.{List, [], _∷_, map}
-use lib.Dec.{eqb}
 use lib.ListN.{length}
-use Rattle.basics.specs.Refusals.{Refusal, unless, firstOf, pick}
+use Rattle.basics.specs.Refusals.{Refusal, unless, pick, byTests}
 use Rattle.cells.specs.Key.{keyOf}
 use Rattle.slots.specs.declared.Handle.{Handle}
 use Rattle.slots.specs.Slot.{good, emptiedNums, emptiedMap}
@@ -41,12 +40,7 @@ takenOut t s =
 abbrev pub removeMaintainTests : Tables → Handle → List Refusal
 removeMaintainTests t h = unless (holds t) 3 ∷ unless (good (t .nums) (h .slot) (h .version)) 5 ∷ []
 
-unfoldable pub removeMaintainAnswer : Tables → Handle → ℕ
-removeMaintainAnswer t h = firstOf (removeMaintainTests t h)
-
 unfoldable pub removeMaintainOf : Tables → Handle → Outcome Reply
-unfolding removeMaintainAnswer takenOut
+unfolding takenOut
 removeMaintainOf t h =
-    pick (eqb (removeMaintainAnswer t h) 0)
-    (outcome (reply 0 (recordOn t (h .slot) .obj)) (takenOut t (h .slot)))
-    (outcome (reply (removeMaintainAnswer t h) 0) t)
+    byTests (removeMaintainTests t h) (outcome (reply 0 (recordOn t (h .slot) .obj)) (takenOut t (h .slot))) (λ a. outcome (reply a 0) t)
