@@ -14,8 +14,8 @@ use Rattle.box_tables.specs.Holds.{Holds}
 use Rattle.box_tables.specs.Decide.{holds, holds-says}
 use Rattle.box_tables.specs.Outcome.{outcome}
 use Rattle.replies.specs.declared.Count.{Count}
-use Rattle.box_reads.specs.Live.{liveSlots, countBy, listAnswer, listCount}
-use Rattle.box_reads.proofs.laws.LiveLaws.{list-passed, listed, listed-0, listed-no}
+use Rattle.box_reads.specs.Live.{liveSlots, countBy}
+use Rattle.box_reads.proofs.laws.LiveLaws.{listAnswer, listCount, list-passed, listed, listed-0, listed-no}
 use Rattle.box_reads.specs.Clear.{boxAt, cleared, wrote, clearOf}
 use Rattle.box_reads.proofs.laws.ClearLaws.{clear-0, clear-no}
 

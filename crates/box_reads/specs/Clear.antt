@@ -4,13 +4,14 @@ use mathlib.Core.List.{List, [], _∷_, map}
 use lib.Dec.{eqb}
 use lib.Ieee.{Float}
 use lib.ListN.{length, getD}
-use Rattle.basics.specs.Refusals.{pick}
+use Rattle.basics.specs.Refusals.{Refusal, pick, byTests}
 use Rattle.storage.specs.Keyed.{written}
 use Rattle.slot_walks.specs.Cleared.{clearedRows, clearedMap}
 use Rattle.box_tables.specs.Tables.{Tables, tables, counting, aabbAt, cornersOf}
 use Rattle.box_tables.specs.Outcome.{Outcome, outcome}
 use Rattle.replies.specs.declared.Count.{Count}
-use Rattle.box_reads.specs.Live.{liveSlots, listAnswer, listCount}
+use Rattle.replies.specs.Replies.{count}
+use Rattle.box_reads.specs.Live.{liveSlots, listTests}
 use Rattle.slot_walks.specs.Live.{objAt}
 
 -- every live slot is emptied, and no entry is in use
@@ -29,9 +30,13 @@ pub record Written : Type 0 where
 abbrev pub wrote : Count → List (List Float) → List ℕ → Written
 wrote c b o = record { returned = c; boxes = b; objs = o }
 
+abbrev pub clearTests : Tables → List (List Float) → List ℕ → List Refusal
+clearTests t boxes objs = listTests t (min (length boxes) (length objs))
+
+-- 9 returns the number of objects
 unfoldable pub clearOf : Tables → List (List Float) → List ℕ → Outcome Written
 clearOf t boxes objs =
-    let room = min (length boxes) (length objs) in
-    pick (eqb (listAnswer t room) 0)
-    (outcome (wrote (listCount t room) (written (map (boxAt (t .reals)) (liveSlots t)) boxes) (written (map (objAt (t .nums)) (liveSlots t)) objs)) (cleared t))
-    (outcome (wrote (listCount t room) boxes objs) t)
+    let n = length (liveSlots t) in
+    byTests (clearTests t boxes objs)
+    (outcome (wrote (count 0 n) (written (map (boxAt (t .reals)) (liveSlots t)) boxes) (written (map (objAt (t .nums)) (liveSlots t)) objs)) (cleared t))
+    (λ a. outcome (wrote (count a (pick (eqb a 9) n 0)) boxes objs) t)

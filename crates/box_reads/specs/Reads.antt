@@ -3,7 +3,7 @@ use Prim.Native.Nat.{ℕ}
 use mathlib.Core.List.{List, [], _∷_}
 use lib.Dec.{eqb}
 use lib.ListN.{length}
-use Rattle.basics.specs.Refusals.{unless, firstOf, pick}
+use Rattle.basics.specs.Refusals.{Refusal, unless, pick, byTests}
 use Rattle.geometry.specs.declared.Aabb.{Aabb}
 use Rattle.geometry.specs.Zero.{zero-aabb}
 use Rattle.slots.specs.declared.Handle.{Handle}
@@ -14,24 +14,27 @@ use Rattle.box_tables.specs.Tables.{Tables, aabbOn, objOn}
 use Rattle.box_tables.specs.Decide.{holds}
 use Rattle.box_reads.specs.declared.Got.{Got}
 use Rattle.replies.specs.declared.Count.{Count}
-use Rattle.box_reads.specs.Live.{liveSlots, listAnswer, listCount}
+use Rattle.box_reads.specs.Live.{liveSlots, listTests}
 use Rattle.replies.specs.Replies.{count}
 
 abbrev pub got : ℕ → Aabb → ℕ → Got
 got a b d = record { answer = a; aabb = b; obj = d }
 
 -- ---- get
-unfoldable pub getAnswer : Tables → Handle → ℕ
-getAnswer t h = firstOf (unless (holds t) 3 ∷ unless (good (t .nums) (h .slot) (h .version)) 5 ∷ [])
+abbrev pub getTests : Tables → Handle → List Refusal
+getTests t h = unless (holds t) 3 ∷ unless (good (t .nums) (h .slot) (h .version)) 5 ∷ []
 
 unfoldable pub getOf : Tables → Handle → Got
-getOf t h = pick (eqb (getAnswer t h) 0) (got 0 (aabbOn t (h .slot)) (objOn t (h .slot))) (got (getAnswer t h) zero-aabb 0)
+getOf t h = byTests (getTests t h) (got 0 (aabbOn t (h .slot)) (objOn t (h .slot))) (λ a. got a zero-aabb 0)
 
 -- ---- len: the number of objects
-unfoldable pub lenOf : Tables → Count
-lenOf t = pick (holds t) (count 0 (length (liveSlots t))) (count 3 0)
+abbrev pub lenTests : Tables → List Refusal
+lenTests t = unless (holds t) 3 ∷ []
 
--- ---- handles, as rows (slot, version): what it returns and the output after it
+unfoldable pub lenOf : Tables → Count
+lenOf t = byTests (lenTests t) (count 0 (length (liveSlots t))) (λ a. count a 0)
+
+-- ---- handles, as rows (slot, version): what it returns and the output after it; 9 returns the number found
 pub record Listing : Type 0 where
   pub returned : Count
   pub out : List (List ℕ)
@@ -39,5 +42,10 @@ pub record Listing : Type 0 where
 abbrev pub listing : Count → List (List ℕ) → Listing
 listing c o = record { returned = c; out = o }
 
+abbrev pub handlesTests : Tables → List (List ℕ) → List Refusal
+handlesTests t out = listTests t (length out)
+
 unfoldable pub handlesOf : Tables → List (List ℕ) → Listing
-handlesOf t out = listing (listCount t (length out)) (pick (eqb (listAnswer t (length out)) 0) (written (handlesIn (t .nums)) out) out)
+handlesOf t out =
+    let n = length (liveSlots t) in
+    byTests (handlesTests t out) (listing (count 0 n) (written (handlesIn (t .nums)) out)) (λ a. listing (count a (pick (eqb a 9) n 0)) out)

@@ -6,8 +6,8 @@ use borrow.Author.Needs.{needs}
 use Rattle.box_tables.specs.Tables.{Tables, tables}
 use Rattle.box_tables.specs.Decide.{holds-says}
 use Rattle.replies.specs.declared.Count.{Count}
-use Rattle.box_reads.specs.Live.{liveSlots, listAnswer, listCount}
-use Rattle.box_reads.proofs.laws.LiveLaws.{list-passed, listed, listed-0, listed-no}
+use Rattle.box_reads.specs.Live.{liveSlots}
+use Rattle.box_reads.proofs.laws.LiveLaws.{listAnswer, listCount, list-passed, listed, listed-0, listed-no}
 use Rattle.box_reads.specs.Reads.{listing}
 use Rattle.box_reads.proofs.laws.ReadsLaws.{handles-refused, handles-0}
 use Rattle.box_reads.proofs.handles.Statement.{statement}

@@ -1,13 +1,12 @@
 -- `clear`: what each answer leaves and writes, and that tables that hold a grid still do after it. Assumes nothing.
 use Prim.Native.Nat.{ℕ, min}
-use mathlib.Core.Path.{_≡_, refl, sym, ap, _∙_}
-use mathlib.Core.Bool.{Bool, true, false}
+use mathlib.Core.Path.{_≡_, sym, ap, _∙_}
 use mathlib.Core.List.{List, map}
-use lib.Dec.{eqb}
+use mathlib.Core.Logic.{⊎-elim}
 use lib.Ieee.{Float}
 use lib.ListN.{length}
 use borrow.Author.Tests.{eq-eqb, ne-eqb}
-use Rattle.basics.specs.Refusals.{pick}
+use Rattle.basics.specs.Says.{d-eq}
 use Rattle.basics.specs.Counting.{countBelow}
 use Rattle.slots.specs.Slot.{live, phaseAt}
 use Rattle.storage.specs.Keyed.{written}
@@ -15,11 +14,11 @@ use Rattle.slot_walks.specs.Live.{liveAt, objAt}
 use Rattle.box_tables.specs.Tables.{Tables, slotsOf}
 use Rattle.box_tables.specs.Holds.{Holds}
 use Rattle.box_tables.specs.Outcome.{Outcome, outcome}
-use Rattle.box_reads.specs.Live.{liveSlots, listAnswer, listCount}
-use Rattle.box_reads.proofs.laws.LiveLaws.{answer-of, live-count, list-counts}
+use Rattle.box_reads.specs.Live.{liveSlots}
+use Rattle.box_reads.proofs.laws.LiveLaws.{listAnswer, listCount, answer-of, live-count, list-counts}
 use Rattle.box_reads.specs.Clear.{cleared, boxAt, Written, wrote, clearOf}
 use Rattle.box_reads.proofs.laws.ClearKeeps.{cleared-none, cleared-keeps}
-use Rattle.replies.specs.Replies.{count}
+use Rattle.replies.specs.declared.Count.{Count}
 
 module _ (t : Tables) (boxes : List (List Float)) (objs : List ℕ) where
   -- the places that both outputs have
@@ -34,21 +33,18 @@ module _ (t : Tables) (boxes : List (List Float)) (objs : List ℕ) where
 
   -- ---- accepted: the outputs are written and the grid is empty; refused: nothing changes
   pub clear-0 : listAnswer t room ≡ 0 → clearOf t boxes objs ≡ done
-  unfolding clearOf
+  unfolding clearOf listAnswer listCount
   clear-0 e = rw (eq-eqb (listAnswer t room) 0 e)
 
   pub clear-no : (listAnswer t room ≡ 0 → ⊥) → clearOf t boxes objs ≡ refused
-  unfolding clearOf
+  unfolding clearOf listAnswer listCount
   clear-no n = rw (ne-eqb (listAnswer t room) 0 n)
 
   -- what is returned, whatever the answer
   pub clear-returned : clearOf t boxes objs .result .returned ≡ listCount t room
-  unfolding clearOf
-  clear-returned = go (eqb (listAnswer t room) 0)
-    where
-      go : (b : Bool) → pick b done refused .result .returned ≡ listCount t room
-      go true = refl
-      go false = refl
+  clear-returned =
+      let of : Outcome Written → Count = λ o. o .result .returned in
+      ⊎-elim (λ e. ap of (clear-0 e)) (λ n. ap of (clear-no n)) (d-eq (listAnswer t room) 0)
 
   -- a refusal leaves the tables and both outputs
   pub clear-refused : (clearOf t boxes objs .result .returned .answer ≡ 0 → ⊥) → clearOf t boxes objs ≡ outcome (wrote (clearOf t boxes objs .result .returned) boxes objs) t
@@ -66,12 +62,7 @@ module _ (t : Tables) (boxes : List (List Float)) (objs : List ℕ) where
   -- tables that hold a grid still do
   module _ (h : Holds t) where
     pub clear-holds : Holds (clearOf t boxes objs .after)
-    unfolding clearOf
-    clear-holds = go (eqb (listAnswer t room) 0)
-      where
-        go : (b : Bool) → Holds (pick b done refused .after)
-        go true = cleared-keeps t h
-        go false = h
+    clear-holds = ⊎-elim (λ e. rw (clear-0 e) (cleared-keeps t h)) (λ n. rw (clear-no n) h) (d-eq (listAnswer t room) 0)
 
     -- the number returned with 0 and 9 is that of the live slots
     pub clear-counts : clearOf t boxes objs .result .returned .count ≡ countBelow (liveAt (t .nums)) (slotsOf t)

@@ -2,11 +2,12 @@
 use Prim.Native.Nat.{ℕ, _<_, _≤_}
 use mathlib.Core.Path.{_≡_, refl, sym, ap, _∙_}
 use mathlib.Core.Bool.{Bool, true, false}
+use mathlib.Core.List.{[], _∷_}
 use native.Mathlib.Omega.{arith}
 use lib.Dec.{eqb, leb}
 use lib.ListN.{length}
 use borrow.Author.Tests.{leb-true, le-leb, lt-leb}
-use Rattle.basics.specs.Refusals.{pick}
+use Rattle.basics.specs.Refusals.{unless, firstOf, pick}
 use Rattle.basics.specs.Counting.{countBelow}
 use Rattle.slot_walks.specs.Live.{liveAt, liveFrom}
 use Rattle.slot_walks.proofs.laws.LiveLaws as Live
@@ -14,7 +15,7 @@ use Rattle.box_tables.specs.Tables.{Tables, slotsOf}
 use Rattle.box_tables.specs.Holds.{Holds}
 use Rattle.box_tables.specs.Decide.{holds, holds-says}
 use Rattle.replies.specs.declared.Count.{Count}
-use Rattle.box_reads.specs.Live.{liveSlots, answerBy, countBy, listAnswer, listCount}
+use Rattle.box_reads.specs.Live.{liveSlots, listTests, countBy}
 use Rattle.replies.specs.Replies.{count}
 
 -- what the length law counts
@@ -33,10 +34,29 @@ module _ (held : Bool) (n room : ℕ) where
   pub by-done : held ≡ true → n ≤ room → count 0 n ≡ countBy held n room
   by-done e l = rw (e, le-leb n room l)
 
+-- the answer and what is returned with it, by the tables
+unfoldable pub listAnswer : Tables → ℕ → ℕ
+listAnswer t room = firstOf (listTests t room)
+
+unfoldable pub listCount : Tables → ℕ → Count
+listCount t room = countBy (holds t) (length (liveSlots t)) room
+
+-- the answer by the two tests, and the count with it
+abbrev answerBy : Bool → Bool → ℕ
+answerBy held fits = firstOf (unless held 3 ∷ unless fits 9 ∷ [])
+
+abbrev countFor : ℕ → Bool → Bool → Count
+countFor n held fits = let a = answerBy held fits in pick (eqb a 0) (count 0 n) (count a (pick (eqb a 9) n 0))
+
 module _ (t : Tables) (room : ℕ) where
   pub answer-of : listCount t room .answer ≡ listAnswer t room
   unfolding listCount listAnswer
-  answer-of = refl
+  answer-of = go (holds t) (leb (length (liveSlots t)) room)
+    where
+      go : (a b : Bool) → countFor (length (liveSlots t)) a b .answer ≡ answerBy a b
+      go false b = refl
+      go true false = refl
+      go true true = refl
 
   -- ---- exactly when each answer is given
   -- 0 says that the tables hold a grid, and that there is room for every object
@@ -54,7 +74,7 @@ module _ (t : Tables) (room : ℕ) where
   unfolding listCount
   list-counts h = rw (holds-says t .no h) (go (leb (length (liveSlots t)) room))
     where
-      go : (b : Bool) → pick (eqb (answerBy true b) 3) 0 (length (liveSlots t)) ≡ length (liveSlots t)
+      go : (b : Bool) → countFor (length (liveSlots t)) true b .count ≡ length (liveSlots t)
       go true = refl
       go false = refl
 

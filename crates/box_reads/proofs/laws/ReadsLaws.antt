@@ -14,22 +14,22 @@ use Rattle.slot_walks.specs.Live.{liveAt, handlesIn}
 use Rattle.box_tables.specs.Tables.{Tables, slotsOf, aabbOn, objOn}
 use Rattle.box_tables.specs.Holds.{Holds}
 use Rattle.box_tables.specs.Decide.{holds, holds-says}
-use Rattle.box_reads.specs.Live.{liveSlots, listAnswer, listCount}
-use Rattle.box_reads.proofs.laws.LiveLaws.{live-count}
-use Rattle.box_reads.specs.Reads.{got, listing, getAnswer, getOf, lenOf, handlesOf}
+use Rattle.box_reads.specs.Live.{liveSlots}
+use Rattle.box_reads.proofs.laws.LiveLaws.{listAnswer, listCount, live-count}
+use Rattle.box_reads.specs.Reads.{got, listing, getOf, lenOf, handlesOf}
 use Rattle.replies.specs.Replies.{count}
 
 module _ (t : Tables) (h : Handle) where
   pub get-3 : holds t ≡ false → got 3 zero-aabb 0 ≡ getOf t h
-  unfolding getOf getAnswer
+  unfolding getOf
   get-3 e = simp e
 
   pub get-5 : holds t ≡ true → good (t .nums) (h .slot) (h .version) ≡ false → got 5 zero-aabb 0 ≡ getOf t h
-  unfolding getOf getAnswer
+  unfolding getOf
   get-5 e f = simp (e, f)
 
   pub get-0 : holds t ≡ true → good (t .nums) (h .slot) (h .version) ≡ true → got 0 (aabbOn t (h .slot)) (objOn t (h .slot)) ≡ getOf t h
-  unfolding getOf getAnswer
+  unfolding getOf
   get-0 e f = simp (e, f)
 
 module _ (t : Tables) where
@@ -47,9 +47,9 @@ module _ (t : Tables) where
 
 module _ (t : Tables) (out : List (List ℕ)) where
   pub handles-refused : (listAnswer t (length out) ≡ 0 → ⊥) → listing (listCount t (length out)) out ≡ handlesOf t out
-  unfolding handlesOf
+  unfolding handlesOf listAnswer listCount
   handles-refused n = rw (ne-eqb (listAnswer t (length out)) 0 n)
 
   pub handles-0 : listAnswer t (length out) ≡ 0 → listing (listCount t (length out)) (written (handlesIn (t .nums)) out) ≡ handlesOf t out
-  unfolding handlesOf
+  unfolding handlesOf listAnswer listCount
   handles-0 e = rw (eq-eqb (listAnswer t (length out)) 0 e)
