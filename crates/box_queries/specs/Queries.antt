@@ -5,7 +5,7 @@ use mathlib.Core.List.{List, [], _∷_, map}
 use lib.Dec.{eqb, leb}
 use lib.Ieee.{Float}
 use lib.ListN.{length}
-use Rattle.basics.specs.Refusals.{unless, firstOf, pick}
+use Rattle.basics.specs.Refusals.{Refusal, unless, firstOf, pick, byTests}
 use Rattle.geometry.specs.declared.Aabb.{Aabb}
 use Rattle.geometry.specs.Domain.{aabbInDomain}
 use Rattle.geometry.specs.Intersects.{intersects}
@@ -39,22 +39,19 @@ narrow t q = filter (λ s. intersects q (aabbOn t s)) (broad t q)
 abbrev pub boxRow : List (List Float) → ℕ → List Float
 boxRow reals s = cornersOf (aabbAt reals s)
 
--- ---- the answer, where `number` are found and the outputs have `room`
-unfoldable pub answerOf : Tables → Aabb → ℕ → ℕ → ℕ
-answerOf t q number room =
-    firstOf (
+-- ---- the tests, where `number` are found and the outputs have `room`
+abbrev pub lookTests : Tables → Aabb → ℕ → ℕ → List Refusal
+lookTests t q number room =
     unless (holds t) 3
     ∷ unless (aabbInDomain q) 6
     ∷ unless (leb (covers (sizeOf t) q) mostCells) 7
     ∷ unless (leb number room) 9
     ∷ []
-    )
 
--- what a call comes to: what is done at answer 0, and else a refusal, which returns no number but for 9
-abbrev pub settled : {A : Type 0} → ℕ → ℕ → A → (Count → A) → A
-settled a number done refused = pick (eqb a 0) done (refused (count a (pick (eqb a 9) number 0)))
+unfoldable pub answerOf : Tables → Aabb → ℕ → ℕ → ℕ
+answerOf t q number room = firstOf (lookTests t q number room)
 
--- ---- `query_broad`: what it returns, and its output after it
+-- ---- `query_broad`: what it returns, and its output after it; 9 returns the number found
 pub record Handles : Type 0 where
   pub returned : Count
   pub handles : List (List ℕ)
@@ -62,13 +59,16 @@ pub record Handles : Type 0 where
 abbrev pub handlesOf : Count → List (List ℕ) → Handles
 handlesOf c h = record { returned = c; handles = h }
 
+abbrev pub broadTests : Tables → Aabb → List (List ℕ) → List Refusal
+broadTests t q handles = lookTests t q (length (broad t q)) (length handles)
+
 unfoldable pub broadOf : Tables → Aabb → List (List ℕ) → Handles
 unfolding answerOf broad
 broadOf t q handles =
     let ss = broad t q in
-    settled (answerOf t q (length ss) (length handles)) (length ss)
+    byTests (broadTests t q handles)
     (handlesOf (count 0 (length ss)) (written (map (handleAt (t .nums)) ss) handles))
-    (λ c. handlesOf c handles)
+    (λ a. handlesOf (count a (pick (eqb a 9) (length ss) 0)) handles)
 
 -- ---- `query`
 pub record Findings : Type 0 where
@@ -84,10 +84,13 @@ findings c h b o = record { returned = c; handles = h; boxes = b; objs = o }
 abbrev pub roomOf : List (List ℕ) → List (List Float) → List ℕ → ℕ
 roomOf handles boxes objs = min (length handles) (min (length boxes) (length objs))
 
+abbrev pub queryTests : Tables → Aabb → List (List ℕ) → List (List Float) → List ℕ → List Refusal
+queryTests t q handles boxes objs = lookTests t q (length (narrow t q)) (roomOf handles boxes objs)
+
 unfoldable pub queryOf : Tables → Aabb → List (List ℕ) → List (List Float) → List ℕ → Findings
 unfolding answerOf narrow
 queryOf t q handles boxes objs =
     let ss = narrow t q in
-    settled (answerOf t q (length ss) (roomOf handles boxes objs)) (length ss)
+    byTests (queryTests t q handles boxes objs)
     (findings (count 0 (length ss)) (written (map (handleAt (t .nums)) ss) handles) (written (map (boxRow (t .reals)) ss) boxes) (written (map (objOn t) ss) objs))
-    (λ c. findings c handles boxes objs)
+    (λ a. findings (count a (pick (eqb a 9) (length ss) 0)) handles boxes objs)

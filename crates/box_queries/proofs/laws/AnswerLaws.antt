@@ -4,18 +4,18 @@ use mathlib.Core.Path.{_≡_, refl, sym, ap, _∙_}
 use mathlib.Core.Bool.{Bool, true, false}
 use mathlib.Core.List.{List, [], _∷_, map}
 use native.Mathlib.Omega.{arith}
-use lib.Dec.{leb}
+use lib.Dec.{eqb, leb}
 use lib.Ieee.{Float}
 use lib.ListN.{length}
 use borrow.Author.Tests.{le-leb, lt-leb}
-use Rattle.basics.specs.Refusals.{unless, firstOf}
+use Rattle.basics.specs.Refusals.{unless, firstOf, pick}
 use Rattle.geometry.specs.declared.Aabb.{Aabb}
 use Rattle.geometry.specs.Domain.{aabbInDomain}
 use Rattle.storage.specs.Keyed.{written}
 use Rattle.box_tables.specs.Tables.{Tables, sizeOf, covers, mostCells, objOn}
 use Rattle.box_tables.specs.Decide.{holds}
 use Rattle.replies.specs.declared.Count.{Count}
-use Rattle.box_queries.specs.Queries.{broad, narrow, boxRow, answerOf, settled, Handles, handlesOf, broadOf, Findings, findings, roomOf, queryOf}
+use Rattle.box_queries.specs.Queries.{broad, narrow, boxRow, answerOf, Handles, handlesOf, broadOf, Findings, findings, roomOf, queryOf}
 use Rattle.box_queries.specs.Look.{earlyOf}
 use Rattle.replies.specs.Replies.{count}
 use Rattle.slot_walks.specs.Live.{handleAt}
@@ -23,6 +23,10 @@ use Rattle.slot_walks.specs.Live.{handleAt}
 -- ---- by the four tests
 abbrev answer : Bool → Bool → Bool → Bool → ℕ
 answer a b c d = firstOf (unless a 3 ∷ unless b 6 ∷ unless c 7 ∷ unless d 9 ∷ [])
+
+-- what a call comes to: what is done at answer 0, and else a refusal, which returns no number but for 9
+abbrev settled : {A : Type 0} → ℕ → ℕ → A → (Count → A) → A
+settled a number done refused = pick (eqb a 0) done (refused (count a (pick (eqb a 9) number 0)))
 
 tests : (a b c : Bool) → answer a b c true ≡ 0 → (a ≡ true) × (b ≡ true)
 tests false b c h = absurd (omega arith)
