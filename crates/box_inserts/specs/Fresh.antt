@@ -1,23 +1,17 @@
 -- What the steps of an insert are asked for and give. Assumes nothing.
 use Prim.Native.Nat.{ℕ, _+_, _<_, _≤_}
 use mathlib.Core.Path.{_≡_}
-use mathlib.Core.Bool.{Bool}
 use mathlib.Core.List.{List}
 use lib.Dec.{T}
 use lib.ListN.{length, getD}
-use Rattle.basics.specs.Refusals.{orElse}
 use Rattle.geometry.specs.declared.Aabb.{Aabb}
 use Rattle.geometry.specs.Domain.{aabbInDomain}
 use Rattle.cells.specs.Size.{SizeInDomain}
-use Rattle.slots.specs.declared.Usable.{Usable}
-use Rattle.slots.specs.Map.{head, wordsFor, isSome, NonePast}
+use Rattle.slots.specs.Map.{head, wordsFor, NonePast}
 use Rattle.slots.specs.Slot.{free, phaseAt}
 use Rattle.box_tables.specs.Tables.{Tables, sizeOf, usedOf, slotsOf, covers, mostCells}
 use Rattle.box_tables.specs.Holds.{Holds}
-
--- the answer by the five tests
-abbrev pub answerBy : Bool → Bool → Bool → Usable → Bool → ℕ
-answerBy held inside few u room = orElse held 3 (orElse inside 6 (orElse few 7 (orElse (isSome u) 4 (orElse room 8 0))))
+pub use Rattle.box_inserts.specs.Insert.{answerBy}
 
 -- what the choice of a slot reads of tables that hold a grid
 pub record Ready (nums : List (List ℕ)) (map : List ℕ) : Type 0 where

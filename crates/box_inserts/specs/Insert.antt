@@ -2,10 +2,10 @@
 use Prim.Native.Nat.{ℕ, _+_}
 use mathlib.Core.List.{List, [], _∷_}
 use mathlib.Core.Bool.{Bool}
-use lib.Dec.{eqb, leb}
+use lib.Dec.{leb}
 use lib.Ieee.{Float}
 use lib.ListN.{length, set}
-use Rattle.basics.specs.Refusals.{unless, firstOf, pick}
+use Rattle.basics.specs.Refusals.{Refusal, unless, firstOf, byTests}
 use Rattle.geometry.specs.Domain.{aabbInDomain}
 use Rattle.geometry.specs.declared.Aabb.{Aabb}
 use Rattle.slots.specs.declared.Usable.{Usable}
@@ -43,14 +43,21 @@ fewCells size b = leb (covers size b) mostCells
 abbrev pub hasRoom : Tables → Aabb → Bool
 hasRoom t b = leb (usedOf t + covers (sizeOf t) b) (length (t .pool))
 
+-- its tests, by the verdict of the check, whether the box is in the domain and of few cells, the slot, and whether there is room
+abbrev pub insertTestsBy : Bool → Bool → Bool → Usable → Bool → List Refusal
+insertTestsBy held inside few u room = unless held 3 ∷ unless inside 6 ∷ unless few 7 ∷ unless (isSome u) 4 ∷ unless room 8 ∷ []
+
+abbrev pub answerBy : Bool → Bool → Bool → Usable → Bool → ℕ
+answerBy held inside few u room = firstOf (insertTestsBy held inside few u room)
+
+abbrev pub insertTests : Tables → Aabb → List Refusal
+insertTests t b = insertTestsBy (holds t) (aabbInDomain b) (fewCells (sizeOf t) b) (usableSlot t) (hasRoom t b)
+
 unfoldable pub insertAnswer : Tables → Aabb → ℕ
-insertAnswer t b =
-    firstOf (unless (holds t) 3 ∷ unless (aabbInDomain b) 6 ∷ unless (fewCells (sizeOf t) b) 7 ∷ unless (isSome (usableSlot t)) 4 ∷ unless (hasRoom t b) 8 ∷ [])
+insertAnswer t b = firstOf (insertTests t b)
 
 unfoldable pub insertOf : Tables → Aabb → ℕ → Outcome Inserted
 unfolding insertAnswer put
 insertOf t b d =
     let s = slotIn (usableSlot t) in
-    pick (eqb (insertAnswer t b) 0)
-    (outcome (inserted 0 s (versionAt (t .nums) s)) (put t s b d))
-    (outcome (inserted (insertAnswer t b) 0 0) t)
+    byTests (insertTests t b) (outcome (inserted 0 s (versionAt (t .nums) s)) (put t s b d)) (λ a. outcome (inserted a 0 0) t)
