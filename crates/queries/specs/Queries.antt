@@ -6,7 +6,7 @@ use mathlib.Core.List.{List, [], _∷_, map}
 use lib.Dec.{eqb, leb}
 use lib.Ieee.{Float}
 use lib.ListN.{length}
-use Rattle.basics.specs.Refusals.{unless, firstOf, pick}
+use Rattle.basics.specs.Refusals.{Refusal, unless, firstOf, pick, byTests}
 use Rattle.geometry.specs.declared.Position.{Position}
 use Rattle.geometry.specs.Domain.{positionInDomain, radiusInDomain}
 use Rattle.geometry.specs.Circle.{inCircle, cornerBelow, cornerAbove}
@@ -58,36 +58,61 @@ abbrev pub findings : Count → List (List ℕ) → List (List Float) → Findin
 findings c h p = record { returned = c; handles = h; places = p }
 
 -- ---- the search that the three queries are. `ok` says whether their numbers are in the domain
-unfoldable pub searchAnswer : Tables → Bool → Position → Position → Test → ℕ → ℕ
-unfolding found
-searchAnswer t ok ll ur test room =
-    firstOf (
+abbrev pub searchTests : Tables → Bool → Position → Position → Test → ℕ → List Refusal
+searchTests t ok ll ur test room =
     unless (holds t) 3
     ∷ unless ok 6
     ∷ unless (leb (cellsIn (cellAt (sizeOf t) ll) (cellAt (sizeOf t) ur)) mostCells) 7
     ∷ unless (leb (length (found t ll ur test)) room) 9
     ∷ []
-    )
 
+unfoldable pub searchAnswer : Tables → Bool → Position → Position → Test → ℕ → ℕ
+unfolding found
+searchAnswer t ok ll ur test room = firstOf (searchTests t ok ll ur test room)
+
+-- the places that both outputs have
+abbrev pub roomOf : List (List ℕ) → List (List Float) → ℕ
+roomOf handles places = min (length handles) (length places)
+
+-- 9 returns the number found
 unfoldable pub searchOf : Tables → Bool → Position → Position → Test → List (List ℕ) → List (List Float) → Findings
 unfolding searchAnswer found
 searchOf t ok ll ur test handles places =
-    let a = searchAnswer t ok ll ur test (min (length handles) (length places)) in
     let es = found t ll ur test in
-    pick (eqb a 0)
+    byTests (searchTests t ok ll ur test (roomOf handles places))
     (findings (count 0 (length es)) (written (map (handleRow t) es) handles) (written (map placeRow es) places))
-    (findings (count a (pick (eqb a 9) (length es) 0)) handles places)
+    (λ a. findings (count a (pick (eqb a 9) (length es) 0)) handles places)
 
--- corners not swapped: a reversed range is empty
+-- ---- query: corners not swapped, a reversed range is empty
+abbrev pub queryFinds : Tables → Position → Position → List Entry
+queryFinds t ll ur = found t ll ur Any
+
+abbrev pub queryTests : Tables → Position → Position → List (List ℕ) → List (List Float) → List Refusal
+queryTests t ll ur hs ps = searchTests t (positionInDomain ll && positionInDomain ur) ll ur Any (roomOf hs ps)
+
 unfoldable pub queryOf : Tables → Position → Position → List (List ℕ) → List (List Float) → Findings
 unfolding searchOf
 queryOf t ll ur = searchOf t (positionInDomain ll && positionInDomain ur) ll ur Any
+
+-- ---- query_around
+abbrev pub aroundFinds : Tables → Position → Float → List Entry
+aroundFinds t c r = found t (cornerBelow c r) (cornerAbove c r) (Circle c r)
+
+abbrev pub aroundTests : Tables → Position → Float → List (List ℕ) → List (List Float) → List Refusal
+aroundTests t c r hs ps = searchTests t (positionInDomain c && radiusInDomain r) (cornerBelow c r) (cornerAbove c r) (Circle c r) (roomOf hs ps)
 
 unfoldable pub aroundOf : Tables → Position → Float → List (List ℕ) → List (List Float) → Findings
 unfolding searchOf
 aroundOf t c r = searchOf t (positionInDomain c && radiusInDomain r) (cornerBelow c r) (cornerAbove c r) (Circle c r)
 
--- corners sorted on each axis, then edges included
+-- ---- query_aabb: corners sorted on each axis, then edges included
+abbrev pub aabbFinds : Tables → Position → Position → List Entry
+aabbFinds t a b = found t (lowerCorner a b) (upperCorner a b) (Rectangle (lowerCorner a b) (upperCorner a b))
+
+abbrev pub aabbTests : Tables → Position → Position → List (List ℕ) → List (List Float) → List Refusal
+aabbTests t a b hs ps =
+    searchTests t (positionInDomain a && positionInDomain b) (lowerCorner a b) (upperCorner a b) (Rectangle (lowerCorner a b) (upperCorner a b)) (roomOf hs ps)
+
 unfoldable pub aabbOf : Tables → Position → Position → List (List ℕ) → List (List Float) → Findings
 unfolding searchOf
 aabbOf t a b =
