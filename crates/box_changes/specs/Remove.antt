@@ -1,9 +1,8 @@
 -- `remove` takes the box out of all its lists at once, and empties its slot: in each list the last entry moves into the gap. Assumes nothing.
 use Prim.Native.Nat.{ℕ}
 use mathlib.Core.List.{List, [], _∷_}
-use lib.Dec.{eqb}
 use lib.ListN.{length}
-use Rattle.basics.specs.Refusals.{unless, firstOf, pick}
+use Rattle.basics.specs.Refusals.{Refusal, unless, firstOf, byTests}
 use Rattle.geometry.specs.declared.Aabb.{Aabb}
 use Rattle.slots.specs.declared.Handle.{Handle}
 use Rattle.slots.specs.Slot.{good, emptiedNums, emptiedMap}
@@ -29,12 +28,13 @@ takenOut t s =
     (counting (emptiedMap (t .nums) (t .map) s) (length (entriesWithout t s)))
     (written (entriesWithout t s) (t .pool))
 
+abbrev pub removeTests : Tables → Handle → List Refusal
+removeTests t h = unless (holds t) 3 ∷ unless (good (t .nums) (h .slot) (h .version)) 5 ∷ []
+
 unfoldable pub removeAnswer : Tables → Handle → ℕ
-removeAnswer t h = firstOf (unless (holds t) 3 ∷ unless (good (t .nums) (h .slot) (h .version)) 5 ∷ [])
+removeAnswer t h = firstOf (removeTests t h)
 
 unfoldable pub removeOf : Tables → Handle → Outcome Reply
 unfolding removeAnswer takenOut
 removeOf t h =
-    pick (eqb (removeAnswer t h) 0)
-    (outcome (reply 0 (objOn t (h .slot))) (takenOut t (h .slot)))
-    (outcome (reply (removeAnswer t h) 0) t)
+    byTests (removeTests t h) (outcome (reply 0 (objOn t (h .slot))) (takenOut t (h .slot))) (λ a. outcome (reply a 0) t)

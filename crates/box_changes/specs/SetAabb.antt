@@ -4,10 +4,10 @@ use Prim.Native.Nat.{ℕ, _+_}
 use mathlib.Core.Path.{_≡_}
 use mathlib.Core.Bool.{Bool}
 use mathlib.Core.List.{List, [], _∷_}
-use lib.Dec.{eqb, leb}
+use lib.Dec.{leb}
 use lib.ListN.{length, set}
 use Rattle.basics.specs.Says.{Decided, said, d-and, d-eqz}
-use Rattle.basics.specs.Refusals.{unless, firstOf, pick}
+use Rattle.basics.specs.Refusals.{Refusal, unless, firstOf, pick, byTests}
 use Rattle.geometry.specs.Domain.{aabbInDomain}
 use Rattle.geometry.specs.declared.Aabb.{Aabb}
 use Rattle.cells.specs.declared.Cell.{Cell}
@@ -56,10 +56,18 @@ placed t s b = pick (cellsStay (sizeOf t) (aabbOn t s) b) (recorded t s b) (move
 abbrev pub hasRoomFor : Tables → ℕ → Aabb → Bool
 hasRoomFor t s b = leb (usedOf t + covers (sizeOf t) b) (length (t .pool) + covers (sizeOf t) (aabbOn t s))
 
+abbrev pub setAabbTests : Tables → Handle → Aabb → List Refusal
+setAabbTests t h b =
+    unless (holds t) 3
+    ∷ unless (aabbInDomain b) 6
+    ∷ unless (good (t .nums) (h .slot) (h .version)) 5
+    ∷ unless (fewCells (sizeOf t) b) 7
+    ∷ unless (hasRoomFor t (h .slot) b) 8
+    ∷ []
+
 unfoldable pub setAabbAnswer : Tables → Handle → Aabb → ℕ
-setAabbAnswer t h b =
-    firstOf (unless (holds t) 3 ∷ unless (aabbInDomain b) 6 ∷ unless (good (t .nums) (h .slot) (h .version)) 5 ∷ unless (fewCells (sizeOf t) b) 7 ∷ unless (hasRoomFor t (h .slot) b) 8 ∷ [])
+setAabbAnswer t h b = firstOf (setAabbTests t h b)
 
 unfoldable pub setAabbOf : Tables → Handle → Aabb → Outcome ℕ
 unfolding setAabbAnswer placed
-setAabbOf t h b = pick (eqb (setAabbAnswer t h b) 0) (outcome 0 (placed t (h .slot) b)) (outcome (setAabbAnswer t h b) t)
+setAabbOf t h b = byTests (setAabbTests t h b) (outcome 0 (placed t (h .slot) b)) (λ a. outcome a t)
