@@ -5,7 +5,7 @@ use mathlib.Core.Bool.{Bool, true, false, _||_}
 use mathlib.Core.List.{List, [], _∷_, _++_, map}
 use lib.Dec.{eqb}
 use lib.ListN.{length, getD}
-use Rattle.basics.specs.Refusals.{pick}
+use Rattle.basics.specs.Refusals.{Refusal, unless, pick, byTests}
 use Rattle.slots.specs.Slot.{live, phaseAt}
 use Rattle.storage.specs.Keyed.{filter, under, onList, appendAll, written}
 use Rattle.storage.specs.Entries.{Entry, rowKey, rowOf, spotOf, entryKey}
@@ -90,9 +90,12 @@ countStates test t (suc n) = countStates test t n + pick (eqb (phaseAt (t .nums)
 abbrev pub maintainedCounts : ℕ → ℕ → ℕ → Maintained
 maintainedCounts a m r = record { answer = a; moved = m; removed = r }
 
+abbrev pub maintainTests : Tables → List Refusal
+maintainTests t = unless (holds t) 3 ∷ []
+
 unfoldable pub maintainOf : Tables → Outcome Maintained
 unfolding maintained
 maintainOf t =
-    pick (holds t)
+    byTests (maintainTests t)
     (outcome (maintainedCounts 0 (countStates isMoving t (slotsOf t)) (countStates isRemoved t (slotsOf t))) (maintained t))
-    (outcome (maintainedCounts 3 0 0) t)
+    (λ a. outcome (maintainedCounts a 0 0) t)

@@ -9,7 +9,7 @@ use lib.Dec.{eqb}
 use lib.Ieee.{Float}
 use lib.ListN.{length}
 use lib.Seq.{set-out}
-use Rattle.basics.specs.Refusals.{pick}
+use Rattle.basics.specs.Refusals.{orElse, pick}
 use Rattle.basics.specs.Says.{Decided, d-eq, d-lt}
 use Rattle.slots.specs.Map.{givenBack}
 use Rattle.slots.specs.Slot.{live, phaseAt}
@@ -193,9 +193,10 @@ module _ (t u : Tables) where
       maintain-same : Same (maintainOf t) (maintainOf v)
       unfolding maintainOf
       maintain-same =
-          same-pick _ _ _ _ _ _ (both-hold t v like h k)
+          let e = both-hold t v like h k in
+          same-pick _ _ _ _ _ _ (ap (λ (b : Bool). eqb (orElse b 3 0) 0) e)
           (ap₂ (maintainedCounts 0) (counts-same isMoving) (counts-same isRemoved), maintained-alike)
-          (refl, like)
+          (ap (λ (b : Bool). maintainedCounts (orElse b 3 0) 0 0) e, like)
 
 pub maintain-respects : Respects maintainOf
 maintain-respects = to-respect maintainOf (λ t u h k a. maintain-same t u a h k)
