@@ -1,6 +1,6 @@
 -- Every public call of the box grid with all that it is handed besides the tables, what it leaves, which refusals apply to it, and what it
 -- leaves if it is refused. Assumes nothing.
-use Prim.Native.Nat.{ℕ, min}
+use Prim.Native.Nat.{ℕ}
 use mathlib.Core.List.{List, []}
 use lib.Ieee.{Float}
 use lib.ListN.{length}
@@ -11,19 +11,18 @@ use Rattle.replies.specs.declared.Reply.{Reply}
 use Rattle.replies.specs.declared.Count.{Count}
 use Rattle.box_tables.specs.Tables.{Tables}
 use Rattle.box_tables.specs.Outcome.{Outcome}
-use Rattle.box_inserts.specs.New.{newOf}
-use Rattle.box_inserts.specs.Insert.{insertOf}
-use Rattle.box_changes.specs.SetAabb.{setAabbOf}
-use Rattle.box_changes.specs.Remove.{removeOf}
+use Rattle.box_inserts.specs.New.{newTests, newOf}
+use Rattle.box_inserts.specs.Insert.{insertTests, insertOf}
+use Rattle.box_changes.specs.SetAabb.{setAabbTests, setAabbOf}
+use Rattle.box_changes.specs.Remove.{removeTests, removeOf}
 use Rattle.box_reads.specs.declared.Got.{Got}
 use Rattle.box_reads.specs.Live.{liveSlots}
-use Rattle.box_reads.specs.Reads.{Listing, getOf, lenOf, handlesOf}
+use Rattle.box_reads.specs.Reads.{Listing, getTests, getOf, lenTests, lenOf, handlesTests, handlesOf}
 use Rattle.geometry.specs.Zero.{zero-aabb}
-use Rattle.box_reads.specs.Clear.{Written, clearOf}
-use Rattle.box_queries.specs.Queries.{Handles, Findings, broad, narrow, roomOf, broadOf, queryOf}
+use Rattle.box_reads.specs.Clear.{Written, clearTests, clearOf}
+use Rattle.box_queries.specs.Queries.{Handles, Findings, broad, narrow, broadTests, broadOf, queryTests, queryOf}
 use Rattle.basics.specs.Refusals.{Refusal}
 use Rattle.demands.specs.Left.{Outputs, outputs, none, zeros, theCount, theHandle, theData, theObject, Left, left, refused}
-use Rattle.demands.specs.BoxAnswers.{newApplies, insertApplies, setAabbApplies, handleApplies, tablesApply, roomApplies, queryApplies}
 
 pub data BoxCall : Type 0 where
   new : ℕ → BoxCall
@@ -94,18 +93,18 @@ leaves t (handles out) = ofListing t (handlesOf t out)
 leaves t (queryBroad q hs) = ofHandles t (broadOf t q hs)
 leaves t (query q hs bs os) = ofFindings t (queryOf t q hs bs os)
 
--- ---- document 01's refusals of each call
+-- ---- document 01's refusals of each call: its tests, which stand beside its outcome
 unfoldable pub refusals : Tables → BoxCall → List Refusal
-refusals t (new size) = newApplies t size
-refusals t (insert b d) = insertApplies t b
-refusals t (setAabb h b) = setAabbApplies t h b
-refusals t (remove h) = handleApplies t h
-refusals t (clear bs os) = roomApplies t (min (length bs) (length os))
-refusals t (get h) = handleApplies t h
-refusals t len = tablesApply t
-refusals t (handles out) = roomApplies t (length out)
-refusals t (queryBroad q hs) = queryApplies t q (length (broad t q)) (length hs)
-refusals t (query q hs bs os) = queryApplies t q (length (narrow t q)) (roomOf hs bs os)
+refusals t (new size) = newTests t size
+refusals t (insert b d) = insertTests t b
+refusals t (setAabb h b) = setAabbTests t h b
+refusals t (remove h) = removeTests t h
+refusals t (clear bs os) = clearTests t bs os
+refusals t (get h) = getTests t h
+refusals t len = lenTests t
+refusals t (handles out) = handlesTests t out
+refusals t (queryBroad q hs) = broadTests t q hs
+refusals t (query q hs bs os) = queryTests t q hs bs os
 
 -- ---- the number found: the findings, for `clear` and `handles` the objects; of the others none answers 9
 unfoldable pub numberFound : Tables → BoxCall → ℕ

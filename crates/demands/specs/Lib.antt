@@ -3,10 +3,8 @@ pub mod Answers
 pub mod AnswerLaws
 pub mod Left
 pub mod Tested
-pub mod PointAnswers
 pub mod PointCalls
 pub mod PointSteps
-pub mod BoxAnswers
 pub mod BoxCalls
 pub mod BoxSteps
 pub mod Determined

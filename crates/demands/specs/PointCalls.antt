@@ -1,6 +1,6 @@
 -- Every public call of the point grid with all that it is handed besides the tables, what it leaves, which refusals apply to it, and what
 -- it leaves if it is refused. Assumes nothing.
-use Prim.Native.Nat.{ℕ, min}
+use Prim.Native.Nat.{ℕ}
 use mathlib.Core.Bool.{Bool, false, not}
 use mathlib.Core.List.{List, []}
 use lib.Ieee.{Float}
@@ -12,22 +12,20 @@ use Rattle.point_tables.specs.Outcome.{Outcome}
 use Rattle.replies.specs.declared.Inserted.{Inserted}
 use Rattle.replies.specs.declared.Reply.{Reply}
 use Rattle.replies.specs.declared.Count.{Count}
-use Rattle.inserts.specs.New.{newOf}
-use Rattle.inserts.specs.Insert.{insertOf}
-use Rattle.moves.specs.Moves.{setPositionOf, removeOf}
-use Rattle.moves.specs.Batch.{Batched, even, batchOf}
+use Rattle.inserts.specs.New.{newTests, newOf}
+use Rattle.inserts.specs.Insert.{insertTests, insertOf}
+use Rattle.moves.specs.Moves.{setPositionTests, setPositionOf, removeTests, removeOf}
+use Rattle.moves.specs.Batch.{Batched, even, batchTests, batchOf}
 use Rattle.maintain.specs.declared.Maintained.{Maintained}
-use Rattle.maintain.specs.Maintain.{maintainOf}
-use Rattle.removals.specs.Meaning.RemoveMaintain.{removeMaintainOf}
-use Rattle.removals.specs.Meaning.Clear.{Written, liveSlots, clearOf}
+use Rattle.maintain.specs.Maintain.{maintainTests, maintainOf}
+use Rattle.removals.specs.Meaning.RemoveMaintain.{removeMaintainTests, removeMaintainOf}
+use Rattle.removals.specs.Meaning.Clear.{Written, liveSlots, clearTests, clearOf}
 use Rattle.reads.specs.declared.Got.{Got}
-use Rattle.reads.specs.Meaning.{Listing, getOf, lenOf, handlesOf}
+use Rattle.reads.specs.Meaning.{Listing, getTests, getOf, lenTests, lenOf, handlesTests, handlesOf}
 use Rattle.geometry.specs.Zero.{zero-position}
-use Rattle.queries.specs.Queries.{Findings, queryOf, aroundOf, aabbOf}
+use Rattle.queries.specs.Queries.{Findings, queryFinds, queryTests, queryOf, aroundFinds, aroundTests, aroundOf, aabbFinds, aabbTests, aabbOf}
 use Rattle.basics.specs.Refusals.{Refusal}
 use Rattle.demands.specs.Left.{Outputs, outputs, none, zeros, theCount, theHandle, theData, theChanges, theObject, Left, left, refused}
-use Rattle.demands.specs.PointAnswers.{newApplies, insertApplies, setPositionApplies, handleApplies, batchApplies, tablesApply, roomApplies}
-use Rattle.demands.specs.PointAnswers.{queryFinds, aroundFinds, aabbFinds, queryTests, aroundTests, aabbTests}
 
 pub data PointCall : Type 0 where
   new : ℕ → PointCall
@@ -114,19 +112,19 @@ leaves t (query ll ur hs ps) = ofFindings t (queryOf t ll ur hs ps)
 leaves t (queryAround c r hs ps) = ofFindings t (aroundOf t c r hs ps)
 leaves t (queryAabb a b hs ps) = ofFindings t (aabbOf t a b hs ps)
 
--- ---- document 01's refusals of each call
+-- ---- document 01's refusals of each call: its tests, which stand beside its outcome
 unfoldable pub refusals : Tables → PointCall → List Refusal
-refusals t (new size) = newApplies t size
-refusals t (insert p d) = insertApplies t p
-refusals t (setPosition h p) = setPositionApplies t h p
-refusals t (remove h) = handleApplies t h
-refusals t (batch ks hs ps out) = batchApplies t ks hs ps (length out)
-refusals t maintain = tablesApply t
-refusals t (removeMaintain h) = handleApplies t h
-refusals t (clear ps os) = roomApplies t (min (length ps) (length os))
-refusals t (get h) = handleApplies t h
-refusals t len = tablesApply t
-refusals t (handles out) = roomApplies t (length out)
+refusals t (new size) = newTests t size
+refusals t (insert p d) = insertTests t p
+refusals t (setPosition h p) = setPositionTests t h p
+refusals t (remove h) = removeTests t h
+refusals t (batch ks hs ps out) = batchTests t ks hs ps out
+refusals t maintain = maintainTests t
+refusals t (removeMaintain h) = removeMaintainTests t h
+refusals t (clear ps os) = clearTests t ps os
+refusals t (get h) = getTests t h
+refusals t len = lenTests t
+refusals t (handles out) = handlesTests t out
 refusals t (query ll ur hs ps) = queryTests t ll ur hs ps
 refusals t (queryAround c r hs ps) = aroundTests t c r hs ps
 refusals t (queryAabb a b hs ps) = aabbTests t a b hs ps

@@ -3,56 +3,54 @@
 use Prim.Native.Nat.{ℕ}
 use mathlib.Core.Path.{_≡_, refl, subst}
 use mathlib.Core.Bool.{Bool, _&&_}
-use mathlib.Core.List.{List, [], _∷_}
-use lib.Dec.{eqb, leb}
+use mathlib.Core.List.{List, []}
+use lib.Dec.{eqb}
 use lib.Ieee.{Float}
 use lib.ListN.{length, length-map}
-use Rattle.basics.specs.Refusals.{Refusal, unless, pick}
+use Rattle.basics.specs.Refusals.{pick}
 use Rattle.replies.specs.Replies.{count, inserted, reply}
 use Rattle.geometry.specs.declared.Position.{Position}
 use Rattle.geometry.specs.Domain.{positionInDomain, radiusInDomain}
 use Rattle.geometry.specs.Rectangle.{lowerCorner, upperCorner}
 use Rattle.slot_walks.specs.Live.{handleAt, liveFrom}
 use Rattle.point_tables.specs.Tables.{Tables}
-use Rattle.point_tables.specs.Decide.{holds}
 use Rattle.point_tables.specs.Outcome.{outcome}
-use Rattle.inserts.specs.New.{newAnswer, newOf}
-use Rattle.inserts.specs.Insert.{insertAnswer, insertOf}
-use Rattle.moves.specs.Moves.{setPositionAnswer, setPositionOf, removeAnswer, removeOf}
-use Rattle.moves.specs.Batch.{batched, batchAnswer, batchOf}
+use Rattle.inserts.specs.New.{newOf}
+use Rattle.inserts.specs.Insert.{insertOf}
+use Rattle.moves.specs.Moves.{setPositionOf, removeOf}
+use Rattle.moves.specs.Batch.{batched, batchOf}
 use Rattle.maintain.specs.Maintain.{maintainedCounts, maintainOf}
-use Rattle.removals.specs.Meaning.RemoveMaintain.{removeMaintainAnswer, removeMaintainOf}
-use Rattle.removals.specs.Meaning.Clear.{wrote, liveSlots, clearAnswer, clearOf}
-use Rattle.reads.specs.Meaning.{got, listing, liveHandles, getOf, lenOf, handlesOf}
+use Rattle.removals.specs.Meaning.RemoveMaintain.{removeMaintainOf}
+use Rattle.removals.specs.Meaning.Clear.{wrote, liveSlots, clearOf}
+use Rattle.reads.specs.Meaning.{got, listing, liveHandles, getOf, lenOf, handlesTests, handlesOf}
 use Rattle.geometry.specs.Zero.{zero-position}
 use Rattle.queries.specs.declared.Test.{Test}
 use Rattle.queries.specs.declared.Test.the-variants.{Any, Circle, Rectangle}
-use Rattle.queries.specs.Queries.{findings, found, searchAnswer, searchOf, queryOf, aroundOf, aabbOf}
+use Rattle.queries.specs.Queries.{findings, found, roomOf, searchTests, searchOf, queryOf, aroundOf, aabbOf}
 use Rattle.geometry.specs.Circle.{cornerBelow, cornerAbove}
-use Rattle.demands.specs.Tested.{Tested, tested, tested-held, no-nine, at-nine}
+use Rattle.demands.specs.Tested.{Tested, tested, no-nine, at-nine}
 use Rattle.demands.specs.Left.{outputs, none, refused}
 use Rattle.demands.specs.PointCalls.{PointCall, new, insert, setPosition, remove, batch, maintain, removeMaintain, clear}
 use Rattle.demands.specs.PointCalls.{get, len, handles, query, queryAround, queryAabb}
 use Rattle.demands.specs.PointCalls.{ofNumber, ofInserted, ofReply, ofBatched, ofMaintained, ofWritten, ofGot, ofCount, ofListing, ofFindings}
-use Rattle.demands.specs.PointCalls.{leaves, refusals, numberFound, refusedWith}
-use Rattle.demands.specs.PointAnswers.{searchTests}
+use Rattle.demands.specs.PointCalls.{Leaves, leaves, refusals, numberFound, refusedWith}
 
 -- the three queries are one search
 module _ (t : Tables) (ok : Bool) (ll ur : Position) (test : Test) (hs : List (List ℕ)) (ps : List (List Float)) where
   abbrev finds : ℕ
   finds = length (found t ll ur test)
 
-  abbrev tests : List Refusal
-  tests = searchTests t ok ll ur finds hs ps
+  abbrev refusal : ℕ → Leaves
+  refusal = refused zero-position finds t (outputs hs ps [])
 
-  search : Tested tests (refused zero-position finds t (outputs hs ps [])) (ofFindings t (searchOf t ok ll ur test hs ps))
-  unfolding searchOf searchAnswer
+  search : Tested (searchTests t ok ll ur test (roomOf hs ps)) refusal (ofFindings t (searchOf t ok ll ur test hs ps))
+  unfolding searchOf
   search = tested (ofFindings t) _ (λ a. findings (count a (pick (eqb a 9) finds 0)) hs ps) refl (at-nine zero-position t (outputs hs ps []) finds) _ refl
 
--- `handles` has a row for each object
+-- `handles` has a row for each object: as many as `clear` has
 module _ (t : Tables) (out : List (List ℕ)) where
   abbrev listedBy : ℕ → Type 0
-  listedBy n = Tested (unless (holds t) 3 ∷ unless (leb n (length out)) 9 ∷ []) (refused zero-position n t (outputs out [] [])) (ofListing t (handlesOf t out))
+  listedBy n = Tested (handlesTests t out) (refused zero-position n t (outputs out [] [])) (ofListing t (handlesOf t out))
 
   listed : listedBy (length (liveHandles t))
   unfolding handlesOf
@@ -66,19 +64,19 @@ module _ (t : Tables) (out : List (List ℕ)) where
 
 pub step : (t : Tables) (c : PointCall) → Tested (refusals t c) (refusedWith t c) (leaves t c)
 unfolding leaves refusals numberFound
-step t (new size) = unfold newOf newAnswer in tested ofNumber _ (λ a. outcome a t) refl (no-nine zero-position t none) _ refl
-step t (insert p d) = unfold insertOf insertAnswer in tested ofInserted _ (λ a. outcome (inserted a 0 0) t) refl (no-nine zero-position t none) _ refl
-step t (setPosition h p) = unfold setPositionOf setPositionAnswer in tested ofReply _ (λ a. outcome (reply a 0) t) refl (no-nine zero-position t none) _ refl
-step t (remove h) = unfold removeOf removeAnswer in tested ofReply _ (λ a. outcome (reply a 0) t) refl (no-nine zero-position t none) _ refl
+step t (new size) = unfold newOf in tested ofNumber _ (λ a. outcome a t) refl (no-nine zero-position t none) _ refl
+step t (insert p d) = unfold insertOf in tested ofInserted _ (λ a. outcome (inserted a 0 0) t) refl (no-nine zero-position t none) _ refl
+step t (setPosition h p) = unfold setPositionOf in tested ofReply _ (λ a. outcome (reply a 0) t) refl (no-nine zero-position t none) _ refl
+step t (remove h) = unfold removeOf in tested ofReply _ (λ a. outcome (reply a 0) t) refl (no-nine zero-position t none) _ refl
 step t (batch ks hs ps out) =
-    unfold batchOf batchAnswer in
+    unfold batchOf in
     let n = length ks in
     tested ofBatched _ (λ a. outcome (batched a (pick (eqb a 9) n 0) out) t) refl (at-nine zero-position t (outputs out [] []) n) _ refl
-step t maintain = unfold maintainOf in tested-held ofMaintained _ (λ a. outcome (maintainedCounts a 0 0) t) refl (no-nine zero-position t none) (holds t)
+step t maintain = unfold maintainOf in tested ofMaintained _ (λ a. outcome (maintainedCounts a 0 0) t) refl (no-nine zero-position t none) _ refl
 step t (removeMaintain h) =
-    unfold removeMaintainOf removeMaintainAnswer in tested ofReply _ (λ a. outcome (reply a 0) t) refl (no-nine zero-position t none) _ refl
+    unfold removeMaintainOf in tested ofReply _ (λ a. outcome (reply a 0) t) refl (no-nine zero-position t none) _ refl
 step t (clear ps os) =
-    unfold clearOf clearAnswer in
+    unfold clearOf in
     let n = length (liveSlots t) in
     tested ofWritten _ (λ a. outcome (wrote (count a (pick (eqb a 9) n 0)) ps os) t) refl (at-nine zero-position t (outputs [] ps os) n) _ refl
 step t (get h) = unfold getOf in tested (ofGot t) _ (λ a. got a zero-position 0) refl (no-nine zero-position t none) _ refl

@@ -2,10 +2,10 @@
 use Prim.Native.Nat.{ℕ}
 use mathlib.Core.Path.{_≡_, refl, sym, ap, _∙_}
 use mathlib.Core.Bool.{Bool, true, false}
-use mathlib.Core.List.{List, [], _∷_}
+use mathlib.Core.List.{List}
 use lib.Dec.{eqb}
 use borrow.Author.Tests.{eqb-true, ne-eqb}
-use Rattle.basics.specs.Refusals.{Refusal, unless, firstOf, pick}
+use Rattle.basics.specs.Refusals.{Refusal, firstOf, pick, byTests}
 use Rattle.demands.specs.Answers.{order, firstThat}
 use Rattle.demands.specs.AnswerLaws.{ordered, in-order}
 use Rattle.demands.specs.Left.{Outputs, zeros, theCount, Left, left, refused}
@@ -15,7 +15,7 @@ pub record Tested {T P : Type 0} (rs : List Refusal) (refusal : ℕ → Left T P
   pub done : Left T P
   pub accepted : done .answer ≡ 0
   pub in-turn : ordered order rs ≡ true
-  pub by-tests : l ≡ pick (eqb (firstOf rs) 0) done (refusal (firstOf rs))
+  pub by-tests : l ≡ byTests rs done refusal
 
 module _ {T P : Type 0} {rs : List Refusal} {refusal : ℕ → Left T P} {l : Left T P} (s : Tested rs refusal l) where
   -- the answer is the first that applies
@@ -34,20 +34,12 @@ module _ {T P : Type 0} {rs : List Refusal} {refusal : ℕ → Left T P} {l : Le
 -- ---- what a call gives, x or y by its tests, seen as what it leaves
 module _ {R T P : Type 0} {refusal : ℕ → Left T P} (view : R → Left T P) (x : R) (y : ℕ → R) where
   module _ (zero : view x .answer ≡ 0) (same : (n : ℕ) → view (y n) ≡ refusal n) where
-    pub tested : (rs : List Refusal) → ordered order rs ≡ true → Tested rs refusal (view (pick (eqb (firstOf rs) 0) x (y (firstOf rs))))
+    pub tested : (rs : List Refusal) → ordered order rs ≡ true → Tested rs refusal (view (byTests rs x y))
     tested rs o = record { done = view x; accepted = zero; in-turn = o; by-tests = go (eqb (firstOf rs) 0) (firstOf rs) }
       where
         go : (b : Bool) (n : ℕ) → view (pick b x (y n)) ≡ pick b (view x) (refusal n)
         go true n = refl
         go false n = same n
-
-    -- of a call that the tables alone refuse
-    pub tested-held : (b : Bool) → Tested (unless b 3 ∷ []) refusal (view (pick b x (y 3)))
-    tested-held b = record { done = view x; accepted = zero; in-turn = refl; by-tests = go b }
-      where
-        go : (b : Bool) → view (pick b x (y 3)) ≡ pick (eqb (firstOf (unless b 3 ∷ [])) 0) (view x) (refusal (firstOf (unless b 3 ∷ [])))
-        go true = refl
-        go false = same 3
 
 -- ---- the count that a refusal returns: none, or the number found if it is 9
 module _ {T P : Type 0} (z : P) (t : T) (lent : Outputs) where
