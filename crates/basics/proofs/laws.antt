@@ -1,2 +1,3 @@
 -- Laws, and what the proofs share.
 pub mod DecideFloat
+pub mod RefusalLaws

@@ -1,6 +1,6 @@
 -- The answer of a call: the first refusal that applies, out of a list in the order of document 01; else 0. Assumes nothing.
 use Prim.Native.Nat.{ℕ}
-use mathlib.Core.Bool.{Bool, true, false}
+use mathlib.Core.Bool.{Bool, true, false, not, _&&_, _||_}
 use mathlib.Core.List.{List, [], _∷_}
 use lib.Dec.{eqb}
 
@@ -28,3 +28,20 @@ pick false a b = b
 -- what a call gives: what it does if its tests pass, else what it says to the first that does not
 abbrev pub byTests : {R : Type 0} → List Refusal → R → (ℕ → R) → R
 byTests rs done refused = pick (eqb (firstOf rs) 0) done (refused (firstOf rs))
+
+-- ---- document 01's order of the answers; 10 is the program's alone
+abbrev pub order : List ℕ
+order = 3 ∷ 2 ∷ 6 ∷ 5 ∷ 1 ∷ 7 ∷ 4 ∷ 8 ∷ 9 ∷ []
+
+-- whether a number applies: one of the call's tests has it and does not pass
+abbrev pub applies : List Refusal → ℕ → Bool
+applies [] n = false
+applies (r ∷ rs) n = (eqb (r .number) n && not (r .passes)) || applies rs n
+
+abbrev pub firstIn : List ℕ → List Refusal → ℕ
+firstIn [] rs = 0
+firstIn (n ∷ ns) rs = pick (applies rs n) n (firstIn ns rs)
+
+-- the first that applies, in that order, whatever the order of the tests
+unfoldable pub firstThat : List Refusal → ℕ
+firstThat rs = firstIn order rs

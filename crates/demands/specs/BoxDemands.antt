@@ -7,6 +7,8 @@ use mathlib.Core.Logic.{⊎-elim}
 use lib.Dec.{eqb}
 use borrow.Author.Tests.{eqb-false}
 use Rattle.basics.specs.Says.{d-eq}
+use Rattle.basics.specs.Refusals.{applies, firstThat}
+use Rattle.basics.proofs.laws.RefusalLaws.{three-first}
 use Rattle.box_tables.specs.Tables.{Tables}
 use Rattle.box_tables.specs.Holds.{Holds}
 use Rattle.box_tables.specs.Decide.{sized-says, holds, holds-says}
@@ -16,8 +18,6 @@ use Rattle.box_inserts.proofs.laws.InsertLaws.{insert-holds}
 use Rattle.box_changes.proofs.laws.SetAabbLaws.{set-aabb-holds}
 use Rattle.box_changes.proofs.laws.RemoveLaws.{remove-holds}
 use Rattle.box_reads.proofs.laws.ClearLaws.{clear-holds}
-use Rattle.demands.specs.Answers.{applies, firstThat}
-use Rattle.demands.specs.AnswerLaws.{three-first}
 use Rattle.demands.specs.Tested.{first-answer, first-refused}
 use Rattle.demands.specs.BoxCalls.{BoxCall, new, insert, setAabb, remove, clear, get, len, handles, queryBroad, query, leaves, refusals, refusedWith}
 use Rattle.demands.specs.BoxSteps.{step}

@@ -7,6 +7,8 @@ use mathlib.Core.Logic.{⊎-elim}
 use lib.Dec.{eqb}
 use lib.Ieee.{Float}
 use Rattle.basics.specs.Says.{d-eq}
+use Rattle.basics.specs.Refusals.{applies, firstThat}
+use Rattle.basics.proofs.laws.RefusalLaws.{three-first}
 use Rattle.geometry.specs.declared.Position.{Position}
 use Rattle.geometry.specs.Circle.{inCircle}
 use Rattle.slots.specs.declared.Handle.{Handle}
@@ -32,8 +34,6 @@ use Rattle.stands.specs.Report.{ReportedAt, Reports, Due}
 use Rattle.stands.specs.StandsLaws.{maintain-settles, nextMaintain, next-accepted}
 use Rattle.stands.specs.ReportLaws.{circle-reports, reports-once}
 use Rattle.stands.specs.MovedLaws.{Other, moved-found}
-use Rattle.demands.specs.Answers.{applies, firstThat}
-use Rattle.demands.specs.AnswerLaws.{three-first}
 use Rattle.demands.specs.Tested.{first-answer, first-refused}
 use Rattle.demands.specs.PointCalls.{PointCall, new, insert, setPosition, remove, batch, maintain, removeMaintain, clear}
 use Rattle.demands.specs.PointCalls.{get, len, handles, query, queryAround, queryAabb}

@@ -1,6 +1,4 @@
 -- The three demands, and the definitions that only they need.
-pub mod Answers
-pub mod AnswerLaws
 pub mod Left
 pub mod Tested
 pub mod PointCalls

@@ -5,9 +5,8 @@ use mathlib.Core.Bool.{Bool, true, false}
 use mathlib.Core.List.{List}
 use lib.Dec.{eqb}
 use borrow.Author.Tests.{eqb-true, ne-eqb}
-use Rattle.basics.specs.Refusals.{Refusal, firstOf, pick, byTests}
-use Rattle.demands.specs.Answers.{order, firstThat}
-use Rattle.demands.specs.AnswerLaws.{ordered, in-order}
+use Rattle.basics.specs.Refusals.{Refusal, firstOf, pick, byTests, order, firstThat}
+use Rattle.basics.proofs.laws.RefusalLaws.{ordered, in-order}
 use Rattle.demands.specs.Left.{Outputs, zeros, theCount, Left, left, refused}
 
 -- what a call leaves, l, is `done` if they pass, and else what `refusal` says of the first that does not
