@@ -6,3 +6,4 @@ pub mod CheckLaws
 pub mod HeadLaws
 pub mod HoldsLaws
 pub mod PassLaws
+pub mod CornerLaws

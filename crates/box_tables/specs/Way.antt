@@ -8,7 +8,10 @@ use lib.Ieee.{Float}
 use lib.ListN.{getD}
 use Rattle.basics.specs.Refusals.{pick}
 use Rattle.geometry.specs.declared.Aabb.{Aabb}
-use Rattle.cells.specs.Key.{keyOf, columnOf}
+use Rattle.cells.specs.declared.Cell.{Cell}
+use Rattle.cells.specs.Numbers.{Near}
+use Rattle.cells.specs.Key.{upward, keyOf, columnOf}
+use Rattle.cells.specs.Range.{cellsIn}
 use Rattle.slots.specs.Slot.{live, phaseAt}
 use Rattle.box_tables.specs.declared.Span.{Span}
 use Rattle.box_tables.specs.Tables.{aabbAt, lowCell, highCell, covers, itemOf}
@@ -48,6 +51,16 @@ pub record Bounded (way : List ℕ) : Type 0 where
 -- ---- the range of a box: its corner cells and how many cells there are
 abbrev pub spanOf : ℕ → Aabb → Span
 spanOf size b = record { low = lowCell size b; high = highCell size b; cells = covers size b }
+
+abbrev pub spanBy : Cell → Cell → Span
+spanBy a b = record { low = a; high = b; cells = cellsIn a b }
+
+-- cells that may be the corners of a box: near, and not reversed
+pub record Upright (a b : Cell) : Type 0 where
+  pub low : Near a
+  pub high : Near b
+  pub x : upward (a .x) ≤ upward (b .x)
+  pub y : upward (a .y) ≤ upward (b .y)
 
 -- the way of slot s
 abbrev pub wayOf : ℕ → Span → List ℕ

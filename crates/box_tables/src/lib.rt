@@ -3,17 +3,20 @@ ghost use mathlib.Core.Path.{_≡_};
 ghost use mathlib.Core.Bool.{true, false};
 ghost use Prim.Native.Nat.{_+_, _/_, _≤_, _<_};
 ghost use lib.Dec.{T};
+ghost use lib.IntN.{pos};
 ghost use lib.ListN.{length, getD};
 ghost use Rattle.basics.specs.Lent.{was, is};
 ghost use Rattle.basics.specs.Says.{Says};
-ghost use Rattle.geometry.specs.Domain.{aabbInDomain};
+ghost use Rattle.geometry.specs.Domain.{inDomain, aabbInDomain};
 ghost use Rattle.cells.specs.Size.{SizeInDomain};
+ghost use Rattle.cells.specs.CellRule.{cellOf};
+ghost use Rattle.cells.specs.Range.{cellsIn};
 ghost use Rattle.slots.specs.Map.{head};
 ghost use Rattle.box_tables.specs.Lent.{before};
 ghost use Rattle.box_tables.specs.Tables as Tables;
-ghost use Rattle.box_tables.specs.Tables.{Lengths, aabbAt, itemOf};
+ghost use Rattle.box_tables.specs.Tables.{Lengths, aabbAt, lowCell, highCell, mostCells, itemOf};
 ghost use Rattle.box_tables.specs.Decide.{holds};
-ghost use Rattle.box_tables.specs.Way.{nextIn, lastIn, stepped, Bounded, spanOf, wayOf, wayAt};
+ghost use Rattle.box_tables.specs.Way.{nextIn, lastIn, stepped, Bounded, spanOf, spanBy, Upright, wayOf, wayAt};
 ghost use Rattle.box_tables.specs.Check.{Counts, BoxOk, SlotOk, SlotsOk, Room, Ways, Given, IsNext, Met, Passes, Ready};
 use cells::Cell;
 use geometry::Aabb;
@@ -106,20 +109,93 @@ fn counts_ok(size: u64, used: usize, pool: usize) -> bool
     used <= pool
 }
 
-// The way of the box of slot s through its cells: its first key, its last, the step from the end of a row to the next, and the item.
-fn way_of(s: usize, p: Span) -> [u64; 4]
-    requires { ⌜ s < 256 ⌝ }
-    ensures { λ r. ⌜ r ≡ wayOf s p ⌝ }
+// 1 / size, worked out once, so that a guess multiplies.
+fn rate_of(size: u64) -> f32
+    requires { ⌜ SizeInDomain size ⌝ }
 {
-    let low = cells::key_of(p.low);
-    let high = cells::key_of(p.high);
-    let jump = 4294967296 + cells::column_of(low) - cells::column_of(high);
-    let item = item_of(s, p.cells == 1);
-    [low, high, jump, item]
+    1.0 / ((size as i64) as f32)
 }
 
-// The way of an occupied slot; its step is 0 if the box is not one of a grid.
-fn live_way(reals: &[[f32; 4]], size: u64, s: usize) -> [u64; 4]
+// The whole number that a pattern says when 12,582,912 was added to it: there the last digit is worth 1.
+fn digits(b: u32) -> i32 {
+    ((b % 2147483648) as i32) - 1262485504
+}
+
+// A guess at the cell number of a coordinate, by 1 / size: it is held to the edges of that cell, and nothing else rests on it.
+fn guess(rate: f32, x: f32) -> i32 {
+    let t = x * rate - 0.4990234375 + 12582912.0;
+    if t != t {
+        return 0;
+    }
+    digits(f32::to_bits(t))
+}
+
+// The cell number of a coordinate: the guess if it stands there, since that takes no division; else by the cell rule.
+fn near_cell(size: u64, rate: f32, x: f32) -> i32
+    requires { ⌜ SizeInDomain size × T (inDomain x) ⌝ }
+    ensures { λ r. ⌜ r ≡ cellOf (pos size) x ⌝ }
+{
+    let c = guess(rate, x);
+    if cells::stands(size, x, c) {
+        return c;
+    }
+    cells::cell_id(size as i32, x)
+}
+
+// Whether both corners of a box stand in cell c; the upper one is asked first, since it tells soonest that they do not.
+fn one_cell(size: u64, b: Aabb, c: Cell) -> bool
+    requires { ⌜ SizeInDomain size × T (aabbInDomain b) ⌝ }
+    ensures { λ r. ⌜ (r ≡ true → (lowCell size b ≡ c) × (highCell size b ≡ c)) ⌝ }
+{
+    let ll = b.ll;
+    let ur = b.ur;
+    if !cells::stands(size, ur.x, c.x) {
+        return false;
+    }
+    if !cells::stands(size, ll.x, c.x) {
+        return false;
+    }
+    if !cells::stands(size, ur.y, c.y) {
+        return false;
+    }
+    cells::stands(size, ll.y, c.y)
+}
+
+// The way of a box through its cells: its first key, its last, the step from the end of a row to the next, and the item. The step is 0 if they are too many.
+fn way_of(s: usize, a: Cell, b: Cell) -> [u64; 4]
+    requires { ⌜ (s < 256) × Upright a b ⌝ }
+    ensures { λ r. ⌜ Given (cellsIn a b ≤ mostCells) (wayOf s (spanBy a b)) r ⌝ }
+{
+    let low = cells::key_of(a);
+    let high = cells::key_of(b);
+    let wide = cells::column_of(high) - cells::column_of(low);
+    let tall = cells::row_of(high) - cells::row_of(low);
+    let cells = (wide + 1) * (tall + 1);
+    if 4096 < cells {
+        return [0, 0, 0, 0];
+    }
+    let item = item_of(s, cells == 1);
+    [low, high, 4294967296 - wide, item]
+}
+
+// The way of a box of the domain.
+fn wide_way(size: u64, rate: f32, s: usize, b: Aabb) -> [u64; 4]
+    requires { ⌜ (s < 256) × SizeInDomain size × T (aabbInDomain b) ⌝ }
+    ensures { λ r. ⌜ Given (Tables.covers size b ≤ mostCells) (wayOf s (spanOf size b)) r ⌝ }
+{
+    let ll = b.ll;
+    let ur = b.ur;
+    let lx = near_cell(size, rate, ll.x);
+    let ly = near_cell(size, rate, ll.y);
+    let hx = near_cell(size, rate, ur.x);
+    let hy = near_cell(size, rate, ur.y);
+    let low = Cell { x: lx, y: ly };
+    let high = Cell { x: hx, y: hy };
+    way_of(s, low, high)
+}
+
+// The way of an occupied slot; its step is 0 if the box is not one of a grid. A box of one cell needs no count.
+fn live_way(reals: &[[f32; 4]], size: u64, rate: f32, s: usize) -> [u64; 4]
     requires { ⌜ (s < length (now reals)) × (s < 256) × SizeInDomain size ⌝ }
     ensures { λ r. ⌜ Given (BoxOk size (aabbAt (was reals) s)) (wayOf s (spanOf size (aabbAt (was reals) s))) r ⌝ }
 {
@@ -127,15 +203,28 @@ fn live_way(reals: &[[f32; 4]], size: u64, s: usize) -> [u64; 4]
     if !geometry::aabb_in_domain(b) {
         return [0, 0, 0, 0];
     }
-    let p = span_of(size, b);
-    if 4096 < p.cells {
-        return [0, 0, 0, 0];
+    let ll = b.ll;
+    let c = Cell {
+        x: guess(rate, ll.x),
+        y: guess(rate, ll.y),
+    };
+    if one_cell(size, b, c) {
+        let k = cells::key_of(c);
+        let item = item_of(s, true);
+        return [k, k, 4294967296, item];
     }
-    way_of(s, p)
+    wide_way(size, rate, s, b)
 }
 
 // The way of slot s, on which no key comes if it is not occupied; its step is 0 if the slot does not hold.
-fn slot_way(nums: &[[u32; 4]], reals: &[[f32; 4]], map: &[u64], size: u64, s: usize) -> [u64; 4]
+fn slot_way(
+    nums: &[[u32; 4]],
+    reals: &[[f32; 4]],
+    map: &[u64],
+    size: u64,
+    rate: f32,
+    s: usize,
+) -> [u64; 4]
     requires { ⌜ (s < length (now nums)) × (s < length (now reals)) × (s < 256) × SizeInDomain size × (head + s / 64 < length (now map)) ⌝ }
     ensures { λ r. ⌜ Given (SlotOk (was nums) (was reals) (was map) size s) (wayAt (was nums) (was reals) size s) r ⌝ }
 {
@@ -147,7 +236,7 @@ fn slot_way(nums: &[[u32; 4]], reals: &[[f32; 4]], map: &[u64], size: u64, s: us
     if n[1] != 1 {
         return [1, 0, 1, 0];
     }
-    live_way(reals, size, s)
+    live_way(reals, size, rate, s)
 }
 
 // Whether every slot holds; the ways are then those of the slots.
@@ -157,9 +246,10 @@ fn slots_ok(nums: &[[u32; 4]], reals: &[[f32; 4]], map: &[u64], ways: &mut [[u64
     ensures ways { λ b. ⌜ (b ≡ true → Ways (was nums) (was reals) (getD (was map) 0 0) (is ways) (length (was nums))) ⌝ }
 {
     let size = map[0];
+    let rate = rate_of(size);
     let mut i = 0;
     while i < nums.len() {
-        let way = slot_way(nums, reals, map, size, i);
+        let way = slot_way(nums, reals, map, size, rate, i);
         if way[2] == 0 {
             return false;
         }

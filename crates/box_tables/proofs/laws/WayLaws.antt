@@ -74,10 +74,10 @@ module _ (size : ℕ) (hs : 1 ≤ size) (b : Aabb) (h : T (aabbInDomain b)) wher
   fits-high : Fits (highCell size b)
   fits-high = near-fits (highCell size b) (high-near b h size)
 
-  rises-x : upward (lowCell size b .x) ≤ upward (highCell size b .x)
+  pub rises-x : upward (lowCell size b .x) ≤ upward (highCell size b .x)
   rises-x = not-reversed (lowCell size b .x) (highCell size b .x) (fits-low .x) (fits-high .x) (corners-x b h size hs)
 
-  rises-y : upward (lowCell size b .y) ≤ upward (highCell size b .y)
+  pub rises-y : upward (lowCell size b .y) ≤ upward (highCell size b .y)
   rises-y = not-reversed (lowCell size b .y) (highCell size b .y) (fits-low .y) (fits-high .y) (corners-y b h size hs)
 
   -- the way of a box: what is to come is the keys of its range

@@ -12,14 +12,14 @@ use Rattle.box_tables.proofs.slots_ok.Statement.{statement}
 use Rattle.box_tables.proofs.slots_ok.Tie as tie
 
 abbrev Inv-loop : tie.InvT-loop
-Inv-loop nums reals map ways₀ size i₀ ways i = (i ≤ length nums) × Ways nums reals (getD map 0 0) ways i × ((s : ℕ) → s < i → SlotOk nums reals map (getD map 0 0) s)
+Inv-loop nums reals map ways₀ size rate i₀ ways i = (i ≤ length nums) × Ways nums reals (getD map 0 0) ways i × ((s : ℕ) → s < i → SlotOk nums reals map (getD map 0 0) s)
 
 abbrev μ-loop : tie.MeasureT-loop
-μ-loop nums reals map ways₀ size i₀ ways i = length nums - i
+μ-loop nums reals map ways₀ size rate i₀ ways i = length nums - i
 
 slot-way-requires : tie.Need-slot-way-requires Inv-loop μ-loop
 slot-way-requires c κs =
-    let p = c .before .before .before .before .pre .0 in
+    let p = c .before .before .before .before .before .pre .0 in
     let t = c .loop-test .taken in
     (t, omega (arith, t, p .of-reals), omega (arith, t, p .most), p .size, omega (arith, t, p .of-map))
 
@@ -31,7 +31,7 @@ returns c =
 loop-again : tie.Need-loop-again Inv-loop μ-loop
 loop-again c =
     let l = c .before .before .before .loop in
-    let s = c .before .before .before .before .before .before in
+    let s = c .before .before .before .before .before .before .before in
     let g = c .before .slot-way .ensures .some (c .if1 .left) in
     let t = c .before .before .loop-test .taken in
     (omega arith, ways-more (s .args .nums .now) (s .args .reals .now) (getD (s .args .map .now) 0 0) (l .ways) (l .i) (c .before .slot-way .result) (omega (arith, t, s .pre .0 .most)) (g .1) (l .inv .1), below-more _ _ (l .inv .2) (g .0))
@@ -39,7 +39,7 @@ loop-again c =
 returns-2 : tie.Need-returns-2 Inv-loop μ-loop
 returns-2 c =
     let l = c .before .before .loop in
-    let a = c .before .before .before .before .before .args in
+    let a = c .before .before .before .before .before .before .args in
     let q : l .i ≡ length (a .nums .now) = omega (arith, l .inv .0, c .before .loop-test .left) in (
       record {
         yes = λ e. record { each = λ s h. l .inv .2 s (omega (arith, h, q)); past = c .past-ok .ensures .yes e };
@@ -55,14 +55,15 @@ slots-ok-spec =
     Inv-loop
     μ-loop
     (λ c. omega (arith, c .before .before .pre .0 .of-map))
-    (λ c. (omega arith, record { long = c .before .before .pre .1; are = below-none _ }, below-none _))
+    (λ c κs. c .before .before .pre .0 .size)
+    (λ c. (omega arith, record { long = c .before .before .before .pre .1; are = below-none _ }, below-none _))
     slot-way-requires
     (λ c. search needs)
     returns
-    (λ c. omega (arith, c .before .before .loop-test .taken, c .before .before .before .before .before .before .pre .0 .most))
-    (λ c. omega (arith, c .before .before .loop-test .taken, c .before .before .before .before .before .before .pre .0 .most))
+    (λ c. omega (arith, c .before .before .loop-test .taken, c .before .before .before .before .before .before .before .pre .0 .most))
+    (λ c. omega (arith, c .before .before .loop-test .taken, c .before .before .before .before .before .before .before .pre .0 .most))
     (λ c. omega arith)
     (λ c. omega arith)
     loop-again
-    (λ c κs. c .before .before .before .before .pre .0 .of-map)
+    (λ c κs. c .before .before .before .before .before .pre .0 .of-map)
     returns-2)

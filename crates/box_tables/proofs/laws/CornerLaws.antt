@@ -1,0 +1,126 @@
+-- The corners of a box: their coordinates are in the domain, their cells are not reversed; how many cells there are between two corners by their
+-- keys; and the way of a box of one cell. Assumes nothing.
+use Prim.Native.Nat.{ℕ, _+_, _-_, _*_, _≤_, _<_}
+use mathlib.Core.Path.{_≡_, sym, ap, ap₂, _∙_, subst}
+use mathlib.Core.Bool.{Bool, true, _&&_}
+use mathlib.Core.List.{List, [], _∷_}
+use native.Mathlib.Omega.{arith}
+use lib.Dec.{T, eqb}
+use lib.IntN.{ℤ}
+use lib.Signed.{mag}
+use lib.Ieee.{le}
+use lib.Ieee.Fits.{and-l, and-r}
+use borrow.Author.Tests.{eq-eqb}
+use Rattle.geometry.specs.declared.Aabb.{Aabb}
+use Rattle.geometry.specs.Domain.{inDomain, positionInDomain, aabbInDomain}
+use Rattle.geometry.proofs.laws.DomainLaws.{position-parts}
+use Rattle.cells.specs.declared.Cell.{Cell}
+use Rattle.cells.specs.Numbers.{Near, Fits, near-fits}
+use Rattle.cells.specs.Range.{countFrom, cellsIn}
+use Rattle.cells.specs.Key.{upward, keyOf, columnOf, lineOf}
+use Rattle.cells.proofs.laws.KeyLaws.{upward-lt, key-column, key-row}
+use Rattle.cells.proofs.laws.RangeKeyLaws.{count-up, near-cells}
+use Rattle.box_tables.specs.Tables.{lowCell, highCell, covers, mostCells, itemOf}
+use Rattle.box_tables.specs.Way.{spanOf, spanBy, Upright, wayOf}
+use Rattle.box_tables.specs.Check.{Given}
+use Rattle.box_tables.proofs.laws.BoxLaws.{low-near, high-near}
+use Rattle.box_tables.proofs.laws.WayLaws.{rises-x, rises-y}
+
+-- ---- a box of the domain
+module _ (b : Aabb) (h : T (aabbInDomain b)) where
+  corners : T (positionInDomain (b .ll) && positionInDomain (b .ur))
+  corners = and-l (positionInDomain (b .ll) && positionInDomain (b .ur)) (le (b .ll .x) (b .ur .x) && le (b .ll .y) (b .ur .y)) h
+
+  pub low-domain : T (inDomain (b .ll .x)) × T (inDomain (b .ll .y))
+  low-domain = position-parts (b .ll) (and-l (positionInDomain (b .ll)) (positionInDomain (b .ur)) corners)
+
+  pub high-domain : T (inDomain (b .ur .x)) × T (inDomain (b .ur .y))
+  high-domain = position-parts (b .ur) (and-r (positionInDomain (b .ll)) (positionInDomain (b .ur)) corners)
+
+  pub corners-upright : (size : ℕ) → 1 ≤ size → Upright (lowCell size b) (highCell size b)
+  corners-upright size s = record { low = low-near b h size; high = high-near b h size; x = rises-x size s b h; y = rises-y size s b h }
+
+-- ---- corners known by equations
+module _ (a b c d : Cell) (e : a ≡ c) (f : b ≡ d) where
+  pub upright-by : Upright c d → Upright a b
+  upright-by u = subst (λ (k : Cell). Upright k b) (sym e) (subst (λ (k : Cell). Upright c k) (sym f) u)
+
+  pub given-by : (s : ℕ) (way : List ℕ) → Given (cellsIn a b ≤ mostCells) (wayOf s (spanBy a b)) way → Given (cellsIn c d ≤ mostCells) (wayOf s (spanBy c d)) way
+  given-by s way g =
+      subst (λ (k : Cell). Given (cellsIn c k ≤ mostCells) (wayOf s (spanBy c k)) way) f
+      (subst (λ (k : Cell). Given (cellsIn k b ≤ mostCells) (wayOf s (spanBy k b)) way) e g)
+
+-- ---- the cells between two corners, where their keys, columns and lines are known by equations
+module _ (a b : Cell) (u : Upright a b) (l h ch cl rh rl : ℕ) (el : l ≡ keyOf a) (eh : h ≡ keyOf b) (ech : ch ≡ columnOf h) (ecl : cl ≡ columnOf l) (erh : rh ≡ lineOf h) (erl : rl ≡ lineOf l) where
+  fa : Fits a
+  fa = near-fits a (u .low)
+
+  fb : Fits b
+  fb = near-fits b (u .high)
+
+  column-low : cl ≡ upward (a .x)
+  column-low = ecl ∙ ap columnOf el ∙ key-column a fa
+
+  column-high : ch ≡ upward (b .x)
+  column-high = ech ∙ ap columnOf eh ∙ key-column b fb
+
+  row-low : rl ≡ upward (a .y)
+  row-low = erl ∙ ap lineOf el ∙ key-row a fa
+
+  row-high : rh ≡ upward (b .y)
+  row-high = erh ∙ ap lineOf eh ∙ key-row b fb
+
+  pub wide-some : cl ≤ ch
+  wide-some = omega (arith, column-low, column-high, u .x)
+
+  pub tall-some : rl ≤ rh
+  tall-some = omega (arith, row-low, row-high, u .y)
+
+  pub wide-most : ch - cl ≤ 4294967295
+  wide-most = omega (arith, column-high, upward-lt (b .x) (fb .x))
+
+  pub tall-most : rh - rl ≤ 4294967295
+  tall-most = omega (arith, row-high, upward-lt (b .y) (fb .y))
+
+  columns : ch - cl + 1 ≡ countFrom (a .x) (b .x)
+  columns = omega (arith, column-low, column-high, count-up (a .x) (b .x) (fa .x) (fb .x) (u .x))
+
+  rows : rh - rl + 1 ≡ countFrom (a .y) (b .y)
+  rows = omega (arith, row-low, row-high, count-up (a .y) (b .y) (fa .y) (fb .y) (u .y))
+
+  pub many : (ch - cl + 1) * (rh - rl + 1) ≡ cellsIn a b
+  unfolding cellsIn
+  many = ap₂ _*_ columns rows
+
+  pub many-most : (ch - cl + 1) * (rh - rl + 1) ≤ 70368777732100
+  many-most = subst (λ (n : ℕ). n ≤ 70368777732100) (sym many) (near-cells a b (u .low) (u .high))
+
+  jump-is : 4294967296 - (ch - cl) ≡ 4294967296 + columnOf (keyOf a) - columnOf (keyOf b)
+  jump-is = omega (arith, column-low, column-high, key-column a fa, key-column b fb, u .x, upward-lt (b .x) (fb .x))
+
+  pub way-by : (s i : ℕ) → i ≡ itemOf s (eqb ((ch - cl + 1) * (rh - rl + 1)) 1) → l ∷ h ∷ (4294967296 - (ch - cl)) ∷ i ∷ [] ≡ wayOf s (spanBy a b)
+  way-by s i ei =
+      let item = ei ∙ ap (λ (n : ℕ). itemOf s (eqb n 1)) many in
+      λ z. el z ∷ eh z ∷ jump-is z ∷ item z ∷ []
+
+-- ---- a box of one cell
+count-one : (z : ℤ) → mag z < 2147483648 → countFrom z z ≡ 1
+count-one z h = omega (arith, count-up z z h h (omega arith))
+
+one-in : (c : Cell) → Fits c → cellsIn c c ≡ 1
+unfolding cellsIn
+one-in c f = ap₂ _*_ (count-one (c .x) (f .x)) (count-one (c .y) (f .y))
+
+module _ (size : ℕ) (b : Aabb) (h : T (aabbInDomain b)) (v : Cell) (l : lowCell size b ≡ v) (g : highCell size b ≡ v) where
+  pub one-covers : covers size b ≡ 1
+  one-covers = ap₂ cellsIn l g ∙ one-in v (near-fits v (subst Near l (low-near b h size)))
+
+  one-jump : 4294967296 ≡ 4294967296 + columnOf (keyOf (lowCell size b)) - columnOf (keyOf (highCell size b))
+  one-jump = omega (arith, ap (λ (c : Cell). columnOf (keyOf c)) (l ∙ sym g))
+
+  pub one-way : (s k i : ℕ) → k ≡ keyOf v → i ≡ itemOf s true → k ∷ k ∷ 4294967296 ∷ i ∷ [] ≡ wayOf s (spanOf size b)
+  one-way s k i ek ei =
+      let low = ek ∙ ap keyOf (sym l) in
+      let high = ek ∙ ap keyOf (sym g) in
+      let item = ei ∙ ap (itemOf s) (sym (eq-eqb (covers size b) 1 one-covers)) in
+      λ z. low z ∷ high z ∷ one-jump z ∷ item z ∷ []
