@@ -1,43 +1,28 @@
 -- What the proofs of box_tables share. Assumes nothing.
-use Prim.Native.Nat.{ℕ, _+_, _-_, _/_, _≤_, _<_}
+use Prim.Native.Nat.{ℕ, _+_, _/_, _<_}
 use mathlib.Core.Path.{_≡_, sym, ap, _∙_, subst}
 use mathlib.Core.Bool.{Bool, true, false}
 use mathlib.Core.List.{List, [], _∷_}
 use native.Mathlib.Omega.{arith}
-use lib.Dec.{T, eqb}
+use lib.Dec.{T}
 use lib.Ieee.{Float}
-use lib.ListN.{length, getD, set, length-set}
+use lib.ListN.{replicate, set, length-set, length-replicate, getD-replicate}
 use lib.Seq.{getD-set-same, getD-set-other}
-use borrow.Author.Count.{below-more}
-use borrow.Author.Tests.{eq-eqb, ne-eqb}
+use borrow.Author.Count.{below-none, below-more}
 use Rattle.basics.specs.Says.{Says, says-same}
 use Rattle.geometry.specs.declared.Aabb.{Aabb}
 use Rattle.geometry.specs.Domain.{aabbInDomain}
-use Rattle.cells.specs.Key.{keyOf, columnOf}
-use Rattle.storage.specs.Packed.{first, second}
+use Rattle.cells.specs.Key.{columnOf}
 use Rattle.box_tables.specs.declared.Span.{Span}
-use Rattle.box_tables.specs.Tables.{Tables, itemOf}
+use Rattle.box_tables.specs.Tables.{Tables}
 use Rattle.box_tables.specs.Holds.{Holds}
 use Rattle.box_tables.specs.Decide.{holds, holds-says}
-use Rattle.box_tables.specs.Way.{nextIn, lastIn, jumpIn, itemIn, stepped, wayOf, wayAt}
-use Rattle.box_tables.specs.Check.{BoxOk, Ways, Given, IsNext, Passes}
-use Rattle.box_tables.proofs.laws.PassLaws.{Going, going-more, going-next}
-
--- ---- a way, where its numbers are known by equations
-pub way-is : (s : ℕ) (p : Span) (l h cl ch i : ℕ) → l ≡ keyOf (p .low) → h ≡ keyOf (p .high) → cl ≡ columnOf l → ch ≡ columnOf h → i ≡ itemOf s (eqb (p .cells) 1) → l ∷ h ∷ (4294967296 + cl - ch) ∷ i ∷ [] ≡ wayOf s p
-way-is s p l h cl ch i el eh ecl ech ei =
-    let a = ecl ∙ ap columnOf el in
-    let b = ech ∙ ap columnOf eh in
-    λ z. el z ∷ eh z ∷ (4294967296 + a z - b z) ∷ ei z ∷ []
+use Rattle.box_tables.specs.Way.{nextIn, lastIn, jumpIn, itemIn, trackOf, wayOf, wayAt}
+use Rattle.box_tables.specs.Check.{BoxOk, rowAt, Long, Ways, Given}
+use Rattle.box_tables.proofs.laws.WayLaws.{way-slot}
 
 pub jump-some : (s : ℕ) (p : Span) → jumpIn (wayOf s p) ≡ 0 → ⊥
 jump-some s p e = omega arith
-
-pub step-up : (way : List ℕ) → columnOf (nextIn way) ≡ columnOf (lastIn way) → (nextIn way + jumpIn way) ∷ lastIn way ∷ jumpIn way ∷ itemIn way ∷ [] ≡ stepped way
-step-up way e = rw (eq-eqb (columnOf (nextIn way)) (columnOf (lastIn way)) e)
-
-pub step-right : (way : List ℕ) → (columnOf (nextIn way) ≡ columnOf (lastIn way) → ⊥) → (nextIn way + 1) ∷ lastIn way ∷ jumpIn way ∷ itemIn way ∷ [] ≡ stepped way
-step-right way e = rw (ne-eqb (columnOf (nextIn way)) (columnOf (lastIn way)) e)
 
 -- ---- a way that is given, or none
 pub given-none : {P : Type 0} {want : List ℕ} (way : List ℕ) → jumpIn way ≡ 0 → (P → ⊥) → Given P want way
@@ -53,24 +38,59 @@ in-domain b r e t = subst T (sym t ∙ e) tt
 pub box-refused : (size : ℕ) (b q : Aabb) (r : Bool) → b ≡ q → r ≡ aabbInDomain b → r ≡ false → BoxOk size q → ⊥
 box-refused size b q r e f n h = subst T (ap aabbInDomain (sym e) ∙ sym f ∙ n) (h .in-domain)
 
--- ---- the ways of one slot more
-pub ways-more : (nums : List (List ℕ)) (reals : List (List Float)) (size : ℕ) (ways : List (List ℕ)) (i : ℕ) (way : List ℕ) → i < 256 → way ≡ wayAt nums reals size i → Ways nums reals size ways i → Ways nums reals size (set ways i way) (i + 1)
-ways-more nums reals size ways i way l e w =
+-- ---- the ways of one slot more, where its item and its last column are known by equations
+module _ (nexts stops jumps ends : List ℕ) (k next stop jump end : ℕ) where
+  abbrev after : ℕ → List ℕ
+  after m = rowAt (set nexts k next) (set stops k stop) (set jumps k jump) (set ends k end) m
+
+  row-same : Long nexts stops jumps ends → k < 512 → after k ≡ next ∷ stop ∷ jump ∷ end ∷ []
+  row-same g h =
+      let a = getD-set-same nexts k next 0 (omega (arith, g .of-nexts)) in
+      let b = getD-set-same stops k stop 0 (omega (arith, g .of-stops)) in
+      let c = getD-set-same jumps k jump 0 (omega (arith, g .of-jumps)) in
+      let d = getD-set-same ends k end 0 (omega (arith, g .of-ends)) in
+      λ z. a z ∷ b z ∷ c z ∷ d z ∷ []
+
+  row-other : (m : ℕ) → (m ≡ k → ⊥) → after m ≡ rowAt nexts stops jumps ends m
+  row-other m n =
+      let a = getD-set-other nexts k m next 0 n in
+      let b = getD-set-other stops k m stop 0 n in
+      let c = getD-set-other jumps k m jump 0 n in
+      let d = getD-set-other ends k m end 0 n in
+      λ z. a z ∷ b z ∷ c z ∷ d z ∷ []
+
+  long-more : Long nexts stops jumps ends → Long (set nexts k next) (set stops k stop) (set jumps k jump) (set ends k end)
+  long-more g = record { of-nexts = length-set nexts k next ∙ g .of-nexts; of-stops = length-set stops k stop ∙ g .of-stops; of-jumps = length-set jumps k jump ∙ g .of-jumps; of-ends = length-set ends k end ∙ g .of-ends }
+
+module _ (nums : List (List ℕ)) (reals : List (List Float)) (size : ℕ) (nexts stops jumps ends : List ℕ) (i : ℕ) (way : List ℕ) (e : way ≡ wayAt nums reals size i) where
+  pub item-of-slot : itemIn way / 2 ≡ i
+  item-of-slot = ap (λ (w : List ℕ). itemIn w / 2) e ∙ way-slot nums reals size i
+
+  pub ways-more : (k stop : ℕ) → k ≡ itemIn way → stop ≡ columnOf (lastIn way) → i < 256 → Ways nums reals size nexts stops jumps ends i → Ways nums reals size (set nexts k (nextIn way)) (set stops k stop) (set jumps k (jumpIn way)) (set ends k (lastIn way + jumpIn way)) (i + 1)
+  ways-more k stop own col l w =
+      let is : k ≡ itemIn (wayAt nums reals size i) = own ∙ ap itemIn e in
+      let half : k / 2 ≡ i = ap (λ (n : ℕ). n / 2) own ∙ item-of-slot in
+      record {
+        long = long-more nexts stops jumps ends k (nextIn way) stop (jumpIn way) (lastIn way + jumpIn way) (w .long);
+        are = below-more (λ s. after nexts stops jumps ends k (nextIn way) stop (jumpIn way) (lastIn way + jumpIn way) (itemIn (wayAt nums reals size s)) ≡ trackOf (wayAt nums reals size s)) i
+            (λ s h. row-other nexts stops jumps ends k (nextIn way) stop (jumpIn way) (lastIn way + jumpIn way) (itemIn (wayAt nums reals size s)) (λ q. omega (arith, way-slot nums reals size s, ap (λ (n : ℕ). n / 2) q, half)) ∙ w .are s h)
+            (ap (after nexts stops jumps ends k (nextIn way) stop (jumpIn way) (lastIn way + jumpIn way)) (sym is)
+            ∙ row-same nexts stops jumps ends k (nextIn way) stop (jumpIn way) (lastIn way + jumpIn way) (w .long) (omega (arith, half))
+            ∙ ap (λ (n : ℕ). nextIn way ∷ n ∷ jumpIn way ∷ (lastIn way + jumpIn way) ∷ []) col ∙ ap trackOf e);
+        blank = λ m n h. row-other nexts stops jumps ends k (nextIn way) stop (jumpIn way) (lastIn way + jumpIn way) m (λ q. n i (omega arith) (sym is ∙ sym q)) ∙ w .blank m (λ s g q. n s (omega arith) q) h;
+      }
+
+-- before the first slot
+pub ways-none : (nums : List (List ℕ)) (reals : List (List Float)) (size : ℕ) → Ways nums reals size (replicate 512 0) (replicate 512 0) (replicate 512 1) (replicate 512 0) 0
+ways-none nums reals size =
     record {
-      long = length-set ways i way ∙ w .long;
-      are = below-more (λ s. getD (set ways i way) s [] ≡ wayAt nums reals size s) i (λ s h. getD-set-other ways i s way [] (λ q. omega arith) ∙ w .are s h) (getD-set-same ways i way [] (omega (arith, w .long)) ∙ e);
+      long = record { of-nexts = length-replicate {A = ℕ} 512 0; of-stops = length-replicate {A = ℕ} 512 0; of-jumps = length-replicate {A = ℕ} 512 1; of-ends = length-replicate {A = ℕ} 512 0 };
+      are = below-none _;
+      blank = λ k n h.
+          let a = getD-replicate {A = ℕ} 512 k 0 0 h in
+          let b = getD-replicate {A = ℕ} 512 k 1 0 h in
+          λ z. a z ∷ a z ∷ b z ∷ a z ∷ [];
     }
-
--- ---- the turn of an entry, where its slot and the way one key on are known by equations
-module _ (pool ways₀ ways : List (List ℕ)) (n j before s : ℕ) (e : s ≡ second pool j / 2) (g : Going pool ways₀ ways n j before) where
-  pub turn-more : (way : List ℕ) → way ≡ stepped (getD ways s []) → n ≤ 256 → j < length pool → s < n → IsNext (getD ways s []) before (first pool j) (second pool j) → Going pool ways₀ (set ways s way) n (j + 1) (first pool j)
-  turn-more way f most h i x =
-      subst (λ (w : List ℕ). Going pool ways₀ (set ways s w) n (j + 1) (first pool j)) (sym f)
-      (subst (λ (k : ℕ). Going pool ways₀ (set ways k (stepped (getD ways k []))) n (j + 1) (first pool j)) (sym e)
-      (going-more pool ways₀ ways n j before g most h (rw e at i) (subst (λ (k : ℕ). IsNext (getD ways k []) before (first pool j) (second pool j)) e x)))
-
-  pub turn-next : (used : ℕ) → used ≤ length pool → Passes pool ways₀ n used → j < used → IsNext (getD ways s []) before (first pool j) (second pool j)
-  turn-next used room v l = subst (λ (k : ℕ). IsNext (getD ways k []) before (first pool j) (second pool j)) (sym e) (going-next pool ways₀ ways n j before g used room v l)
 
 -- what says that tables hold a grid is `holds`
 pub said-holds : (t : Tables) (b : Bool) → Says b (Holds t) → b ≡ holds t

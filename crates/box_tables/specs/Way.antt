@@ -1,7 +1,8 @@
 -- The way of a box through the cells that it covers, as the check goes it: the key that comes next, the last key, the step from the end of
 -- a row to the start of the row above, and the item. Assumes nothing.
-use Prim.Native.Nat.{ℕ, _+_, _-_, _<_, _≤_}
+use Prim.Native.Nat.{ℕ, _+_, _-_, _≤_}
 use mathlib.Core.Path.{_≡_}
+use mathlib.Core.Bool.{false}
 use mathlib.Core.List.{List, [], _∷_}
 use lib.Dec.{eqb}
 use lib.Ieee.{Float}
@@ -30,23 +31,29 @@ itemIn way = getD way 3 0
 
 -- ---- one key on: the next number, or at the last column the start of the row above
 abbrev pub behind : ℕ → ℕ → ℕ → ℕ
-behind last jump k = pick (eqb (columnOf k) (columnOf last)) (k + jump) (k + 1)
+behind stop jump k = pick (eqb (columnOf k) stop) (k + jump) (k + 1)
 
-abbrev pub stepped : List ℕ → List ℕ
-stepped way = behind (lastIn way) (jumpIn way) (nextIn way) ∷ lastIn way ∷ jumpIn way ∷ itemIn way ∷ []
+-- these keys are what is to come from k on, up to the end
+abbrev pub ToCome : ℕ → ℕ → ℕ → ℕ → List ℕ → Type 0
+ToCome stop jump end k [] = k ≡ end
+ToCome stop jump end k (x ∷ l) = (x ≡ k) × ToCome stop jump end (behind stop jump k) l
 
--- these keys are what is to come from k on
-abbrev pub ToCome : ℕ → ℕ → ℕ → List ℕ → Type 0
-ToCome last jump k [] = last < k
-ToCome last jump k (x ∷ l) = (x ≡ k) × (k ≤ last) × ToCome last jump (behind last jump k) l
+-- ---- a way as the pass over the entries goes it: the key that comes next, the last column, the step, and the end, which is the key behind the last
+abbrev pub trackOf : List ℕ → List ℕ
+trackOf way = nextIn way ∷ columnOf (lastIn way) ∷ jumpIn way ∷ (lastIn way + jumpIn way) ∷ []
 
-abbrev pub OnWay : List ℕ → List ℕ → Type 0
-OnWay way l = ToCome (lastIn way) (jumpIn way) (nextIn way) l
+abbrev pub OnTrack : List ℕ → List ℕ → Type 0
+OnTrack row l = ToCome (getD row 1 0) (getD row 2 0) (getD row 3 0) (getD row 0 0) l
 
--- a step from a key up to the last fits 64 bits: the last is below 2 ^ 64 - 2 ^ 34
+-- keys from which a whole pool of steps fits 64 bits, and a step that goes on
+abbrev pub keyMost : ℕ
+keyMost = 10376293541461622784
+
 pub record Bounded (way : List ℕ) : Type 0 where
-  pub last : lastIn way < 18446744056529682432
-  pub jump : jumpIn way ≤ 8589934592
+  pub next : nextIn way ≤ keyMost
+  pub last : lastIn way ≤ keyMost
+  pub jump-some : 1 ≤ jumpIn way
+  pub jump : jumpIn way ≤ 4294967296
 
 -- ---- the range of a box: its corner cells and how many cells there are
 abbrev pub spanOf : ℕ → Aabb → Span
@@ -67,8 +74,8 @@ abbrev pub wayOf : ℕ → Span → List ℕ
 wayOf s p = keyOf (p .low) ∷ keyOf (p .high) ∷ (4294967296 + columnOf (keyOf (p .low)) - columnOf (keyOf (p .high))) ∷ itemOf s (eqb (p .cells) 1) ∷ []
 
 -- the way of a slot that is not occupied: no key comes
-abbrev pub noWay : List ℕ
-noWay = 1 ∷ 0 ∷ 1 ∷ 0 ∷ []
+abbrev pub noWay : ℕ → List ℕ
+noWay s = 1 ∷ 0 ∷ 1 ∷ itemOf s false ∷ []
 
 abbrev pub wayAt : List (List ℕ) → List (List Float) → ℕ → ℕ → List ℕ
-wayAt nums reals size s = pick (eqb (phaseAt nums s) live) (wayOf s (spanOf size (aabbAt reals s))) noWay
+wayAt nums reals size s = pick (eqb (phaseAt nums s) live) (wayOf s (spanOf size (aabbAt reals s))) (noWay s)

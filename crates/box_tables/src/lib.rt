@@ -1,7 +1,8 @@
 // The tables of a box grid, and the check that they hold one.
 ghost use mathlib.Core.Path.{_≡_};
 ghost use mathlib.Core.Bool.{true, false};
-ghost use Prim.Native.Nat.{_+_, _/_, _≤_, _<_};
+ghost use mathlib.Core.List.{List};
+ghost use Prim.Native.Nat.{ℕ, _+_, _/_, _≤_, _<_};
 ghost use lib.Dec.{T};
 ghost use lib.IntN.{pos};
 ghost use lib.ListN.{length, getD};
@@ -11,13 +12,14 @@ ghost use Rattle.geometry.specs.Domain.{inDomain, aabbInDomain};
 ghost use Rattle.cells.specs.Size.{SizeInDomain};
 ghost use Rattle.cells.specs.CellRule.{cellOf};
 ghost use Rattle.cells.specs.Range.{cellsIn};
+ghost use Rattle.cells.specs.Key.{columnOf};
 ghost use Rattle.slots.specs.Map.{head};
 ghost use Rattle.box_tables.specs.Lent.{before};
 ghost use Rattle.box_tables.specs.Tables as Tables;
 ghost use Rattle.box_tables.specs.Tables.{Lengths, aabbAt, lowCell, highCell, mostCells, itemOf};
 ghost use Rattle.box_tables.specs.Decide.{holds};
-ghost use Rattle.box_tables.specs.Way.{nextIn, lastIn, stepped, Bounded, spanOf, spanBy, Upright, wayOf, wayAt};
-ghost use Rattle.box_tables.specs.Check.{Counts, BoxOk, SlotOk, SlotsOk, Room, Ways, Given, IsNext, Met, Passes, Ready};
+ghost use Rattle.box_tables.specs.Way.{behind, spanOf, spanBy, Upright, wayOf, wayAt};
+ghost use Rattle.box_tables.specs.Check.{Counts, BoxOk, SlotOk, SlotsOk, Room, Ways, Given, Passes, Ready, Gone, Met};
 use cells::Cell;
 use geometry::Aabb;
 use geometry::Position;
@@ -234,16 +236,25 @@ fn slot_way(
         return [0, 0, 0, 0];
     }
     if n[1] != 1 {
-        return [1, 0, 1, 0];
+        let item = item_of(s, false);
+        return [1, 0, 1, item];
     }
     live_way(reals, size, rate, s)
 }
 
-// Whether every slot holds; the ways are then those of the slots.
-fn slots_ok(nums: &[[u32; 4]], reals: &[[f32; 4]], map: &[u64], ways: &mut [[u64; 4]; 256]) -> bool
-    requires { ⌜ Room (now nums) (now reals) (now map) × (length (now ways) ≡ 256) ⌝ }
+// Whether every slot holds; the ways are then those of the slots, each at its item.
+fn slots_ok(
+    nums: &[[u32; 4]],
+    reals: &[[f32; 4]],
+    map: &[u64],
+    nexts: &mut [u64; 512],
+    stops: &mut [u32; 512],
+    jumps: &mut [u64; 512],
+    ends: &mut [u64; 512],
+) -> bool
+    requires { ⌜ Room (now nums) (now reals) (now map) × Ways (now nums) (now reals) (getD (now map) 0 0) (now nexts) (now stops) (now jumps) (now ends) 0 ⌝ }
     ensures says { λ b. ⌜ Says b (SlotsOk (was nums) (was reals) (was map)) ⌝ }
-    ensures ways { λ b. ⌜ (b ≡ true → Ways (was nums) (was reals) (getD (was map) 0 0) (is ways) (length (was nums))) ⌝ }
+    ensures ways { λ b. ⌜ (b ≡ true → Ways (was nums) (was reals) (getD (was map) 0 0) (is nexts) (is stops) (is jumps) (is ends) (length (was nums))) ⌝ }
 {
     let size = map[0];
     let rate = rate_of(size);
@@ -253,80 +264,99 @@ fn slots_ok(nums: &[[u32; 4]], reals: &[[f32; 4]], map: &[u64], ways: &mut [[u64
         if way[2] == 0 {
             return false;
         }
-        ways[i] = way;
+        let k = basics::index_of(way[3]);
+        let stop = stop_of(way[1]);
+        nexts[k] = way[0];
+        stops[k] = stop;
+        jumps[k] = way[2];
+        ends[k] = way[1] + way[2];
         i += 1;
     }
     slots::past_ok(map, nums.len())
 }
 
-// Whether an entry is the next on a way, and not before the last one that was passed.
-fn is_next(way: [u64; 4], before: u64, key: u64, item: u64) -> bool
-    ensures { λ b. ⌜ Says b (IsNext way before key item) ⌝ }
+// The column of a key.
+fn stop_of(key: u64) -> u32
+    ensures { λ r. ⌜ r ≡ columnOf key ⌝ }
 {
-    if key < before {
-        return false;
-    }
-    if item != way[3] {
-        return false;
-    }
-    if key != way[0] {
-        return false;
-    }
-    way[0] <= way[1]
+    cells::column_of(key) as u32
 }
 
-// The way, one key on.
-fn step_on(way: [u64; 4]) -> [u64; 4]
-    requires { ⌜ Bounded way × (nextIn way ≤ lastIn way) ⌝ }
-    ensures { λ r. ⌜ r ≡ stepped way ⌝ }
+// The key behind k on a way.
+fn next_on(stop: u32, jump: u64, k: u64) -> u64
+    requires { ⌜ k + jump + 1 < 18446744073709551616 ⌝ }
+    ensures { λ r. ⌜ r ≡ behind stop jump k ⌝ }
 {
-    let k = way[0];
-    let column = cells::column_of(k);
-    let end = cells::column_of(way[1]);
-    if column == end {
-        return [k + way[2], way[1], way[2], way[3]];
+    if stop_of(k) == stop {
+        return k + jump;
     }
-    [k + 1, way[1], way[2], way[3]]
+    k + 1
 }
 
-// Whether nothing is to come on the ways of n slots.
-fn all_met(ways: &[[u64; 4]; 256], n: usize) -> bool
-    requires { ⌜ n ≤ 256 ⌝ }
-    ensures { λ b. ⌜ Says b (Met (was ways) n) ⌝ }
-{
-    let mut s = 0;
-    while s < n {
-        let way = ways[s];
-        if way[0] <= way[1] {
-            return false;
-        }
-        s += 1;
-    }
-    true
-}
-
-// Whether the entries are in order, each the next on the way of its slot, and all ways are gone to their end.
-fn pool_ok(pool: &[[u64; 2]], n: usize, used: usize, ways: &mut [[u64; 4]; 256]) -> bool
-    requires { ⌜ Ready (now pool) (now ways) n used ⌝ }
-    ensures { λ b. ⌜ Says b (Passes (was pool) (was ways) n used) ⌝ }
+// How many entries are in order, each the next at its item. Past the last key of a way there are further ones: `all_met` asks for the end.
+fn pass(
+    pool: &[[u64; 2]],
+    used: usize,
+    nexts: &mut [u64; 512],
+    stops: &[u32; 512],
+    jumps: &[u64; 512],
+) -> usize
+    requires { ⌜ Ready (now pool) (now nexts) (now jumps) used ⌝ }
+    ensures gone { λ r. ⌜ (r ≡ used → Gone (was pool) (was stops) (was jumps) (was nexts) (is nexts) used) ⌝ }
+    ensures all { λ r. ⌜ ((ends : List ℕ) → Passes (was pool) (was nexts) (was stops) (was jumps) ends used → r ≡ used) ⌝ }
 {
     let mut before = 0;
     let mut j = 0;
     while j < used {
         let e = pool[j];
-        let s = basics::index_of(e[1] / 2);
-        if n <= s {
-            return false;
+        let key = e[0];
+        let i = basics::index_of(e[1]);
+        if key < before {
+            return j;
         }
-        let way = ways[s];
-        if !is_next(way, before, e[0], e[1]) {
-            return false;
+        if 512 <= i {
+            return j;
         }
-        ways[s] = step_on(way);
-        before = e[0];
+        if key != nexts[i] {
+            return j;
+        }
+        nexts[i] = next_on(stops[i], jumps[i], key);
+        before = key;
         j += 1;
     }
-    all_met(ways, n)
+    j
+}
+
+// Whether every way is at its end.
+fn all_met(nexts: &[u64; 512], ends: &[u64; 512]) -> bool
+    ensures { λ b. ⌜ Says b (Met (was nexts) (was ends) 512) ⌝ }
+{
+    let mut i = 0;
+    while i < 512 {
+        if nexts[i] != ends[i] {
+            return false;
+        }
+        i += 1;
+    }
+    true
+}
+
+// Whether the entries are in order, each the next at its item, and all ways are gone to their end.
+fn pool_ok(
+    pool: &[[u64; 2]],
+    used: usize,
+    nexts: &mut [u64; 512],
+    stops: &[u32; 512],
+    jumps: &[u64; 512],
+    ends: &[u64; 512],
+) -> bool
+    requires { ⌜ Ready (now pool) (now nexts) (now jumps) used ⌝ }
+    ensures { λ b. ⌜ Says b (Passes (was pool) (was nexts) (was stops) (was jumps) (was ends) used) ⌝ }
+{
+    if pass(pool, used, nexts, stops, jumps) != used {
+        return false;
+    }
+    all_met(nexts, ends)
 }
 
 // Whether the tables hold a grid.
@@ -340,9 +370,20 @@ pub fn check(nums: &[[u32; 4]], reals: &[[f32; 4]], map: &[u64], pool: &[[u64; 2
     if !counts_ok(map[0], used, pool.len()) {
         return false;
     }
-    let mut ways = [[1u64, 0, 1, 0]; 256];
-    if !slots_ok(nums, reals, map, &mut ways) {
+    let mut nexts = [0u64; 512];
+    let mut stops = [0u32; 512];
+    let mut jumps = [1u64; 512];
+    let mut ends = [0u64; 512];
+    if !slots_ok(
+        nums,
+        reals,
+        map,
+        &mut nexts,
+        &mut stops,
+        &mut jumps,
+        &mut ends,
+    ) {
         return false;
     }
-    pool_ok(pool, nums.len(), used, &mut ways)
+    pool_ok(pool, used, &mut nexts, &stops, &jumps, &ends)
 }

@@ -1,26 +1,28 @@
 -- The parts of the check make up what it is to hold a grid, and each follows from it. Assumes nothing.
-use Prim.Native.Nat.{ℕ, _/_, _<_}
+use Prim.Native.Nat.{ℕ, _/_, _<_, _≤_}
 use mathlib.Core.Path.{_≡_, refl, sym, ap, _∙_, subst}
+use mathlib.Core.Bool.{false}
 use mathlib.Core.Logic.{inl, inr}
 use mathlib.Core.List.{List, [], map}
 use native.Mathlib.Omega.{arith}
 use lib.Dec.{eqb}
 use lib.ListN.{length, getD}
-use Rattle.basics.specs.Says.{Decided, d-eq}
+use borrow.Author.Tests.{ne-eqb}
+use Rattle.basics.specs.Says.{Decided, d-eq, d-lt, d-and}
 use Rattle.cells.specs.Key.{keyOf}
 use Rattle.cells.specs.Range.{rangeCells}
 use Rattle.slots.specs.Slot.{live, phaseAt}
-use Rattle.storage.specs.Keyed.{All}
-use Rattle.storage.specs.Entries.{rowKey}
+use Rattle.storage.specs.Keyed.{filter}
+use Rattle.storage.specs.Entries.{rowKey, rowItem, isItem}
 use Rattle.storage.specs.Packed.{second}
-use Rattle.storage.proofs.laws.PackedLaws.{all-first}
-use Rattle.box_tables.specs.Tables.{Tables, sizeOf, usedOf, slotsOf, entriesIn, aabbOn, lowCell, highCell, covers, itemOn, Sized}
+use Rattle.storage.specs.FilterLaws.{all-map, filter-none}
+use Rattle.box_tables.specs.Tables.{Tables, sizeOf, usedOf, slotsOf, entriesIn, aabbOn, lowCell, highCell, covers, itemOf, itemOn, Sized}
 use Rattle.box_tables.specs.Holds.{Holds}
+use Rattle.box_tables.specs.Way.{itemIn, trackOf, OnTrack, Bounded, spanOf, wayOf, noWay, wayAt}
+use Rattle.box_tables.specs.Check.{Counts, SlotsOk, Room, rowAt, blankRow, Ways, keysOf, Passes, Ready}
 use Rattle.box_tables.proofs.laws.BoxLaws.{item-slot}
-use Rattle.box_tables.proofs.laws.HoldsLaws.{Named, StandsOn, of-slot, of-slot-none, entries-named}
-use Rattle.box_tables.specs.Way.{lastIn, jumpIn, nextIn, itemIn, OnWay, Bounded, spanOf, wayOf, noWay}
-use Rattle.box_tables.proofs.laws.WayLaws.{way-live, way-none, to-come-one, way-of-box, way-bounded, no-way-bounded, no-way}
-use Rattle.box_tables.specs.Check.{Counts, SlotsOk, Room, Ways, keysOf, Passes, Ready}
+use Rattle.box_tables.proofs.laws.HoldsLaws.{Named, StandsOn, entries-named, unnamed}
+use Rattle.box_tables.proofs.laws.WayLaws.{to-come-one, way-of-box, way-live, way-none, way-slot, slot-bounded}
 use Rattle.box_tables.proofs.laws.PassLaws.{keys-some}
 
 module _ (t : Tables) where
@@ -30,61 +32,104 @@ module _ (t : Tables) where
   abbrev pub SlotsOf : Type 0
   SlotsOf = SlotsOk (t .nums) (t .reals) (t .map)
 
-  abbrev pub WaysOf : List (List ℕ) → Type 0
-  WaysOf ways = Ways (t .nums) (t .reals) (sizeOf t) ways (slotsOf t)
+  abbrev pub WaysOf : List ℕ → List ℕ → List ℕ → List ℕ → Type 0
+  WaysOf nexts stops jumps ends = Ways (t .nums) (t .reals) (sizeOf t) nexts stops jumps ends (slotsOf t)
 
-  abbrev pub PassesOf : List (List ℕ) → Type 0
-  PassesOf ways = Passes (t .pool) ways (slotsOf t) (usedOf t)
+  abbrev pub PassesOf : List ℕ → List ℕ → List ℕ → List ℕ → Type 0
+  PassesOf nexts stops jumps ends = Passes (t .pool) nexts stops jumps ends (usedOf t)
+
+  abbrev way : ℕ → List ℕ
+  way s = wayAt (t .nums) (t .reals) (sizeOf t) s
+
+  -- an item is that of a slot's way
+  abbrev Of : ℕ → Type 0
+  Of i = (i / 2 < slotsOf t) × (itemIn (way (i / 2)) ≡ i)
+
+  d-of : (i : ℕ) → Decided (Of i)
+  d-of i = d-and (d-lt (i / 2) (slotsOf t)) (d-eq (itemIn (way (i / 2))) i)
+
+  of-slot-item : (s i : ℕ) → s < slotsOf t → itemIn (way s) ≡ i → Of i
+  of-slot-item s i l e =
+      let q : s ≡ i / 2 = sym (way-slot (t .nums) (t .reals) (sizeOf t) s) ∙ ap (λ (k : ℕ). k / 2) e in
+      subst (λ (k : ℕ). (k < slotsOf t) × (itemIn (way k) ≡ i)) q (l, e)
+
+  live-item : (s : ℕ) → phaseAt (t .nums) s ≡ live → itemIn (way s) ≡ itemOn t s
+  live-item s p = ap itemIn (way-live (t .nums) (t .reals) (sizeOf t) s p)
 
   pub slot-room : Sized t → CountsOf → Room (t .nums) (t .reals) (t .map)
   slot-room s c = record { most = s .most; of-reals = s .of-reals; of-map = s .of-map; size = c .in-domain }
 
-  module _ (z : Sized t) (c : CountsOf) (o : SlotsOf) (ways : List (List ℕ)) (w : WaysOf ways) where
-    live-is : (s : ℕ) → s < slotsOf t → phaseAt (t .nums) s ≡ live → getD ways s [] ≡ wayOf s (spanOf (sizeOf t) (aabbOn t s))
-    live-is s l p = w .are s l ∙ way-live (t .nums) (t .reals) (sizeOf t) s p
+  module _ (z : Sized t) (c : CountsOf) (o : SlotsOf) (nexts stops jumps ends : List ℕ) (w : WaysOf nexts stops jumps ends) where
+    abbrev row : ℕ → List ℕ
+    row i = rowAt nexts stops jumps ends i
 
-    none-is : (s : ℕ) → s < slotsOf t → (phaseAt (t .nums) s ≡ live → ⊥) → getD ways s [] ≡ noWay
-    none-is s l n = w .are s l ∙ way-none (t .nums) (t .reals) (sizeOf t) s n
+    row-own : (i : ℕ) → Of i → row i ≡ trackOf (way (i / 2))
+    row-own i p = ap row (sym (p .1)) ∙ w .are (i / 2) (p .0)
 
-    range-on : (s : ℕ) → s < slotsOf t → phaseAt (t .nums) s ≡ live → OnWay (getD ways s []) (map keyOf (rangeCells (lowCell (sizeOf t) (aabbOn t s)) (highCell (sizeOf t) (aabbOn t s))))
-    range-on s l p = rw (live-is s l p) (way-of-box (sizeOf t) (c .in-domain .0) (aabbOn t s) (o .each s l .if-live p .in-domain) s)
+    row-blank : (i : ℕ) → i < 512 → (Of i → ⊥) → row i ≡ blankRow
+    row-blank i h n = w .blank i (λ s l e. n (of-slot-item s i l e)) h
 
-    pub pool-ready : Ready (t .pool) ways (slotsOf t) (usedOf t)
+    row-none : (i : ℕ) → Of i → (phaseAt (t .nums) (i / 2) ≡ live → ⊥) → row i ≡ trackOf (noWay (i / 2))
+    row-none i p n = row-own i p ∙ ap trackOf (way-none (t .nums) (t .reals) (sizeOf t) (i / 2) n)
+
+    row-live : (s : ℕ) → s < slotsOf t → phaseAt (t .nums) s ≡ live → row (itemOn t s) ≡ trackOf (wayOf s (spanOf (sizeOf t) (aabbOn t s)))
+    row-live s l p = ap row (sym (live-item s p)) ∙ w .are s l ∙ ap trackOf (way-live (t .nums) (t .reals) (sizeOf t) s p)
+
+    bounded : (s : ℕ) → s < slotsOf t → Bounded (way s)
+    bounded s l = slot-bounded (t .nums) (t .reals) (sizeOf t) s (c .in-domain .0) (λ p. o .each s l .if-live p .in-domain)
+
+    range-on : (s : ℕ) → s < slotsOf t → phaseAt (t .nums) s ≡ live → OnTrack (row (itemOn t s)) (map keyOf (rangeCells (lowCell (sizeOf t) (aabbOn t s)) (highCell (sizeOf t) (aabbOn t s))))
+    range-on s l p =
+        subst (λ (r : List ℕ). OnTrack r (map keyOf (rangeCells (lowCell (sizeOf t) (aabbOn t s)) (highCell (sizeOf t) (aabbOn t s))))) (sym (row-live s l p))
+        (way-of-box (sizeOf t) (c .in-domain .0) (aabbOn t s) (o .each s l .if-live p .in-domain) s)
+
+    -- a step goes on at every item
+    steps-on : (i : ℕ) → i < 512 → 1 ≤ getD jumps i 0
+    steps-on i h = elim (d-of i) [ inl p ↦ omega (arith, ap (λ (r : List ℕ). getD r 2 0) (row-own i p), bounded (i / 2) (p .0) .jump-some) | inr n ↦ omega (arith, ap (λ (r : List ℕ). getD r 2 0) (row-blank i h n)) ]
+
+    pub pool-ready : Ready (t .pool) nexts jumps (usedOf t)
     pool-ready =
         record {
-          most = z .most;
-          long = w .long;
           in-pool = c .used-most;
-          bounded = λ s l. bounded s l (d-eq (phaseAt (t .nums) s) live);
+          most = omega (arith, c .used-most, z .pool-most);
+          long = w .long .of-nexts;
+          reach = λ i h. elim (d-of i) [ inl p ↦ omega (arith, ap (λ (r : List ℕ). getD r 0 0) (row-own i p), bounded (i / 2) (p .0) .next) | inr n ↦ omega (arith, ap (λ (r : List ℕ). getD r 0 0) (row-blank i h n)) ];
+          steps = λ i h. elim (d-of i) [ inl p ↦ omega (arith, ap (λ (r : List ℕ). getD r 2 0) (row-own i p), bounded (i / 2) (p .0) .jump) | inr n ↦ omega (arith, ap (λ (r : List ℕ). getD r 2 0) (row-blank i h n)) ];
         }
-      where
-        bounded : (s : ℕ) → s < slotsOf t → Decided (phaseAt (t .nums) s ≡ live) → Bounded (getD ways s [])
-        bounded s l (inl p) = rw (live-is s l p) (way-bounded (sizeOf t) (c .in-domain .0) (aabbOn t s) (o .each s l .if-live p .in-domain) s)
-        bounded s l (inr n) = rw (none-is s l n) no-way-bounded
+
+    -- where the next key is the end no key comes
+    idle-none : (i : ℕ) → Of i → (phaseAt (t .nums) (i / 2) ≡ live → ⊥) → getD nexts i 0 ≡ getD ends i 0
+    idle-none i p n = let e = row-none i p n in ap (λ (r : List ℕ). getD r 0 0) e ∙ sym (ap (λ (r : List ℕ). getD r 3 0) e)
+
+    idle-blank : (i : ℕ) → i < 512 → (Of i → ⊥) → getD nexts i 0 ≡ getD ends i 0
+    idle-blank i h n = let e = row-blank i h n in ap (λ (r : List ℕ). getD r 0 0) e ∙ sym (ap (λ (r : List ℕ). getD r 3 0) e)
 
     -- ---- from the parts to the whole
-    module _ (v : PassesOf ways) where
-      -- the slot of an entry is occupied: on the way of another no key comes
+    module _ (v : PassesOf nexts stops jumps ends) where
+      -- the item of an entry is that of an occupied slot: at another no key comes
+      busy : (j : ℕ) (l : j < usedOf t) → getD nexts (second (t .pool) j) 0 ≡ getD ends (second (t .pool) j) 0 → ⊥
+      busy j l e =
+          let i = second (t .pool) j in
+          let h = v .inside j l in
+          keys-some (t .pool) j i (omega (arith, c .used-most)) (usedOf t) l refl
+          (to-come-one (getD stops i 0) (getD jumps i 0) (getD ends i 0) (getD nexts i 0) (steps-on i h) (keysOf (t .pool) (usedOf t) i) [] (v .every i h) e)
+
+      own : (j : ℕ) → j < usedOf t → Of (second (t .pool) j)
+      own j l = elim (d-of (second (t .pool) j)) [ inl p ↦ p | inr n ↦ absurd (busy j l (idle-blank (second (t .pool) j) (v .inside j l) n)) ]
+
       occupied : (j : ℕ) → j < usedOf t → phaseAt (t .nums) (second (t .pool) j / 2) ≡ live
-      occupied j l = go (second (t .pool) j / 2) refl (d-eq (phaseAt (t .nums) (second (t .pool) j / 2)) live)
-        where
-          go : (s : ℕ) → second (t .pool) j / 2 ≡ s → Decided (phaseAt (t .nums) s ≡ live) → phaseAt (t .nums) s ≡ live
-          go s e (inl p) = p
-          go s e (inr n) =
-              let i : s < slotsOf t = rw e at (v .inside j l) in
-              absurd (keys-some (t .pool) j s (omega (arith, c .used-most)) (usedOf t) l e
-              (no-way (keysOf (t .pool) (usedOf t) s) (rw (none-is s i n) at (v .every s i))))
+      occupied j l = elim (d-eq (phaseAt (t .nums) (second (t .pool) j / 2)) live) [ inl p ↦ p | inr n ↦ absurd (busy j l (idle-none (second (t .pool) j) (own j l) n)) ]
 
       item-is : (j : ℕ) → j < usedOf t → second (t .pool) j ≡ itemOn t (second (t .pool) j / 2)
-      item-is j l = v .items j l ∙ ap itemIn (live-is (second (t .pool) j / 2) (v .inside j l) (occupied j l))
+      item-is j l = sym (own j l .1) ∙ live-item (second (t .pool) j / 2) (occupied j l)
 
-      all-named : All (Named t) (entriesIn t)
-      all-named = all-first (usedOf t) (t .pool) (c .used-most) (Named t) (λ j l. record { slot = second (t .pool) j / 2; inside = v .inside j l; occupied = occupied j l; item = item-is j l })
+      item-most : (s : ℕ) → s < slotsOf t → itemOn t s < 512
+      item-most s l = omega (arith, item-slot s (eqb (covers (sizeOf t) (aabbOn t s)) 1), z .most)
 
       stands : (s : ℕ) → s < slotsOf t → phaseAt (t .nums) s ≡ live → StandsOn t (entriesIn t) s
       stands s l p =
-          ap (map rowKey) (sym (of-slot t (entriesIn t) all-named s))
-          ∙ to-come-one (lastIn (getD ways s [])) (jumpIn (getD ways s [])) (nextIn (getD ways s [])) (keysOf (t .pool) (usedOf t) s) _ (v .every s l) (range-on s l p)
+          let i = itemOn t s in
+          to-come-one (getD stops i 0) (getD jumps i 0) (getD ends i 0) (getD nexts i 0) (steps-on i (item-most s l)) (keysOf (t .pool) (usedOf t) i) _ (v .every i (item-most s l)) (range-on s l p)
 
       pub whole : Holds t
       whole =
@@ -94,7 +139,7 @@ module _ (t : Tables) where
             slots = record { each = λ s l. o .each s l .slot; past = o .past };
             boxes = λ s l p. let b = o .each s l .if-live p in record { in-domain = b .in-domain; cells-most = b .cells-most };
             ordered = v .ordered;
-            each = λ j l. record { slot = second (t .pool) j / 2; inside = v .inside j l; occupied = occupied j l; item = item-is j l };
+            each = λ j l. record { slot = second (t .pool) j / 2; inside = own j l .0; occupied = occupied j l; item = item-is j l };
             every = stands;
           }
 
@@ -106,24 +151,34 @@ module _ (t : Tables) where
     pub slots-of : SlotsOf
     slots-of = record { each = λ s l. record { slot = h .slots .each s l; if-live = λ p. let b = h .boxes s l p in record { in-domain = b .in-domain; cells-most = b .cells-most } }; past = h .slots .past }
 
-    module _ (ways : List (List ℕ)) (w : WaysOf ways) where
-      slot-is : (j : ℕ) (l : j < usedOf t) → second (t .pool) j / 2 ≡ h .each j l .slot
-      slot-is j l = let e = h .each j l in ap (λ (i : ℕ). i / 2) (e .item) ∙ item-slot (e .slot) (eqb (covers (sizeOf t) (aabbOn t (e .slot))) 1)
+    module _ (nexts stops jumps ends : List ℕ) (w : WaysOf nexts stops jumps ends) where
+      -- an item that is no slot's has no entry
+      nobody : (i : ℕ) → (Of i → ⊥) → filter (isItem i) (entriesIn t) ≡ []
+      nobody i n =
+          filter-none (isItem i) (entriesIn t)
+          (all-map (Named t) (λ r. isItem i r ≡ false)
+          (λ r x. ne-eqb (rowItem r) i (λ e. n (of-slot-item (x .slot) i (x .inside) (live-item (x .slot) (x .occupied) ∙ sym (x .item) ∙ e))))
+          (entriesIn t) (entries-named t h))
 
-      every-of : (s : ℕ) → s < slotsOf t → Decided (phaseAt (t .nums) s ≡ live) → OnWay (getD ways s []) (keysOf (t .pool) (usedOf t) s)
-      every-of s l (inl p) =
-          subst (OnWay (getD ways s [])) (sym (ap (map rowKey) (of-slot t (entriesIn t) (entries-named t h) s) ∙ h .every s l p)) (range-on (h .sized) counts-of slots-of ways w s l p)
-      every-of s l (inr n) =
-          subst (OnWay (getD ways s [])) (sym (ap (map rowKey) (of-slot-none t (entriesIn t) (entries-named t h) s n)))
-          (rw (none-is (h .sized) counts-of slots-of ways w s l n) (omega arith))
+      -- no entry, and the next key is the end
+      none-on : (i : ℕ) → filter (isItem i) (entriesIn t) ≡ [] → getD nexts i 0 ≡ getD ends i 0 → OnTrack (rowAt nexts stops jumps ends i) (keysOf (t .pool) (usedOf t) i)
+      none-on i e q = subst (OnTrack (rowAt nexts stops jumps ends i)) (sym (ap (map rowKey) e)) q
 
-      pub passes-of : PassesOf ways
+      every-own : (i : ℕ) → Of i → Decided (phaseAt (t .nums) (i / 2) ≡ live) → OnTrack (rowAt nexts stops jumps ends i) (keysOf (t .pool) (usedOf t) i)
+      every-own i p (inl q) =
+          let s = i / 2 in
+          let e : itemOn t s ≡ i = sym (live-item s q) ∙ p .1 in
+          subst (λ (k : ℕ). OnTrack (rowAt nexts stops jumps ends k) (keysOf (t .pool) (usedOf t) k)) e
+          (subst (OnTrack (rowAt nexts stops jumps ends (itemOn t s))) (sym (h .every s (p .0) q)) (range-on (h .sized) counts-of slots-of nexts stops jumps ends w s (p .0) q))
+      every-own i p (inr n) =
+          let s = i / 2 in
+          let e : itemOf s false ≡ i = sym (ap itemIn (way-none (t .nums) (t .reals) (sizeOf t) s n)) ∙ p .1 in
+          none-on i (subst (λ (k : ℕ). filter (isItem k) (entriesIn t) ≡ []) e (unnamed t h s n false)) (idle-none (h .sized) counts-of slots-of nexts stops jumps ends w i p n)
+
+      pub passes-of : PassesOf nexts stops jumps ends
       passes-of =
           record {
             ordered = h .ordered;
-            inside = λ j l. rw (slot-is j l) (h .each j l .inside);
-            items = λ j l.
-                let e = h .each j l in
-                rw (slot-is j l) (e .item ∙ ap itemIn (sym (live-is (h .sized) counts-of slots-of ways w (e .slot) (e .inside) (e .occupied))));
-            every = λ s l. every-of s l (d-eq (phaseAt (t .nums) s) live);
+            inside = λ j l. let e = h .each j l in omega (arith, e .inside, h .sized .most, ap (λ (k : ℕ). k / 2) (e .item) ∙ item-slot (e .slot) (eqb (covers (sizeOf t) (aabbOn t (e .slot))) 1));
+            every = λ i l. elim (d-of i) [ inl p ↦ every-own i p (d-eq (phaseAt (t .nums) (i / 2)) live) | inr n ↦ none-on i (nobody i n) (idle-blank (h .sized) counts-of slots-of nexts stops jumps ends w i l n) ];
           }

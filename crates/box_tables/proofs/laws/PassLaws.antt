@@ -1,162 +1,171 @@
--- Laws of the pass over the entries: each goes one key on in the way of its slot. Assumes nothing.
-use Prim.Native.Nat.{ℕ, _+_, _-_, _/_, _<_, _≤_}
+-- Laws of the pass over the entries: each goes one key on in the way of its item. Assumes nothing.
+use Prim.Native.Nat.{ℕ, _+_, _-_, _*_, _<_, _≤_}
 use mathlib.Core.Path.{_≡_, refl, sym, ap, _∙_, subst}
 use mathlib.Core.Logic.{inl, inr}
+use mathlib.Core.Bool.{Bool, true, false}
 use mathlib.Core.List.{List, [], _∷_, _++_, map, map-append, append-assoc, append-nil}
 use native.Mathlib.Numerals.{add-one}
 use native.Mathlib.Omega.{arith}
+use lib.Dec.{eqb}
 use lib.ListN.{length, getD, set, take, drop, take-append-drop, length-set, length-append}
 use lib.Seq.{take-suc, take-take, getD-set-same, getD-set-other}
 use borrow.Author.Count.{below-none, below-more}
 use borrow.Author.Tests.{eq-eqb, ne-eqb}
 use Rattle.basics.specs.Says.{Decided, d-lt, d-eq}
+use Rattle.basics.specs.Refusals.{pick}
+use Rattle.cells.specs.Key.{columnOf}
 use Rattle.storage.specs.Keyed.{filter}
-use Rattle.storage.specs.Entries.{rowKey}
+use Rattle.storage.specs.Entries.{rowKey, isItem}
 use Rattle.storage.specs.Packed.{first, second}
 use Rattle.storage.specs.FilterLaws.{filter-append}
-use Rattle.box_tables.specs.Way.{itemIn, stepped, OnWay, Bounded}
-use Rattle.box_tables.specs.Check.{ofSlot, keysOf, Passes, Ready, IsNext, Met}
+use Rattle.box_tables.specs.Way.{behind, ToCome, keyMost}
+use Rattle.box_tables.specs.Check.{keysOf, Passes, Ready, Gone, Met}
 
--- ---- the keys of a slot, with one entry more
-module _ (pool : List (List ℕ)) (j s : ℕ) (h : j < length pool) where
-  more : keysOf pool (j + 1) s ≡ keysOf pool j s ++ map rowKey (filter (ofSlot s) (getD pool j [] ∷ []))
+-- ---- the keys of an item, with one entry more
+module _ (pool : List (List ℕ)) (j i : ℕ) (h : j < length pool) where
+  more : keysOf pool (j + 1) i ≡ keysOf pool j i ++ map rowKey (filter (isItem i) (getD pool j [] ∷ []))
   more =
-      ap (λ (l : List (List ℕ)). map rowKey (filter (ofSlot s) l)) (ap (λ (k : ℕ). take k pool) (add-one j) ∙ take-suc pool j [] h)
-      ∙ ap (map rowKey) (filter-append (ofSlot s) (take j pool) (getD pool j [] ∷ []))
-      ∙ map-append rowKey (filter (ofSlot s) (take j pool)) (filter (ofSlot s) (getD pool j [] ∷ []))
+      ap (λ (l : List (List ℕ)). map rowKey (filter (isItem i) l)) (ap (λ (k : ℕ). take k pool) (add-one j) ∙ take-suc pool j [] h)
+      ∙ ap (map rowKey) (filter-append (isItem i) (take j pool) (getD pool j [] ∷ []))
+      ∙ map-append rowKey (filter (isItem i) (take j pool)) (filter (isItem i) (getD pool j [] ∷ []))
 
-  pub keys-own : second pool j / 2 ≡ s → keysOf pool (j + 1) s ≡ keysOf pool j s ++ (first pool j ∷ [])
-  keys-own e = rw (more, eq-eqb (second pool j / 2) s e)
+  pub keys-own : second pool j ≡ i → keysOf pool (j + 1) i ≡ keysOf pool j i ++ (first pool j ∷ [])
+  keys-own e = rw (more, eq-eqb (second pool j) i e)
 
-  pub keys-other : (second pool j / 2 ≡ s → ⊥) → keysOf pool (j + 1) s ≡ keysOf pool j s
-  keys-other n = rw (more, ne-eqb (second pool j / 2) s n) (append-nil (keysOf pool j s))
+  pub keys-other : (second pool j ≡ i → ⊥) → keysOf pool (j + 1) i ≡ keysOf pool j i
+  keys-other n = rw (more, ne-eqb (second pool j) i n) (append-nil (keysOf pool j i))
 
--- ---- the keys of a slot, from its entry j on
+-- ---- the keys of an item, from its entry j on
 abbrev later : List (List ℕ) → ℕ → ℕ → ℕ → List ℕ
-later pool j s used = map rowKey (filter (ofSlot s) (drop (j + 1) (take used pool)))
+later pool j i used = map rowKey (filter (isItem i) (drop (j + 1) (take used pool)))
 
-pub keys-from : (pool : List (List ℕ)) (j s : ℕ) → j < length pool → (used : ℕ) → j < used → second pool j / 2 ≡ s → keysOf pool used s ≡ keysOf pool j s ++ (first pool j ∷ later pool j s used)
-keys-from pool j s h used l e =
+pub keys-from : (pool : List (List ℕ)) (j i : ℕ) → j < length pool → (used : ℕ) → j < used → second pool j ≡ i → keysOf pool used i ≡ keysOf pool j i ++ (first pool j ∷ later pool j i used)
+keys-from pool j i h used l e =
     let t = take used pool in
     let split : t ≡ take (j + 1) pool ++ drop (j + 1) t = sym (take-append-drop (j + 1) t) ∙ ap (λ (a : List (List ℕ)). a ++ drop (j + 1) t) (take-take (j + 1) used pool (omega arith)) in
-    ap (λ (a : List (List ℕ)). map rowKey (filter (ofSlot s) a)) split
-    ∙ ap (map rowKey) (filter-append (ofSlot s) (take (j + 1) pool) (drop (j + 1) t))
-    ∙ map-append rowKey (filter (ofSlot s) (take (j + 1) pool)) (filter (ofSlot s) (drop (j + 1) t))
-    ∙ ap (λ (a : List ℕ). a ++ later pool j s used) (keys-own pool j s h e)
-    ∙ append-assoc (keysOf pool j s) (first pool j ∷ []) (later pool j s used)
+    ap (λ (a : List (List ℕ)). map rowKey (filter (isItem i) a)) split
+    ∙ ap (map rowKey) (filter-append (isItem i) (take (j + 1) pool) (drop (j + 1) t))
+    ∙ map-append rowKey (filter (isItem i) (take (j + 1) pool)) (filter (isItem i) (drop (j + 1) t))
+    ∙ ap (λ (a : List ℕ). a ++ later pool j i used) (keys-own pool j i h e)
+    ∙ append-assoc (keysOf pool j i) (first pool j ∷ []) (later pool j i used)
 
--- a slot with an entry has a key
-pub keys-some : (pool : List (List ℕ)) (j s : ℕ) → j < length pool → (used : ℕ) → j < used → second pool j / 2 ≡ s → keysOf pool used s ≡ [] → ⊥
-keys-some pool j s h used l e n = omega (arith, ap length (sym (keys-from pool j s h used l e) ∙ n), length-append (keysOf pool j s) (first pool j ∷ later pool j s used))
+-- an item with an entry has a key
+pub keys-some : (pool : List (List ℕ)) (j i : ℕ) → j < length pool → (used : ℕ) → j < used → second pool j ≡ i → keysOf pool used i ≡ [] → ⊥
+keys-some pool j i h used l e n = omega (arith, ap length (sym (keys-from pool j i h used l e) ∙ n), length-append (keysOf pool j i) (first pool j ∷ later pool j i used))
+
+-- a step is at most 2 ^ 32
+pub behind-most : (stop jump k : ℕ) → jump ≤ 4294967296 → behind stop jump k ≤ k + 4294967296
+behind-most stop jump k h = go (eqb (columnOf k) stop)
+  where
+    go : (t : Bool) → pick t (k + jump) (k + 1) ≤ k + 4294967296
+    go true = omega arith
+    go false = omega arith
 
 -- ---- the first j entries are passed; `before` is the key of the last of them
-pub record Going (pool ways₀ ways : List (List ℕ)) (n j before : ℕ) : Type 0 where
-  pub long : length ways ≡ 256
-  pub ordered : (a b : ℕ) → b < j → a < b → first pool a ≤ first pool b
+pub record Going (pool : List (List ℕ)) (stops jumps nexts₀ nexts : List ℕ) (j before : ℕ) : Type 0 where
+  pub long : length nexts ≡ 512
   pub at-first : j ≡ 0 → before ≡ 0
   pub at-last : 0 < j → before ≡ first pool (j - 1)
-  pub inside : (a : ℕ) → a < j → second pool a / 2 < n
-  pub items : (a : ℕ) → a < j → second pool a ≡ itemIn (getD ways₀ (second pool a / 2) [])
-  pub same-item : (s : ℕ) → s < n → itemIn (getD ways s []) ≡ itemIn (getD ways₀ s [])
-  pub bounded : (s : ℕ) → s < n → Bounded (getD ways s [])
-  -- what is to come is what was to come behind the keys passed
-  pub forth : (s : ℕ) → s < n → (l : List ℕ) → OnWay (getD ways₀ s []) (keysOf pool j s ++ l) → OnWay (getD ways s []) l
-  pub back : (s : ℕ) → s < n → (l : List ℕ) → OnWay (getD ways s []) l → OnWay (getD ways₀ s []) (keysOf pool j s ++ l)
+  pub reach : (i : ℕ) → i < 512 → getD nexts i 0 ≤ keyMost + j * 4294967296
+  pub gone : Gone pool stops jumps nexts₀ nexts j
 
-pub going-none : (pool ways : List (List ℕ)) (n used : ℕ) → Ready pool ways n used → Going pool ways ways n 0 0
-going-none pool ways n used r =
+pub going-none : (pool : List (List ℕ)) (stops jumps nexts : List ℕ) (used : ℕ) → Ready pool nexts jumps used → Going pool stops jumps nexts nexts 0 0
+going-none pool stops jumps nexts used r =
     record {
       long = r .long;
-      ordered = λ a b h. absurd (omega arith);
       at-first = λ e. refl;
       at-last = λ h. absurd (omega arith);
-      inside = below-none _;
-      items = below-none _;
-      same-item = λ s h. refl;
-      bounded = r .bounded;
-      forth = λ s h l p. p;
-      back = λ s h l p. p;
+      reach = λ i h. omega (arith, r .reach i h);
+      gone = record { ordered = λ a b h. absurd (omega arith); inside = below-none _; forth = λ i h end l p. p; back = λ i h end l p. p };
     }
 
-module _ (pool ways₀ ways : List (List ℕ)) (n j before : ℕ) (g : Going pool ways₀ ways n j before) where
+module _ (pool : List (List ℕ)) (stops jumps nexts₀ nexts : List ℕ) (j before : ℕ) (g : Going pool stops jumps nexts₀ nexts j before) where
   -- an entry that is not before the last is not before any
   up-to : (a : ℕ) → a < j → first pool a ≤ before
-  up-to a h = elim (d-lt a (j - 1)) [ inl q ↦ omega (arith, g .at-last (omega arith), g .ordered a (j - 1) (omega arith) q) | inr q ↦ let e : a ≡ j - 1 = omega (arith, q) in omega (arith, g .at-last (omega arith), ap (first pool) e) ]
+  up-to a h = elim (d-lt a (j - 1)) [ inl q ↦ omega (arith, g .at-last (omega arith), g .gone .ordered a (j - 1) (omega arith) q) | inr q ↦ let e : a ≡ j - 1 = omega (arith, q) in omega (arith, g .at-last (omega arith), ap (first pool) e) ]
 
-  -- ---- one entry more
-  module _ (most : n ≤ 256) (h : j < length pool) (i : second pool j / 2 < n) (x : IsNext (getD ways (second pool j / 2) []) before (first pool j) (second pool j)) where
-    abbrev here : ℕ
-    here = second pool j / 2
+  -- ---- one entry more: it is not before the last, and its key is the next at its item
+  module _ (steps : (i : ℕ) → i < 512 → getD jumps i 0 ≤ 4294967296) (h : j < length pool) (i : ℕ) (own : i ≡ second pool j) (inside : i < 512) (in-order : before ≤ first pool j) (is-key : first pool j ≡ getD nexts i 0) (k : ℕ) (is : k ≡ behind (getD stops i 0) (getD jumps i 0) (first pool j)) where
+    abbrev on : List ℕ
+    on = set nexts i k
 
-    abbrev on : List (List ℕ)
-    on = set ways here (stepped (getD ways here []))
+    at-here : getD on i 0 ≡ k
+    at-here = getD-set-same nexts i k 0 (omega (arith, g .long))
 
-    at-here : getD on here [] ≡ stepped (getD ways here [])
-    at-here = getD-set-same ways here (stepped (getD ways here [])) [] (omega (arith, g .long))
+    at-other : (a : ℕ) → (a ≡ i → ⊥) → getD on a 0 ≡ getD nexts a 0
+    at-other a d = getD-set-other nexts i a k 0 d
 
-    at-other : (s : ℕ) → (s ≡ here → ⊥) → getD on s [] ≡ getD ways s []
-    at-other s d = getD-set-other ways here s (stepped (getD ways here [])) [] d
+    -- a fact of every item: of the one that goes on, and of the others, which stay
+    every-item : (P : ℕ → ℕ → Type 0) → P i k → ((a : ℕ) → (a ≡ i → ⊥) → a < 512 → P a (getD nexts a 0)) → (a : ℕ) → a < 512 → P a (getD on a 0)
+    every-item P p f a l = elim (d-eq a i) [ inl e ↦ rw (e, at-here) p | inr d ↦ rw (at-other a d) (f a d l) ]
 
-    -- a fact of every way: of the one that goes on, and of the others, which stay
-    every-way : (P : ℕ → List ℕ → Type 0) → P here (stepped (getD ways here [])) → ((s : ℕ) → (s ≡ here → ⊥) → s < n → P s (getD ways s [])) → (s : ℕ) → s < n → P s (getD on s [])
-    every-way P p f s l = elim (d-eq s here) [ inl e ↦ rw (e, at-here) p | inr d ↦ rw (at-other s d) (f s d l) ]
+    more-own : (l : List ℕ) → keysOf pool (j + 1) i ++ l ≡ keysOf pool j i ++ (first pool j ∷ l)
+    more-own l = ap (λ (x : List ℕ). x ++ l) (keys-own pool j i h (sym own)) ∙ append-assoc (keysOf pool j i) (first pool j ∷ []) l
 
-    more-own : (l : List ℕ) → keysOf pool (j + 1) here ++ l ≡ keysOf pool j here ++ (first pool j ∷ l)
-    more-own l = ap (λ (k : List ℕ). k ++ l) (keys-own pool j here h refl) ∙ append-assoc (keysOf pool j here) (first pool j ∷ []) l
+    more-other : (a : ℕ) → (a ≡ i → ⊥) → (l : List ℕ) → keysOf pool (j + 1) a ++ l ≡ keysOf pool j a ++ l
+    more-other a d l = ap (λ (x : List ℕ). x ++ l) (keys-other pool j a h (λ e. d (sym (own ∙ e))))
 
-    more-other : (s : ℕ) → (s ≡ here → ⊥) → (l : List ℕ) → keysOf pool (j + 1) s ++ l ≡ keysOf pool j s ++ l
-    more-other s d l = ap (λ (k : List ℕ). k ++ l) (keys-other pool j s h (λ e. d (sym e)))
+    abbrev Coming : ℕ → ℕ → ℕ → List ℕ → Type 0
+    Coming a end n l = ToCome (getD stops a 0) (getD jumps a 0) end n l
 
-    forth-more : (s : ℕ) → s < n → (l : List ℕ) → OnWay (getD ways₀ s []) (keysOf pool (j + 1) s ++ l) → OnWay (getD on s []) l
+    -- the key that is passed, and what is behind it
+    passed : (end : ℕ) (l : List ℕ) → Coming i end (getD nexts i 0) (first pool j ∷ l) → Coming i end k l
+    passed end l p = subst (λ (n : ℕ). Coming i end n l) (ap (behind (getD stops i 0) (getD jumps i 0)) (sym is-key) ∙ sym is) (p .1)
+
+    taken : (end : ℕ) (l : List ℕ) → Coming i end k l → Coming i end (getD nexts i 0) (first pool j ∷ l)
+    taken end l p = (is-key, subst (λ (n : ℕ). Coming i end n l) (is ∙ ap (behind (getD stops i 0) (getD jumps i 0)) is-key) p)
+
+    forth-more : (a : ℕ) → a < 512 → (end : ℕ) (l : List ℕ) → Coming a end (getD nexts₀ a 0) (keysOf pool (j + 1) a ++ l) → Coming a end (getD on a 0) l
     forth-more =
-        every-way (λ s w. (l : List ℕ) → OnWay (getD ways₀ s []) (keysOf pool (j + 1) s ++ l) → OnWay w l)
-        (λ l p. g .forth here i (first pool j ∷ l) (subst (OnWay (getD ways₀ here [])) (more-own l) p) .2)
-        (λ s d k l p. g .forth s k l (subst (OnWay (getD ways₀ s [])) (more-other s d l) p))
+        every-item (λ a n. (end : ℕ) (l : List ℕ) → Coming a end (getD nexts₀ a 0) (keysOf pool (j + 1) a ++ l) → Coming a end n l)
+        (λ end l p. passed end l (g .gone .forth i inside end (first pool j ∷ l) (subst (Coming i end (getD nexts₀ i 0)) (more-own l) p)))
+        (λ a d q end l p. g .gone .forth a q end l (subst (Coming a end (getD nexts₀ a 0)) (more-other a d l) p))
 
-    back-more : (s : ℕ) → s < n → (l : List ℕ) → OnWay (getD on s []) l → OnWay (getD ways₀ s []) (keysOf pool (j + 1) s ++ l)
+    back-more : (a : ℕ) → a < 512 → (end : ℕ) (l : List ℕ) → Coming a end (getD on a 0) l → Coming a end (getD nexts₀ a 0) (keysOf pool (j + 1) a ++ l)
     back-more =
-        every-way (λ s w. (l : List ℕ) → OnWay w l → OnWay (getD ways₀ s []) (keysOf pool (j + 1) s ++ l))
-        (λ l p. subst (OnWay (getD ways₀ here [])) (sym (more-own l)) (g .back here i (first pool j ∷ l) (x .is-key, x .to-come, p)))
-        (λ s d k l p. subst (OnWay (getD ways₀ s [])) (sym (more-other s d l)) (g .back s k l p))
+        every-item (λ a n. (end : ℕ) (l : List ℕ) → Coming a end n l → Coming a end (getD nexts₀ a 0) (keysOf pool (j + 1) a ++ l))
+        (λ end l p. subst (Coming i end (getD nexts₀ i 0)) (sym (more-own l)) (g .gone .back i inside end (first pool j ∷ l) (taken end l p)))
+        (λ a d q end l p. subst (Coming a end (getD nexts₀ a 0)) (sym (more-other a d l)) (g .gone .back a q end l p))
 
-    pub going-more : Going pool ways₀ on n (j + 1) (first pool j)
+    pub going-more : Going pool stops jumps nexts₀ on (j + 1) (first pool j)
     going-more =
         record {
-          long = length-set ways here (stepped (getD ways here [])) ∙ g .long;
-          ordered = λ a b q l. below-more (λ b. a < b → first pool a ≤ first pool b) j (λ b q. g .ordered a b q) (λ l. omega (arith, up-to a l, x .in-order)) b q l;
+          long = length-set nexts i k ∙ g .long;
           at-first = λ e. absurd (omega arith);
           at-last = λ q. let e : j + 1 - 1 ≡ j = omega arith in ap (first pool) (sym e);
-          inside = below-more (λ a. second pool a / 2 < n) j (g .inside) i;
-          items = below-more (λ a. second pool a ≡ itemIn (getD ways₀ (second pool a / 2) [])) j (g .items) (x .is-item ∙ g .same-item here i);
-          same-item = every-way (λ s w. itemIn w ≡ itemIn (getD ways₀ s [])) (g .same-item here i) (λ s d k. g .same-item s k);
-          bounded = every-way (λ s w. Bounded w) (record { last = g .bounded here i .last; jump = g .bounded here i .jump }) (λ s d k. g .bounded s k);
-          forth = forth-more;
-          back = back-more;
+          reach = every-item (λ a n. n ≤ keyMost + (j + 1) * 4294967296) (omega (arith, is, is-key, behind-most (getD stops i 0) (getD jumps i 0) (first pool j) (steps i inside), g .reach i inside)) (λ a d q. omega (arith, g .reach a q));
+          gone = record {
+            ordered = λ a b q l. below-more (λ b. a < b → first pool a ≤ first pool b) j (λ b q. g .gone .ordered a b q) (λ l. omega (arith, up-to a l, in-order)) b q l;
+            inside = below-more (λ a. second pool a < 512) j (g .gone .inside) (subst (λ (n : ℕ). n < 512) own inside);
+            forth = forth-more;
+            back = back-more;
+          };
         }
 
   -- ---- where the whole passes, so does the next entry
-  module _ (used : ℕ) (room : used ≤ length pool) (v : Passes pool ways₀ n used) (l : j < used) where
-    pub going-next : IsNext (getD ways (second pool j / 2) []) before (first pool j) (second pool j)
-    going-next =
-        let s = second pool j / 2 in
-        let i = v .inside j l in
-        let w = g .forth s i (first pool j ∷ later pool j s used) (subst (OnWay (getD ways₀ s [])) (keys-from pool j s (omega arith) used l refl) (v .every s i)) in
-        record { in-order = in-order (d-eq j 0); is-item = v .items j l ∙ sym (g .same-item s i); is-key = w .0; to-come = w .1 }
+  module _ (ends : List ℕ) (used : ℕ) (room : used ≤ length pool) (v : Passes pool nexts₀ stops jumps ends used) (l : j < used) where
+    pub next-ordered : before ≤ first pool j
+    next-ordered = go (d-eq j 0)
       where
-        in-order : Decided (j ≡ 0) → before ≤ first pool j
-        in-order (inl e) = omega (arith, g .at-first e)
-        in-order (inr d) = omega (arith, g .at-last (omega (arith, d)), v .ordered (j - 1) j l (omega (arith, d)))
+        go : Decided (j ≡ 0) → before ≤ first pool j
+        go (inl e) = omega (arith, g .at-first e)
+        go (inr d) = omega (arith, g .at-last (omega (arith, d)), v .ordered (j - 1) j l (omega (arith, d)))
+
+    pub next-key : (i : ℕ) → i ≡ second pool j → first pool j ≡ getD nexts i 0
+    next-key i e =
+        let h : i < 512 = subst (λ (n : ℕ). n < 512) (sym e) (v .inside j l) in
+        g .gone .forth i h (getD ends i 0) (first pool j ∷ later pool j i used)
+        (subst (ToCome (getD stops i 0) (getD jumps i 0) (getD ends i 0) (getD nexts₀ i 0)) (keys-from pool j i (omega arith) used l (sym e)) (v .every i h)) .0
 
 -- ---- at the end
-module _ (pool ways₀ ways : List (List ℕ)) (n used before : ℕ) (g : Going pool ways₀ ways n used before) where
-  pub going-all : Met ways n → Passes pool ways₀ n used
-  going-all m =
+module _ (pool : List (List ℕ)) (stops jumps ends nexts₀ nexts : List ℕ) (used : ℕ) (g : Gone pool stops jumps nexts₀ nexts used) where
+  pub gone-all : Met nexts ends 512 → Passes pool nexts₀ stops jumps ends used
+  gone-all m =
       record {
         ordered = g .ordered;
         inside = g .inside;
-        items = g .items;
-        every = λ s h. subst (OnWay (getD ways₀ s [])) (append-nil (keysOf pool used s)) (g .back s h [] (m s h));
+        every = λ i h. subst (ToCome (getD stops i 0) (getD jumps i 0) (getD ends i 0) (getD nexts₀ i 0)) (append-nil (keysOf pool used i)) (g .back i h (getD ends i 0) [] (m i h));
       }
 
-  pub going-met : Passes pool ways₀ n used → Met ways n
-  going-met v s h = g .forth s h [] (subst (OnWay (getD ways₀ s [])) (sym (append-nil (keysOf pool used s))) (v .every s h))
+  pub gone-met : Passes pool nexts₀ stops jumps ends used → Met nexts ends 512
+  gone-met v i h = g .forth i h (getD ends i 0) [] (subst (ToCome (getD stops i 0) (getD jumps i 0) (getD ends i 0) (getD nexts₀ i 0)) (sym (append-nil (keysOf pool used i))) (v .every i h))

@@ -1,14 +1,18 @@
 -- Laws of the way: what is to come is one list, and for a box it is the keys of its range. Assumes nothing.
-use Prim.Native.Nat.{ℕ, zero, suc, _+_, _-_, _*_, _<_, _≤_}
-use mathlib.Core.Path.{_≡_, refl, sym, ap₂, _∙_, subst}
+use Prim.Native.Nat.{ℕ, zero, suc, _+_, _-_, _*_, _/_, _<_, _≤_}
+use mathlib.Core.Path.{_≡_, refl, sym, ap, ap₂, _∙_, subst}
+use mathlib.Core.Bool.{Bool, true, false}
+use mathlib.Core.Logic.{inl, inr}
 use mathlib.Core.List.{List, [], _∷_, _++_, map}
 use native.Mathlib.Numerals.{add-one}
 use native.Mathlib.Omega.{arith}
-use lib.Dec.{T, leb→le}
+use lib.Dec.{T, eqb, leb→le}
 use lib.IntN.{ℤ, pos, negsuc}
 use lib.Signed.{mag, leZ}
 use lib.Ieee.{Float}
 use borrow.Author.Tests.{eq-eqb, ne-eqb}
+use Rattle.basics.specs.Says.{d-eq}
+use Rattle.basics.specs.Refusals.{pick}
 use Rattle.cells.specs.declared.Cell.{Cell}
 use Rattle.cells.specs.Numbers.{Near, Fits, near-fits}
 use Rattle.cells.specs.Range.{rangeCells}
@@ -19,52 +23,64 @@ use Rattle.cells.specs.Rising.{run, runs}
 use Rattle.slots.specs.Slot.{live, phaseAt}
 use Rattle.geometry.specs.declared.Aabb.{Aabb}
 use Rattle.geometry.specs.Domain.{aabbInDomain}
-use Rattle.box_tables.specs.Tables.{aabbAt, lowCell, highCell}
-use Rattle.box_tables.proofs.laws.BoxLaws.{low-near, high-near, corners-x, corners-y}
-use Rattle.box_tables.specs.Way.{behind, ToCome, OnWay, Bounded, spanOf, wayOf, noWay, wayAt}
+use Rattle.box_tables.specs.Tables.{aabbAt, lowCell, highCell, covers}
+use Rattle.box_tables.proofs.laws.BoxLaws.{low-near, high-near, corners-x, corners-y, item-slot}
+use Rattle.box_tables.specs.Way.{itemIn, behind, ToCome, trackOf, OnTrack, keyMost, Bounded, spanOf, wayOf, noWay, wayAt}
 
-pub to-come-one : (last jump k : ℕ) (l m : List ℕ) → ToCome last jump k l → ToCome last jump k m → l ≡ m
-to-come-one last jump k [] [] p q = refl
-to-come-one last jump k [] (y ∷ m) p q = absurd (omega (arith, p, q .1))
-to-come-one last jump k (x ∷ l) [] p q = absurd (omega (arith, q, p .1))
-to-come-one last jump k (x ∷ l) (y ∷ m) p q = ap₂ _∷_ (p .0 ∙ sym (q .0)) (to-come-one last jump (behind last jump k) l m (p .2) (q .2))
+-- ---- a step goes on, so that what is to come is one list
+behind-up : (stop jump k : ℕ) → 1 ≤ jump → k < behind stop jump k
+behind-up stop jump k h = go (eqb (columnOf k) stop)
+  where
+    go : (t : Bool) → k < pick t (k + jump) (k + 1)
+    go true = omega arith
+    go false = omega arith
+
+rising : (stop jump end k : ℕ) → 1 ≤ jump → (l : List ℕ) → ToCome stop jump end k l → k ≤ end
+rising stop jump end k h [] p = omega (arith, p)
+rising stop jump end k h (x ∷ l) p = omega (arith, behind-up stop jump k h, rising stop jump end (behind stop jump k) h l (p .1))
+
+pub to-come-one : (stop jump end k : ℕ) → 1 ≤ jump → (l m : List ℕ) → ToCome stop jump end k l → ToCome stop jump end k m → l ≡ m
+to-come-one stop jump end k h [] [] p q = refl
+to-come-one stop jump end k h [] (y ∷ m) p q = absurd (omega (arith, p, behind-up stop jump k h, rising stop jump end (behind stop jump k) h m (q .1)))
+to-come-one stop jump end k h (x ∷ l) [] p q = absurd (omega (arith, q, behind-up stop jump k h, rising stop jump end (behind stop jump k) h l (p .1)))
+to-come-one stop jump end k h (x ∷ l) (y ∷ m) p q = ap₂ _∷_ (p .0 ∙ sym (q .0)) (to-come-one stop jump end (behind stop jump k) h l m (p .1) (q .1))
 
 -- ---- rows of w + 1 keys, from column c on
-module _ (last jump c w : ℕ) (e : columnOf last ≡ c + w) (f : jump + w ≡ 4294967296) where
+module _ (stop jump end c w : ℕ) (e : stop ≡ c + w) (f : jump + w ≡ 4294967296) (g : c + w < 4294967296) where
   -- i + 1 keys of the row that starts at k₀, and then the rest
-  row-to-come : (rest : List ℕ) (k₀ r : ℕ) → k₀ ≡ r * 4294967296 + c → k₀ + w ≤ last → ToCome last jump (k₀ + 4294967296) rest → (i k : ℕ) → i ≤ w → k + i ≡ k₀ + w → ToCome last jump k (run k (suc i) ++ rest)
-  row-to-come rest k₀ r s h t zero k l g =
+  row-to-come : (rest : List ℕ) (k₀ r : ℕ) → k₀ ≡ r * 4294967296 + c → ToCome stop jump end (k₀ + 4294967296) rest → (i k : ℕ) → i ≤ w → k + i ≡ k₀ + w → ToCome stop jump end k (run k (suc i) ++ rest)
+  row-to-come rest k₀ r s t zero k l q =
       let d : k + jump ≡ k₀ + 4294967296 = omega arith in
-      (refl, omega arith, rw (eq-eqb (columnOf k) (columnOf last) (omega arith)) (subst (λ n. ToCome last jump n rest) (sym d) t))
-  row-to-come rest k₀ r s h t (suc i) k l g =
-      (refl, omega arith, rw (ne-eqb (columnOf k) (columnOf last) (λ q. omega arith)) (row-to-come rest k₀ r s h t i (k + 1) (omega arith) (omega arith)))
+      (refl, rw (eq-eqb (columnOf k) stop (omega arith)) (subst (λ n. ToCome stop jump end n rest) (sym d) t))
+  row-to-come rest k₀ r s t (suc i) k l q =
+      (refl, rw (ne-eqb (columnOf k) stop (λ z. omega arith)) (row-to-come rest k₀ r s t i (k + 1) (omega arith) (omega arith)))
 
-  rows-to-come : (m k r : ℕ) → k ≡ r * 4294967296 + c → k + m * 4294967296 + w ≡ last + 4294967296 → ToCome last jump k (runs k (suc w) m)
+  rows-to-come : (m k r : ℕ) → k ≡ r * 4294967296 + c → k + m * 4294967296 ≡ end → ToCome stop jump end k (runs k (suc w) m)
   rows-to-come zero k r s h = omega arith
   rows-to-come (suc m) k r s h =
-      row-to-come (runs (k + 4294967296) (suc w) m) k r s (omega arith) (rows-to-come m (k + 4294967296) (r + 1) (omega arith) (omega arith)) w k (omega arith) refl
+      row-to-come (runs (k + 4294967296) (suc w) m) k r s (rows-to-come m (k + 4294967296) (r + 1) (omega arith) (omega arith)) w k (omega arith) refl
 
 -- ---- the keys of a range that is not reversed
 key-is : (c : Cell) → keyOf c ≡ upward (c .y) * 4294967296 + upward (c .x)
 unfolding keyOf
 key-is c = refl
 
-pub range-to-come : (a b : Cell) → Fits a → Fits b → upward (a .x) ≤ upward (b .x) → upward (a .y) ≤ upward (b .y) → ToCome (keyOf b) (4294967296 + columnOf (keyOf a) - columnOf (keyOf b)) (keyOf a) (map keyOf (rangeCells a b))
-range-to-come a b fa fb hx hy =
+pub range-to-come : (a b : Cell) → Fits a → Fits b → upward (a .x) ≤ upward (b .x) → upward (a .y) ≤ upward (b .y) → (j : ℕ) → j ≡ 4294967296 + columnOf (keyOf a) - columnOf (keyOf b) → ToCome (columnOf (keyOf b)) j (keyOf b + j) (keyOf a) (map keyOf (rangeCells a b))
+range-to-come a b fa fb hx hy j e =
     let w = upward (b .x) - upward (a .x) in
     let ax = key-column a fa in
     let bx = key-column b fb in
     let lx = upward-lt (a .x) (fa .x) in
     let ux = upward-lt (b .x) (fb .x) in
     rw (range-keys a b fa, count-up (a .x) (b .x) (fa .x) (fb .x) hx, count-up (a .y) (b .y) (fa .y) (fb .y) hy, add-one w)
-    (rows-to-come (keyOf b) (4294967296 + columnOf (keyOf a) - columnOf (keyOf b)) (columnOf (keyOf a)) w (omega arith) (omega arith) (upward (b .y) - upward (a .y) + 1) (keyOf a) (upward (a .y))
+    (rows-to-come (columnOf (keyOf b)) j (keyOf b + j) (columnOf (keyOf a)) w (omega arith) (omega arith) (omega arith) (upward (b .y) - upward (a .y) + 1) (keyOf a) (upward (a .y))
     (omega (arith, key-is a, ax)) (omega (arith, key-is a, key-is b)))
 
 not-reversed : (a b : ℤ) → mag a < 2147483648 → mag b < 2147483648 → T (leZ a b) → upward a ≤ upward b
 not-reversed a b ha hb h = leb→le (upward a) (upward b) (subst T (upward-order a b ha hb) h)
 
 -- a step on the way of a box fits 64 bits
-pub near-key : (c : Cell) → Near c → keyOf c < 18446744056529682432
+pub near-key : (c : Cell) → Near c → keyOf c ≤ keyMost
 near-key c n = omega (arith, key-is c, near-below (c .x) (n .x), near-below (c .y) (n .y))
 
 module _ (size : ℕ) (hs : 1 ≤ size) (b : Aabb) (h : T (aabbInDomain b)) where
@@ -81,23 +97,32 @@ module _ (size : ℕ) (hs : 1 ≤ size) (b : Aabb) (h : T (aabbInDomain b)) wher
   rises-y = not-reversed (lowCell size b .y) (highCell size b .y) (fits-low .y) (fits-high .y) (corners-y b h size hs)
 
   -- the way of a box: what is to come is the keys of its range
-  pub way-of-box : (s : ℕ) → OnWay (wayOf s (spanOf size b)) (map keyOf (rangeCells (lowCell size b) (highCell size b)))
-  way-of-box s = range-to-come (lowCell size b) (highCell size b) fits-low fits-high rises-x rises-y
+  pub way-of-box : (s : ℕ) → OnTrack (trackOf (wayOf s (spanOf size b))) (map keyOf (rangeCells (lowCell size b) (highCell size b)))
+  way-of-box s = range-to-come (lowCell size b) (highCell size b) fits-low fits-high rises-x rises-y _ refl
 
   pub way-bounded : (s : ℕ) → Bounded (wayOf s (spanOf size b))
-  way-bounded s = record { last = near-key (highCell size b) (high-near b h size); jump = omega arith }
+  way-bounded s =
+      record {
+        next = near-key (lowCell size b) (low-near b h size);
+        last = near-key (highCell size b) (high-near b h size);
+        jump-some = omega arith;
+        jump = omega (arith, key-column (lowCell size b) fits-low, key-column (highCell size b) fits-high, rises-x);
+      }
 
-pub no-way-bounded : Bounded noWay
-no-way-bounded = record { last = omega arith; jump = omega arith }
-
--- no key comes for a slot that is not occupied
-pub no-way : (l : List ℕ) → OnWay noWay l → l ≡ []
-no-way l p = to-come-one 0 1 1 l [] p (omega arith)
+pub no-way-bounded : (s : ℕ) → Bounded (noWay s)
+no-way-bounded s = record { next = omega arith; last = omega arith; jump-some = omega arith; jump = omega arith }
 
 -- ---- the way of a slot
 module _ (nums : List (List ℕ)) (reals : List (List Float)) (size s : ℕ) where
   pub way-live : phaseAt nums s ≡ live → wayAt nums reals size s ≡ wayOf s (spanOf size (aabbAt reals s))
   way-live p = rw (eq-eqb (phaseAt nums s) live p)
 
-  pub way-none : (phaseAt nums s ≡ live → ⊥) → wayAt nums reals size s ≡ noWay
+  pub way-none : (phaseAt nums s ≡ live → ⊥) → wayAt nums reals size s ≡ noWay s
   way-none n = rw (ne-eqb (phaseAt nums s) live n)
+
+  -- its item is one of the slot's
+  pub way-slot : itemIn (wayAt nums reals size s) / 2 ≡ s
+  way-slot = elim (d-eq (phaseAt nums s) live) [ inl p ↦ ap (λ (w : List ℕ). itemIn w / 2) (way-live p) ∙ item-slot s (eqb (covers size (aabbAt reals s)) 1) | inr n ↦ ap (λ (w : List ℕ). itemIn w / 2) (way-none n) ∙ item-slot s false ]
+
+  pub slot-bounded : 1 ≤ size → (phaseAt nums s ≡ live → T (aabbInDomain (aabbAt reals s))) → Bounded (wayAt nums reals size s)
+  slot-bounded h d = elim (d-eq (phaseAt nums s) live) [ inl p ↦ rw (way-live p) (way-bounded size h (aabbAt reals s) (d p) s) | inr n ↦ rw (way-none n) (no-way-bounded s) ]

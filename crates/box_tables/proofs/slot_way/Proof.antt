@@ -1,5 +1,6 @@
 -- `box_tables::slot_way` meets its contract. Assumes nothing.
 use mathlib.Core.Path.{refl, sym, ap, _∙_}
+use mathlib.Core.List.{[], _∷_}
 use native.Mathlib.Omega.{arith}
 use borrow.Author.Needs.{needs}
 use borrow.Author.Tests.{not-true, not-false}
@@ -21,10 +22,11 @@ returns : tie.Need-returns
 returns c = given-none _ refl (λ h. apart (sym (not-true _ (c .if1 .taken)) ∙ told (c .before) .no (h .slot)))
 
 returns-2 : tie.Need-returns-2
-returns-2 c =
+returns-2 r =
+    let c = r .before in
     let a = c .before .before .before .before .before .before .args in
     let w = way-none (a .nums .now) (a .reals .now) (a .size) (a .s) (c .if2 .taken) in
-    given-some _ _ (sym w) (λ e. omega (arith, e, ap jumpIn w)) (record { slot = told (c .before .before) .yes (not-false _ (c .before .if1 .left)); if-live = λ p. absurd (c .if2 .taken p) })
+    given-some _ _ ((λ z. 1 ∷ 0 ∷ 1 ∷ r .item-of .ensures z ∷ []) ∙ sym w) (λ e. omega (arith, e, ap jumpIn w)) (record { slot = told (c .before .before) .yes (not-false _ (c .before .if1 .left)); if-live = λ p. absurd (c .if2 .taken p) })
 
 returns-3 : tie.Need-returns-3
 returns-3 c =
@@ -49,6 +51,7 @@ slot-way-spec =
     (λ c κs. search needs)
     returns
     (λ c. search needs)
+    (λ c κs. search needs)
     returns-2
     (λ c κs. search needs)
     returns-3)
