@@ -7,3 +7,4 @@ pub mod HeadLaws
 pub mod HoldsLaws
 pub mod PassLaws
 pub mod CornerLaws
+pub mod NumberLaws

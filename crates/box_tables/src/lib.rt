@@ -114,8 +114,13 @@ fn counts_ok(size: u64, used: usize, pool: usize) -> bool
 // 1 / size, worked out once, so that a guess multiplies.
 fn rate_of(size: u64) -> f32
     requires { ⌜ SizeInDomain size ⌝ }
+    ensures { λ r. ⌜ T (inDomain r) ⌝ }
 {
-    1.0 / ((size as i64) as f32)
+    let r = 1.0 / ((size as i64) as f32);
+    if geometry::in_domain(r) {
+        return r;
+    }
+    0.0
 }
 
 // The whole number that a pattern says when 12,582,912 was added to it: there the last digit is worth 1.
@@ -124,17 +129,16 @@ fn digits(b: u32) -> i32 {
 }
 
 // A guess at the cell number of a coordinate, by 1 / size: it is held to the edges of that cell, and nothing else rests on it.
-fn guess(rate: f32, x: f32) -> i32 {
+fn guess(rate: f32, x: f32) -> i32
+    requires { ⌜ T (inDomain rate) × T (inDomain x) ⌝ }
+{
     let t = x * rate - 0.4990234375 + 12582912.0;
-    if t != t {
-        return 0;
-    }
     digits(f32::to_bits(t))
 }
 
 // The cell number of a coordinate: the guess if it stands there, since that takes no division; else by the cell rule.
 fn near_cell(size: u64, rate: f32, x: f32) -> i32
-    requires { ⌜ SizeInDomain size × T (inDomain x) ⌝ }
+    requires { ⌜ SizeInDomain size × T (inDomain x) × T (inDomain rate) ⌝ }
     ensures { λ r. ⌜ r ≡ cellOf (pos size) x ⌝ }
 {
     let c = guess(rate, x);
@@ -182,7 +186,7 @@ fn way_of(s: usize, a: Cell, b: Cell) -> [u64; 4]
 
 // The way of a box of the domain.
 fn wide_way(size: u64, rate: f32, s: usize, b: Aabb) -> [u64; 4]
-    requires { ⌜ (s < 256) × SizeInDomain size × T (aabbInDomain b) ⌝ }
+    requires { ⌜ (s < 256) × SizeInDomain size × T (aabbInDomain b) × T (inDomain rate) ⌝ }
     ensures { λ r. ⌜ Given (Tables.covers size b ≤ mostCells) (wayOf s (spanOf size b)) r ⌝ }
 {
     let ll = b.ll;
@@ -198,7 +202,7 @@ fn wide_way(size: u64, rate: f32, s: usize, b: Aabb) -> [u64; 4]
 
 // The way of an occupied slot; its step is 0 if the box is not one of a grid. A box of one cell needs no count.
 fn live_way(reals: &[[f32; 4]], size: u64, rate: f32, s: usize) -> [u64; 4]
-    requires { ⌜ (s < length (now reals)) × (s < 256) × SizeInDomain size ⌝ }
+    requires { ⌜ (s < length (now reals)) × (s < 256) × SizeInDomain size × T (inDomain rate) ⌝ }
     ensures { λ r. ⌜ Given (BoxOk size (aabbAt (was reals) s)) (wayOf s (spanOf size (aabbAt (was reals) s))) r ⌝ }
 {
     let b = load_box(reals, s);
@@ -227,7 +231,7 @@ fn slot_way(
     rate: f32,
     s: usize,
 ) -> [u64; 4]
-    requires { ⌜ (s < length (now nums)) × (s < length (now reals)) × (s < 256) × SizeInDomain size × (head + s / 64 < length (now map)) ⌝ }
+    requires { ⌜ (s < length (now nums)) × (s < length (now reals)) × (s < 256) × SizeInDomain size × (head + s / 64 < length (now map)) × T (inDomain rate) ⌝ }
     ensures { λ r. ⌜ Given (SlotOk (was nums) (was reals) (was map) size s) (wayAt (was nums) (was reals) size s) r ⌝ }
 {
     let n = nums[s];

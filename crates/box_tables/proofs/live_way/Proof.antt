@@ -10,7 +10,7 @@ use Rattle.geometry.specs.declared.Aabb.{Aabb}
 use Rattle.box_tables.specs.Way.{spanOf, wayOf}
 use Rattle.box_tables.specs.Check.{BoxOk, Given}
 use Rattle.box_tables.proofs.Shared.{given-none, given-some, jump-some, in-domain, box-refused}
-use Rattle.box_tables.proofs.laws.CornerLaws.{one-covers, one-way}
+use Rattle.box_tables.proofs.laws.CornerLaws.{low-domain, one-covers, one-way}
 use Rattle.box_tables.proofs.live_way.Statement.{statement}
 use Rattle.box_tables.proofs.live_way.Tie as tie
 
@@ -55,11 +55,11 @@ live-way-spec =
     (λ c κs. search needs)
     (λ c κs. search needs)
     returns
-    (λ c κs. search needs)
-    (λ c κs. search needs)
+    (λ c κs. let e = c .before in (e .before .before .before .pre .3, low-domain (e .before .before .load-box .result) (held e) .0))
+    (λ c κs. let e = c .before .before in (e .before .before .before .pre .3, low-domain (e .before .before .load-box .result) (held e) .1))
     (λ c κs. let e = c .before .before .before in (e .before .before .before .pre .2, held e))
     (λ c κs. search needs)
     (λ c κs. search needs)
     returns-2
-    (λ c κs. let e = c .before .before .before .before .before in (e .before .before .before .pre .1, e .before .before .before .pre .2, held e))
+    (λ c κs. let e = c .before .before .before .before .before in (e .before .before .before .pre .1, e .before .before .before .pre .2, held e, e .before .before .before .pre .3))
     returns-3)

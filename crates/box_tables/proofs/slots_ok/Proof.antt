@@ -23,7 +23,7 @@ slot-way-requires : tie.Need-slot-way-requires Inv-loop μ-loop
 slot-way-requires c κs =
     let p = c .before .before .before .before .before .pre .0 in
     let t = c .loop-test .taken in
-    (t, omega (arith, t, p .of-reals), omega (arith, t, p .most), p .size, omega (arith, t, p .of-map))
+    (t, omega (arith, t, p .of-reals), omega (arith, t, p .most), p .size, omega (arith, t, p .of-map), c .before .before .rate-of .ensures)
 
 returns : tie.Need-returns Inv-loop μ-loop
 returns c =

@@ -10,16 +10,16 @@ use Rattle.box_tables.proofs.wide_way.Statement.{statement}
 use Rattle.box_tables.proofs.wide_way.Tie as tie
 
 near-cell-requires : tie.Need-near-cell-requires
-near-cell-requires c κs = let s = c .before .before in (s .pre .1, low-domain (s .args .b) (s .pre .2) .0)
+near-cell-requires c κs = let s = c .before .before in (s .pre .1, low-domain (s .args .b) (s .pre .2) .0, s .pre .3)
 
 near-cell-requires-2 : tie.Need-near-cell-requires-2
-near-cell-requires-2 c κs = let s = c .before .before .before in (s .pre .1, low-domain (s .args .b) (s .pre .2) .1)
+near-cell-requires-2 c κs = let s = c .before .before .before in (s .pre .1, low-domain (s .args .b) (s .pre .2) .1, s .pre .3)
 
 near-cell-requires-3 : tie.Need-near-cell-requires-3
-near-cell-requires-3 c κs = let s = c .before .before .before .before in (s .pre .1, high-domain (s .args .b) (s .pre .2) .0)
+near-cell-requires-3 c κs = let s = c .before .before .before .before in (s .pre .1, high-domain (s .args .b) (s .pre .2) .0, s .pre .3)
 
 near-cell-requires-4 : tie.Need-near-cell-requires-4
-near-cell-requires-4 c κs = let s = c .before .before .before .before .before in (s .pre .1, high-domain (s .args .b) (s .pre .2) .1)
+near-cell-requires-4 c κs = let s = c .before .before .before .before .before in (s .pre .1, high-domain (s .args .b) (s .pre .2) .1, s .pre .3)
 
 way-of-requires : tie.Need-way-of-requires
 way-of-requires c κs =
