@@ -2,7 +2,6 @@
 use Prim.Native.Nat.{_-_, _≤_}
 use native.Mathlib.Omega.{arith}
 use borrow.Author.Count.{below-none, below-more}
-use borrow.Author.Needs.{needs}
 use Rattle.basics.specs.Says.{says-yes, says-no}
 use Rattle.box_tables.specs.Check.{Met}
 use Rattle.box_tables.proofs.all_met.Statement.{statement}

@@ -61,7 +61,7 @@ module _ (t : Tables) where
       let q : w .slot ≡ s = item-same (w .slot) s (eqb (covers (sizeOf t) (aabbOn t (w .slot))) 1) m (sym (w .item) ∙ e) in
       n (ap (phaseAt (t .nums)) (sym q) ∙ w .occupied))) rows a)
 
-  -- the rows of a slot are those of its item, and they are none if it is not occupied
+  -- the rows of a slot are those of its item
   pub of-slot : (rows : List (List ℕ)) → All (Named t) rows → (s : ℕ) → filter (λ r. eqb (slotOf r) s) rows ≡ filter (isItem (itemOn t s)) rows
   of-slot rows a s = filter-same (λ r. eqb (slotOf r) s) (isItem (itemOn t s)) rows (all-map (Named t) (λ r. eqb (slotOf r) s ≡ isItem (itemOn t s) r) same rows a)
     where
@@ -70,9 +70,6 @@ module _ (t : Tables) where
           let e : slotOf r ≡ w .slot = named-slot t r w in
           says-same (eqb (slotOf r) s) (isItem (itemOn t s) r) (eqb-says (slotOf r) s)
           (says-via (λ q. e ∙ item-on-same (w .slot) s (sym (w .item) ∙ q)) (λ q. w .item ∙ ap (itemOn t) (sym e ∙ q)) (eqb-says (rowItem r) (itemOn t s)))
-
-  pub of-slot-none : (rows : List (List ℕ)) → All (Named t) rows → (s : ℕ) → (phaseAt (t .nums) s ≡ live → ⊥) → filter (λ r. eqb (slotOf r) s) rows ≡ []
-  of-slot-none rows a s n = of-slot rows a s ∙ not-named rows a s n (eqb (covers (sizeOf t) (aabbOn t s)) 1)
 
 module _ (t : Tables) (h : Holds t) where
   -- ---- lengths

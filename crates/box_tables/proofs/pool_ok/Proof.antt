@@ -1,10 +1,6 @@
 -- `box_tables::pool_ok` meets its contract. Assumes nothing.
-use mathlib.Core.Path.{_≡_}
-use mathlib.Core.List.{List}
-use Prim.Native.Nat.{ℕ}
 use borrow.Author.Needs.{needs}
 use Rattle.basics.specs.Says.{says-no}
-use Rattle.box_tables.specs.Check.{Gone}
 use Rattle.box_tables.proofs.laws.PassLaws.{gone-all, gone-met}
 use Rattle.box_tables.proofs.pool_ok.Statement.{statement}
 use Rattle.box_tables.proofs.pool_ok.Tie as tie

@@ -1,8 +1,6 @@
 -- `box_tables::wide_way` meets its contract. Assumes nothing.
-use mathlib.Core.Path.{_≡_, _∙_}
+use mathlib.Core.Path.{_∙_}
 use mir.Facts.{toZ-ofZ}
-use borrow.Author.Needs.{needs}
-use Rattle.cells.specs.declared.Cell.{Cell}
 use Rattle.cells.specs.Numbers.{cell-ext}
 use Rattle.box_tables.specs.Tables.{lowCell, highCell}
 use Rattle.box_tables.proofs.laws.CornerLaws.{low-domain, high-domain, corners-upright, upright-by, given-by}
