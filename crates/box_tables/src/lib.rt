@@ -111,12 +111,12 @@ fn counts_ok(size: u64, used: usize, pool: usize) -> bool
     used <= pool
 }
 
-// 1 / size, worked out once, so that a guess multiplies.
+// 1 / size, worked out once, so that a guess multiplies; a little more, so that a coordinate on an edge is guessed into its cell, above zero and below.
 fn rate_of(size: u64) -> f32
     requires { ⌜ SizeInDomain size ⌝ }
     ensures { λ r. ⌜ T (inDomain r) ⌝ }
 {
-    let r = 1.0 / ((size as i64) as f32);
+    let r = 1.00000095367431640625 / ((size as i64) as f32);
     if geometry::in_domain(r) {
         return r;
     }
@@ -132,7 +132,7 @@ fn digits(b: u32) -> i32 {
 fn guess(rate: f32, x: f32) -> i32
     requires { ⌜ T (inDomain rate) × T (inDomain x) ⌝ }
 {
-    let t = x * rate - 0.4990234375 + 12582912.0;
+    let t = x * rate - 0.5 + 12582912.0;
     digits(f32::to_bits(t))
 }
 

@@ -7,8 +7,8 @@ use Rattle.box_tables.proofs.laws.NumberLaws.{guess-number}
 use Rattle.box_tables.proofs.guess.Statement.{statement}
 use Rattle.box_tables.proofs.guess.Tie as tie
 
--- 0.4990234375 and 12,582,912
-less-finite : T (finite (ofBits binary32 1056931840))
+-- 0.5 and 12,582,912
+less-finite : T (finite (ofBits binary32 1056964608))
 unfolding ofBits
 less-finite = tt
 
