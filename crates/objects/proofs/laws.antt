@@ -1,3 +1,4 @@
 -- Laws, and what the proofs share.
 pub mod OccupiedLaws
 pub mod ColumnLaws
+pub mod KeptLaws

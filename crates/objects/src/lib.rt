@@ -1,6 +1,7 @@
 // The object records of the point grid, and the columns that they stand in. The Rust's StoreObject and ObjectState.
 ghost use mathlib.Core.Path.{_≡_};
 ghost use Prim.Native.Nat.{_≤_, _<_};
+ghost use mathlib.Core.List.{[]};
 ghost use lib.ListN.{length, set};
 ghost use Rattle.basics.specs.Lent.{was, is};
 ghost use Rattle.basics.specs.Says.{Says};
@@ -9,9 +10,11 @@ ghost use Rattle.cells.specs.CellRule.{cellAt};
 ghost use Rattle.cells.specs.Span.{Spans};
 ghost use Rattle.cells.specs.Key.{keyOf};
 ghost use Rattle.objects.specs.Occupied.{InDomain, Agrees, InCell};
-ghost use Rattle.objects.specs.Columns.{tagOf, pendingOf, targetOf, stateOf, recordAt, numsOf, realsOf, intsOf, pendingIn};
+ghost use Rattle.objects.specs.Columns.{tagOf, pendingOf, targetOf, stateOf, recordAt, numsOf, realsOf, intsOf, recordOf, pendingIn};
+ghost use Rattle.objects.specs.Kept.{Kept};
 
 mod entries;
+mod spans;
 
 use cells::Cell;
 use cells::Span;
@@ -20,6 +23,7 @@ pub use entries::entry_row;
 pub use entries::entry_spot;
 pub use entries::spot_at;
 use geometry::Position;
+pub use spans::span_at;
 
 // What maintain has still to do to an object.
 pub enum State {
@@ -136,37 +140,33 @@ pub fn store(
     ints[i] = [c.x, c.y, d.x, d.y];
 }
 
-// Whether a position of the domain lies in a cell.
-fn placed(size: u64, p: Position, c: Cell) -> bool
-    requires { ⌜ SizeInDomain size ⌝ }
-    ensures { λ b. ⌜ Says b (InDomain p × (cellAt size p ≡ c)) ⌝ }
-{
-    if !geometry::position_in_domain(p) {
-        return false;
-    }
-    if cells::stands(size, p.x, c.x) {
-        return cells::stands(size, p.y, c.y);
-    }
-    false
-}
-
-// Whether a position of the domain lies in a cell that is not c.
-fn relocated(size: u64, p: Position, to: Cell, c: Cell) -> bool
-    requires { ⌜ SizeInDomain size ⌝ }
-    ensures { λ b. ⌜ Says b (InDomain p × (cellAt size p ≡ to) × (to ≡ c → ⊥)) ⌝ }
-{
-    if cells::same_cell(to, c) {
-        return false;
-    }
-    placed(size, p, to)
-}
-
 // Whether a position lies in a cell that has these spans.
 fn inside(size: u64, c: Cell, x: Span, y: Span, p: Position) -> bool
     requires { ⌜ Spans size (c .x) (x .lo) (x .hi) × Spans size (c .y) (y .lo) (y .hi) ⌝ }
     ensures { λ b. ⌜ Says b (InDomain p × (cellAt size p ≡ c)) ⌝ }
 {
     cells::in_span(x, p.x) & cells::in_span(y, p.y)
+}
+
+// Whether a position of the domain lies in a cell that is not c.
+fn relocated(
+    size: u64,
+    p: Position,
+    to: Cell,
+    c: Cell,
+    known: &mut [u64; 128],
+    ends: &mut [[f32; 2]; 128],
+) -> bool
+    requires { ⌜ SizeInDomain size × Kept size (now known) (now ends) ⌝ }
+    ensures says { λ b. ⌜ Says b (InDomain p × (cellAt size p ≡ to) × (to ≡ c → ⊥)) ⌝ }
+    ensures kept { λ b. ⌜ Kept size (is known) (is ends) ⌝ }
+{
+    if cells::same_cell(to, c) {
+        return false;
+    }
+    let x = span_at(size, cells::up_from_least(to.x), known, ends);
+    let y = span_at(size, cells::up_from_least(to.y), known, ends);
+    inside(size, to, x, y, p)
 }
 
 // Whether rows are those of an object of cell c, which has these spans, at a position of the cell.
@@ -181,31 +181,55 @@ pub fn in_cell(size: u64, c: Cell, x: Span, y: Span, q: [f32; 4], z: [i32; 4]) -
 }
 
 // Whether what is pending, by a tag that is not 0, agrees with the cell rule for an object of cell c.
-fn agrees(size: u64, c: Cell, x: Span, y: Span, tag: u32, p: Position, to: Cell) -> bool
-    requires { ⌜ SizeInDomain size × Spans size (c .x) (x .lo) (x .hi) × Spans size (c .y) (y .lo) (y .hi) × (tag ≡ 0 → ⊥) ⌝ }
-    ensures { λ b. ⌜ Says b ((tag ≤ 3) × Agrees size c (stateOf tag p to)) ⌝ }
+fn agrees(
+    size: u64,
+    c: Cell,
+    x: Span,
+    y: Span,
+    tag: u32,
+    p: Position,
+    to: Cell,
+    known: &mut [u64; 128],
+    ends: &mut [[f32; 2]; 128],
+) -> bool
+    requires { ⌜ SizeInDomain size × Spans size (c .x) (x .lo) (x .hi) × Spans size (c .y) (y .lo) (y .hi) × (tag ≡ 0 → ⊥) × Kept size (now known) (now ends) ⌝ }
+    ensures says { λ b. ⌜ Says b ((tag ≤ 3) × Agrees size c (stateOf tag p to)) ⌝ }
+    ensures kept { λ b. ⌜ Kept size (is known) (is ends) ⌝ }
 {
     if tag == 1 {
         return inside(size, c, x, y, p);
     }
     if tag == 2 {
-        return relocated(size, p, to, c);
+        return relocated(size, p, to, c, known, ends);
     }
     tag == 3
 }
 
-pub fn pending_ok(size: u64, c: Cell, x: Span, y: Span, tag: u32, q: [f32; 4], z: [i32; 4]) -> bool
-    requires { ⌜ SizeInDomain size × Spans size (c .x) (x .lo) (x .hi) × Spans size (c .y) (y .lo) (y .hi) × (tag ≡ 0 → ⊥) ⌝ }
-    ensures { λ b. ⌜ Says b ((tag ≤ 3) × Agrees size c (pendingIn tag q z)) ⌝ }
+// Whether what is pending agrees, for an object whose cell, that of row z, has these spans.
+pub fn pending_ok(
+    size: u64,
+    x: Span,
+    y: Span,
+    tag: u32,
+    q: [f32; 4],
+    z: [i32; 4],
+    known: &mut [u64; 128],
+    ends: &mut [[f32; 2]; 128],
+) -> bool
+    requires { ⌜ SizeInDomain size × Spans size (recordOf [] q z .cell .x) (x .lo) (x .hi) × Spans size (recordOf [] q z .cell .y) (y .lo) (y .hi) × (tag ≡ 0 → ⊥) × Kept size (now known) (now ends) ⌝ }
+    ensures says { λ b. ⌜ Says b ((tag ≤ 3) × Agrees size (recordOf [] q z .cell) (pendingIn tag q z)) ⌝ }
+    ensures kept { λ b. ⌜ Kept size (is known) (is ends) ⌝ }
 {
     agrees(
         size,
-        c,
+        Cell { x: z[0], y: z[1] },
         x,
         y,
         tag,
         Position { x: q[2], y: q[3] },
         Cell { x: z[2], y: z[3] },
+        known,
+        ends,
     )
 }
 

@@ -9,6 +9,7 @@ ghost use Rattle.basics.specs.Says.{Says};
 ghost use Rattle.cells.specs.Size.{SizeInDomain};
 ghost use Rattle.cells.specs.Key.{cellOfKey};
 ghost use Rattle.cells.specs.Span.{Spans};
+ghost use Rattle.objects.specs.Kept.{Kept};
 ghost use Rattle.pool_pass.specs.Pass.{Right, Run, Passes, Room, Named};
 use cells::Cell;
 use cells::Span;
@@ -26,9 +27,12 @@ fn entry_ok(
     y: Span,
     mark: u64,
     e: Entry,
+    known: &mut [u64; 128],
+    ends: &mut [[f32; 2]; 128],
 ) -> bool
-    requires { ⌜ (length (now reals) ≡ length (now nums)) × (length (now ints) ≡ length (now nums)) × SizeInDomain size × Spans size (c .x) (x .lo) (x .hi) × Spans size (c .y) (y .lo) (y .hi) ⌝ }
-    ensures { λ b. ⌜ Says b (Right (was nums) (was reals) (was ints) size c mark e) ⌝ }
+    requires { ⌜ (length (now reals) ≡ length (now nums)) × (length (now ints) ≡ length (now nums)) × SizeInDomain size × Spans size (c .x) (x .lo) (x .hi) × Spans size (c .y) (y .lo) (y .hi) × Kept size (now known) (now ends) ⌝ }
+    ensures says { λ b. ⌜ Says b (Right (was nums) (was reals) (was ints) size c mark e) ⌝ }
+    ensures kept { λ b. ⌜ Kept size (is known) (is ends) ⌝ }
 {
     let s = e.slot;
     if nums.len() <= s {
@@ -57,7 +61,7 @@ fn entry_ok(
     if mark != 1 {
         return false;
     }
-    objects::pending_ok(size, c, x, y, tag, q, z)
+    objects::pending_ok(size, x, y, tag, q, z, known, ends)
 }
 
 // The end of the run of entries from entry `from` on that are right in the list of this key and mark; the marks are set for the slots that they name.
@@ -75,13 +79,16 @@ fn run_end(
     mark: u64,
     from: usize,
     marks: &mut [bool; 4096],
+    known: &mut [u64; 128],
+    ends: &mut [[f32; 2]; 128],
 ) -> usize
-    requires cell { ⌜ (c ≡ cellOfKey key) × Spans size (c .y) (y .lo) (y .hi) ⌝ }
+    requires cell { ⌜ (c ≡ cellOfKey key) × Spans size (c .y) (y .lo) (y .hi) × Kept size (now known) (now ends) ⌝ }
     requires { ⌜ (length (now nums) ≤ 4096) × (length (now reals) ≡ length (now nums)) × (length (now ints) ≡ length (now nums)) × (used ≤ length (now pool)) × (used ≤ length (now spots)) × SizeInDomain size × (from ≤ used) × Named (now pool) (now marks) from × (length (now marks) ≡ 4096) ⌝ }
     ensures run { λ e. ⌜ Run (was nums) (was reals) (was ints) (was pool) (was spots) size used key mark from e ⌝ }
     ensures named { λ e. ⌜ Named (was pool) (is marks) e × (length (is marks) ≡ 4096) ⌝ }
+    ensures kept { λ e. ⌜ Kept size (is known) (is ends) ⌝ }
 {
-    let x = cells::span_of(size, c.x);
+    let x = objects::span_at(size, cells::column_of(key), known, ends);
     let mut j = from;
     while j < used {
         let row = pool[j];
@@ -89,7 +96,7 @@ fn run_end(
             return j;
         }
         let e = objects::entry_at(pool, spots, j);
-        if !entry_ok(nums, reals, ints, size, c, x, y, mark, e) {
+        if !entry_ok(nums, reals, ints, size, c, x, y, mark, e, known, ends) {
             return j;
         }
         let s = e.slot;
@@ -113,7 +120,8 @@ fn follows(last: u64, row: [u64; 2]) -> bool
 }
 
 // Whether the pool and the cell table are right, and the record of each slot that an entry names; the marks are then set for these slots.
-// Most rows have the line of the row before, so the ends of its span are kept. At first the key is 0, that of no object, and the span is empty.
+// Most rows have the line of the row before, so the ends of its span are kept, and the spans of columns that come again, in `known` and `ends`.
+// At first the key is 0, that of no object, and each span is empty.
 pub fn pool_ok(
     nums: &[[u32; 4]],
     reals: &[[f32; 4]],
@@ -135,6 +143,8 @@ pub fn pool_ok(
     let mut y_hi = 0.0;
     let mut r = 0;
     let mut j = 0;
+    let mut known = [0; 128];
+    let mut ends = [[1.0, 0.0]; 128];
     while r < rows {
         let row = cells[r];
         if !follows(last, row) {
@@ -160,6 +170,8 @@ pub fn pool_ok(
             row[1],
             j,
             marks,
+            &mut known,
+            &mut ends,
         );
         if e <= j {
             return false;

@@ -19,18 +19,22 @@ at : (s : tie.Start) (b : Bool) (t : ℕ) → s .args .tag ≡ t → Says b (Ask
 at s b t e = subst (λ (k : ℕ). Says b (Asked s k)) (sym e)
 
 returns : tie.Need-returns
-returns c = at (c .before .before) _ 1 (c .before .if1 .taken) (says-via (λ w. (omega arith, w)) (λ w. w .1) (c .inside .ensures))
+returns c = let s = c .before .before in (at s _ 1 (c .before .if1 .taken) (says-via (λ w. (omega arith, w)) (λ w. w .1) (c .inside .ensures)), s .pre .4)
 
 returns-2 : tie.Need-returns-2
-returns-2 c = at (c .before .before .before) _ 2 (c .before .if2 .taken) (says-via (λ w. (omega arith, w)) (λ w. w .1) (c .relocated .ensures))
+returns-2 c =
+    let d = c .before .before .before in
+    (at (d .before .before) _ 2 (d .if2 .taken) (says-via (λ w. (omega arith, w)) (λ w. w .1) (c .relocated .ensures .0)), c .relocated .ensures .1)
 
 returns-3 : tie.Need-returns-3
 returns-3 c =
-    let s = c .before .before in
-    record {
-      yes = λ e. subst (Asked s) (sym (eqb-true _ _ e)) (omega arith, tt);
-      no = λ w. eq-eqb (s .args .tag) 3 (omega (arith, w .0, c .if2 .left, c .before .if1 .left, s .pre .3));
-    }
+    let s = c .before .before in (
+      record {
+        yes = λ e. subst (Asked s) (sym (eqb-true _ _ e)) (omega arith, tt);
+        no = λ w. eq-eqb (s .args .tag) 3 (omega (arith, w .0, c .if2 .left, c .before .if1 .left, s .pre .3));
+      },
+      s .pre .4,
+    )
 
 pub agrees-spec : {M : Type 1} → statement M
 agrees-spec = tie.close (tie.spec (λ c κs. search needs) returns (λ c κs. search needs) returns-2 returns-3)

@@ -1,5 +1,6 @@
 -- `pool_pass::pool_ok` meets its contract. With r rows met, all is right up to entry j, the marks say which slots were named, entry j is not right in
--- the list of the last row, and the two locals are the span of its line. The measure is what is left of the rows. Assumes nothing.
+-- the list of the last row, the two locals are the span of its line, and the spans kept are those of their columns. The measure is what is left of
+-- the rows. Assumes nothing.
 use Prim.Native.Nat.{ℕ, _+_, _-_, _*_, _≤_, _<_}
 use mathlib.Core.Path.{_≡_, refl, sym, _∙_, ap, subst}
 use mathlib.Core.Bool.{false}
@@ -17,6 +18,8 @@ use Rattle.cells.specs.Key.{downward, lineOf, cellOfKey}
 use Rattle.cells.specs.Span.{Spans}
 use Rattle.cells.proofs.laws.SpanLaws.{no-span}
 use Rattle.storage.specs.Packed.{first, second}
+use Rattle.objects.specs.Kept.{Kept}
+use Rattle.objects.proofs.laws.KeptLaws.{kept-same}
 use Rattle.pool_pass.specs.Pass.{Here, Passes, Named}
 use Rattle.pool_pass.proofs.Shared.{back}
 use Rattle.pool_pass.proofs.laws.MarkLaws.{named-none}
@@ -26,16 +29,20 @@ use Rattle.pool_pass.proofs.pool_ok.Statement.{statement}
 use Rattle.pool_pass.proofs.pool_ok.Tie as tie
 
 abbrev Inv-loop : tie.InvT-loop
-Inv-loop nums reals ints pool spots cells used rows size marks₀ last₀ y-lo₀ y-hi₀ r₀ j₀ marks last y-lo y-hi r j = (r ≤ rows) × (j ≤ used) × (length marks ≡ 4096) × Passed nums reals ints pool spots cells size rows j r × Named pool marks j × (r ≡ 0 → last ≡ 0) × (0 < r → last ≡ first cells (r - 1)) × (0 < r → j < used → Here nums reals ints pool spots size (first cells (r - 1)) (second cells (r - 1)) j → ⊥) × Spans size (cellOfKey last .y) y-lo y-hi
+Inv-loop nums reals ints pool spots cells used rows size marks₀ last₀ y-lo₀ y-hi₀ r₀ j₀ known₀ ends₀ marks last y-lo y-hi r j known ends = (r ≤ rows) × (j ≤ used) × (length marks ≡ 4096) × Passed nums reals ints pool spots cells size rows j r × Named pool marks j × (r ≡ 0 → last ≡ 0) × (0 < r → last ≡ first cells (r - 1)) × (0 < r → j < used → Here nums reals ints pool spots size (first cells (r - 1)) (second cells (r - 1)) j → ⊥) × Spans size (cellOfKey last .y) y-lo y-hi × Kept size known ends
 
 abbrev μ-loop : tie.MeasureT-loop
-μ-loop nums reals ints pool spots cells used rows size marks₀ last₀ y-lo₀ y-hi₀ r₀ j₀ marks last y-lo y-hi r j = rows - r
+μ-loop nums reals ints pool spots cells used rows size marks₀ last₀ y-lo₀ y-hi₀ r₀ j₀ known₀ ends₀ marks last y-lo y-hi r j known ends = rows - r
 
 -- ---- the span of a line
--- no coordinate stands on the line of key 0
+-- no coordinate stands on the line of key 0, nor in its column
 first-line : (s : ℕ) → SizeInDomain s → 1048576 < mag (cellOfKey 0 .y) * s
 unfolding cellOfKey
 first-line s h = omega (arith, h)
+
+first-column : (s : ℕ) → SizeInDomain s → 1048576 < mag (cellOfKey 0 .x) * s
+unfolding cellOfKey
+first-column s h = omega (arith, h)
 
 same-line : (a b : ℕ) → lineOf a ≡ lineOf b → cellOfKey a .y ≡ cellOfKey b .y
 unfolding cellOfKey
@@ -48,7 +55,7 @@ loop-holds : tie.Need-loop-holds Inv-loop μ-loop
 loop-holds c =
     let a = c .args in
     let p = c .pre in
-    (omega arith, omega arith, ap length (p .1) ∙ length-replicate 4096 false, passed-none (a .nums .now) (a .reals .now) (a .ints .now) (a .pool .now) (a .spots .now) (a .cells .now) (a .size) (a .rows), subst (λ m. Named (a .pool .now) m 0) (sym (p .1)) (named-none (a .pool .now) 4096), (λ h. refl), (λ h. absurd (omega arith)), (λ h. absurd (omega arith)), no-span (a .size) (p .0 .of-size) (cellOfKey 0 .y) (first-line (a .size) (p .0 .of-size)))
+    (omega arith, omega arith, ap length (p .1) ∙ length-replicate 4096 false, passed-none (a .nums .now) (a .reals .now) (a .ints .now) (a .pool .now) (a .spots .now) (a .cells .now) (a .size) (a .rows), subst (λ m. Named (a .pool .now) m 0) (sym (p .1)) (named-none (a .pool .now) 4096), (λ h. refl), (λ h. absurd (omega arith)), (λ h. absurd (omega arith)), no-span (a .size) (p .0 .of-size) (cellOfKey 0 .y) (first-line (a .size) (p .0 .of-size)), kept-same (a .size) 0 _ (no-span (a .size) (p .0 .of-size) (cellOfKey 0 .x) (first-column (a .size) (p .0 .of-size))))
 
 -- where all is right, a row comes behind the last one, and the first behind 0
 behind : (d : tie.In-loop Inv-loop μ-loop)
@@ -82,22 +89,23 @@ spans d =
 
 run-end-requires : tie.Need-run-end-requires Inv-loop μ-loop
 run-end-requires c κs =
-    let d = c .before in
+    let d = c .before .before .before in
     let k = d .before .before .before .cell-of-key in
     let l = turn d in
     let a = l .before .args in
     let p = l .before .pre .0 in
     let y : Spans (a .size) (k .result .y) (d .if2 .y-lo) (d .if2 .y-hi) = subst (λ (h : Cell). Spans (a .size) (h .y) (d .if2 .y-lo) (d .if2 .y-hi)) (sym (k .ensures)) (spans d) in
-    ((k .ensures, y), (p .most, p .of-reals, p .of-ints, p .in-pool, p .in-spots, p .of-size, l .loop .inv .1, l .loop .inv .4, l .loop .inv .2))
+    ((k .ensures, y, l .loop .inv .9), (p .most, p .of-reals, p .of-ints, p .in-pool, p .in-spots, p .of-size, l .loop .inv .1, l .loop .inv .4, l .loop .inv .2))
 
 returns-2 : tie.Need-returns-2 Inv-loop μ-loop
 returns-2 c =
-    let d = turn (c .before .before .before) in
+    let j = c .before .before .before .before .before in
+    let d = turn j in
     let l = d .loop in
     let a = d .before .args in
     let u = c .before .run-end .ensures .0 in (
       says-no (λ t.
-          let o = next-entry (a .nums .now) (a .reals .now) (a .ints .now) (a .pool .now) (a .spots .now) (a .cells .now) (a .size) (a .used) (a .rows) t (l .j) (l .r) (l .inv .3) (l .inv .7) (l .inv .1) (c .before .before .before .before .before .before .before .before .before .before .loop-test .taken) in
+          let o = next-entry (a .nums .now) (a .reals .now) (a .ints .now) (a .pool .now) (a .spots .now) (a .cells .now) (a .size) (a .used) (a .rows) t (l .j) (l .r) (l .inv .3) (l .inv .7) (l .inv .1) (j .before .before .before .before .before .before .before .loop-test .taken) in
           let e : l .j ≡ c .before .run-end .result = omega (arith, c .if3 .taken, u .up) in
           u .stop (omega (arith, o .0, e)) (subst (Here (a .nums .now) (a .reals .now) (a .ints .now) (a .pool .now) (a .spots .now) (a .size) (first (a .cells .now) (l .r)) (second (a .cells .now) (l .r))) e (o .1))),
       λ e. absurd (apart e),
@@ -105,7 +113,7 @@ returns-2 c =
 
 loop-again : tie.Need-loop-again Inv-loop μ-loop
 loop-again c =
-    let s = c .before .before .before in
+    let s = c .before .before .before .before .before in
     let g = s .before .before .before .before in
     let d = g .before .before .before in
     let l = d .before .loop in
@@ -115,13 +123,14 @@ loop-again c =
     let f : l .r + 1 - 1 ≡ l .r = omega arith in (
       omega (arith, d .loop-test .taken),
       n .0 .most,
-      n .1 .1,
+      n .1 .0 .1,
       passed-run (a .nums .now) (a .reals .now) (a .ints .now) (a .pool .now) (a .spots .now) (a .cells .now) (a .size) (a .used) (a .rows) (l .j) (l .r) (c .before .run-end .result) (l .inv .3) (λ h. omega (arith, v .0, l .inv .6 h)) (d .loop-test .taken) (v .1) (n .0) (c .if3 .left),
-      n .1 .0,
+      n .1 .0 .0,
       λ h. absurd (omega (arith, h)),
       λ h. ap (first (a .cells .now)) (sym f),
       λ h i w. n .0 .stop i (subst (λ (r : ℕ). Here (a .nums .now) (a .reals .now) (a .ints .now) (a .pool .now) (a .spots .now) (a .size) (first (a .cells .now) r) (second (a .cells .now) r) (c .before .run-end .result)) f w),
       spans s,
+      n .1 .1,
     )
 
 returns-3 : tie.Need-returns-3 Inv-loop μ-loop
