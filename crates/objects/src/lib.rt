@@ -196,13 +196,16 @@ fn agrees(
     ensures says { λ b. ⌜ Says b ((tag ≤ 3) × Agrees size c (stateOf tag p to)) ⌝ }
     ensures kept { λ b. ⌜ Kept size (is known) (is ends) ⌝ }
 {
+    if tag == 3 {
+        return true;
+    }
     if tag == 1 {
         return inside(size, c, x, y, p);
     }
     if tag == 2 {
         return relocated(size, p, to, c, known, ends);
     }
-    tag == 3
+    false
 }
 
 // Whether what is pending agrees, for an object whose cell, that of row z, has these spans.

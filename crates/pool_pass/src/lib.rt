@@ -120,7 +120,7 @@ fn follows(last: u64, row: [u64; 2]) -> bool
 }
 
 // Whether the pool and the cell table are right, and the record of each slot that an entry names; the marks are then set for these slots.
-// Most rows have the line of the row before, so the ends of its span are kept, and the spans of columns that come again, in `known` and `ends`.
+// Most rows have the line of the row before, so the ends of its span are kept; the spans of columns come again, and are in `known` and `ends`.
 // At first the key is 0, that of no object, and each span is empty.
 pub fn pool_ok(
     nums: &[[u32; 4]],
@@ -152,7 +152,7 @@ pub fn pool_ok(
         }
         let c = cells::cell_of_key(row[0]);
         if cells::row_of(row[0]) != cells::row_of(last) {
-            let y = cells::span_of(size, c.y);
+            let y = objects::span_at(size, cells::up_from_least(c.y), &mut known, &mut ends);
             y_lo = y.lo;
             y_hi = y.hi;
         }

@@ -3,9 +3,8 @@ use Prim.Native.Nat.{ℕ, _≤_}
 use mathlib.Core.Path.{_≡_, sym, subst}
 use mathlib.Core.Bool.{Bool}
 use native.Mathlib.Omega.{arith}
-use borrow.Author.Tests.{eqb-true, eq-eqb}
 use borrow.Author.Needs.{needs}
-use Rattle.basics.specs.Says.{Says, says-via}
+use Rattle.basics.specs.Says.{Says, says-yes, says-no, says-via}
 use Rattle.objects.specs.Columns.{stateOf}
 use Rattle.objects.specs.Occupied.{Agrees}
 use Rattle.objects.proofs.agrees.Statement.{statement}
@@ -19,22 +18,23 @@ at : (s : tie.Start) (b : Bool) (t : ℕ) → s .args .tag ≡ t → Says b (Ask
 at s b t e = subst (λ (k : ℕ). Says b (Asked s k)) (sym e)
 
 returns : tie.Need-returns
-returns c = let s = c .before .before in (at s _ 1 (c .before .if1 .taken) (says-via (λ w. (omega arith, w)) (λ w. w .1) (c .inside .ensures)), s .pre .4)
+returns c = let s = c .before in (at s _ 3 (c .if1 .taken) (says-yes (omega arith, tt)), s .pre .4)
 
 returns-2 : tie.Need-returns-2
-returns-2 c =
-    let d = c .before .before .before in
-    (at (d .before .before) _ 2 (d .if2 .taken) (says-via (λ w. (omega arith, w)) (λ w. w .1) (c .relocated .ensures .0)), c .relocated .ensures .1)
+returns-2 c = let s = c .before .before .before in (at s _ 1 (c .before .if2 .taken) (says-via (λ w. (omega arith, w)) (λ w. w .1) (c .inside .ensures)), s .pre .4)
 
 returns-3 : tie.Need-returns-3
 returns-3 c =
-    let s = c .before .before in (
-      record {
-        yes = λ e. subst (Asked s) (sym (eqb-true _ _ e)) (omega arith, tt);
-        no = λ w. eq-eqb (s .args .tag) 3 (omega (arith, w .0, c .if2 .left, c .before .if1 .left, s .pre .3));
-      },
-      s .pre .4,
-    )
+    let d = c .before .before .before in
+    (at (d .before .before .before) _ 2 (d .if3 .taken) (says-via (λ w. (omega arith, w)) (λ w. w .1) (c .relocated .ensures .0)), c .relocated .ensures .1)
+
+returns-4 : tie.Need-returns-4
+returns-4 c =
+    let s = c .before .before .before in
+    (says-no (λ w. let t : s .args .tag ≤ 3 = w .0 in go (s .args .tag) t (s .pre .3) (c .before .before .if1 .left) (c .before .if2 .left) (c .if3 .left)), s .pre .4)
+  where
+    go : (t : ℕ) → t ≤ 3 → (t ≡ 0 → ⊥) → (t ≡ 3 → ⊥) → (t ≡ 1 → ⊥) → (t ≡ 2 → ⊥) → ⊥
+    go t l a b d e = omega arith
 
 pub agrees-spec : {M : Type 1} → statement M
-agrees-spec = tie.close (tie.spec (λ c κs. search needs) returns (λ c κs. search needs) returns-2 returns-3)
+agrees-spec = tie.close (tie.spec returns (λ c κs. search needs) returns-2 (λ c κs. search needs) returns-3 returns-4)

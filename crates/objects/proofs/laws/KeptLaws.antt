@@ -1,5 +1,5 @@
 -- Laws of spans that are kept: at first the same at each place, then one more, and the numbers of a cell's column and line lead back to the cell. Assumes nothing.
-use Prim.Native.Nat.{ℕ, _<_, _%_}
+use Prim.Native.Nat.{ℕ, _<_, _%_, _^_}
 use mathlib.Core.Path.{_≡_, sym, ap, _∙_, subst}
 use mathlib.Core.List.{List, [], _∷_}
 use mathlib.Core.Logic.{inl, inr}
@@ -9,11 +9,14 @@ use lib.Signed.{mag}
 use lib.Ieee.{Float, nan}
 use lib.ListN.{getD, set, replicate, length-set, length-replicate, getD-replicate}
 use lib.Seq.{getD-set-same, getD-set-other}
+use mir.Syntax.{w32}
+use mir.Val.{toZ, ofZ, hbits}
 use Rattle.basics.specs.Says.{Decided, d-eq}
 use Rattle.cells.specs.Key.{upward, downward, columnOf, cellOfKey}
 use Rattle.cells.specs.Span.{Spans}
 use Rattle.cells.proofs.laws.KeyLaws.{upward-lt, downward-upward}
 use Rattle.objects.specs.Kept.{Kept}
+use Rattle.objects.proofs.Shared.{back}
 
 -- ---- the span of a number
 module _ (size : ℕ) where
@@ -32,12 +35,16 @@ module _ (size : ℕ) where
       go j m (inr q) = rw (getD-set-other known i j n 0 q, getD-set-other ends i j e [] q) (k .each j m)
 
 -- ---- the numbers of a cell
-pub of-column : (z : ℤ) → mag z < 2147483648 → cellOfKey (upward z) .x ≡ z
+of-column : (z : ℤ) → mag z < 2147483648 → cellOfKey (upward z) .x ≡ z
 unfolding cellOfKey
 of-column z h = ap downward (small (upward z) (upward-lt z h)) ∙ downward-upward z h
   where
     small : (n : ℕ) → n < 4294967296 → n % 4294967296 ≡ n
     small n l = omega arith
+
+-- a number that was read and counted from the least
+pub counted : {z : ℤ} {n : ℕ} → mag z < 2 ^ hbits w32 → n ≡ upward (toZ w32 (ofZ w32 z)) → cellOfKey n .x ≡ z
+counted {z} g e = ap (λ m. cellOfKey m .x) (e ∙ ap upward (back {z = z} g)) ∙ of-column z g
 
 pub column-of : (key : ℕ) → cellOfKey (columnOf key) .x ≡ cellOfKey key .x
 unfolding cellOfKey

@@ -1,16 +1,10 @@
 -- `objects::relocated` meets its contract. Assumes nothing.
-use mathlib.Core.Path.{_≡_, sym, ap, _∙_, subst}
-use Prim.Native.Nat.{ℕ, _<_, _^_}
+use mathlib.Core.Path.{sym, _∙_, subst}
 use lib.IntN.{ℤ}
-use lib.Signed.{mag}
-use mir.Syntax.{w32}
-use mir.Val.{toZ, ofZ, hbits}
 use Rattle.basics.specs.Says.{says-no, apart}
 use borrow.Author.Needs.{needs}
-use Rattle.cells.specs.Key.{upward, cellOfKey}
 use Rattle.cells.specs.Span.{Spans}
-use Rattle.objects.proofs.Shared.{back}
-use Rattle.objects.proofs.laws.KeptLaws.{of-column}
+use Rattle.objects.proofs.laws.KeptLaws.{counted}
 use Rattle.objects.proofs.relocated.Statement.{statement}
 use Rattle.objects.proofs.relocated.Tie as tie
 
@@ -23,10 +17,6 @@ first c = c .before .before .before .before .before
 abbrev start : tie.After-span-at2 → tie.Start
 start c = first c .before .before .before .before .before .before .before
 
--- a number of the cell, as it was counted from the least, leads back to it
-number : {z : ℤ} {n : ℕ} → mag z < 2 ^ hbits w32 → n ≡ upward (toZ w32 (ofZ w32 z)) → cellOfKey n .x ≡ z
-number {z} g e = ap (λ m. cellOfKey m .x) (e ∙ ap upward (back {z = z} g)) ∙ of-column z g
-
 span-at-requires-2 : tie.Need-span-at-requires-2
 span-at-requires-2 c κs = let d = c .before .before .before .before in (d .before .before .before .before .before .before .before .pre .0, d .span-at .ensures .1)
 
@@ -36,8 +26,8 @@ inside-requires c κs =
     let d = first c in
     let u = d .before .before .before in
     let v = c .before .before .before in (
-      subst (λ (z : ℤ). Spans (a .size) z (d .span-at .result .lo) (d .span-at .result .hi)) (number (u .before .struct-told .given .0 .1) (u .up-from-least .ensures)) (d .span-at .ensures .0),
-      subst (λ (z : ℤ). Spans (a .size) z (c .span-at2 .result .lo) (c .span-at2 .result .hi)) (number (v .before .struct-told2 .given .1 .0 .1) (v .up-from-least2 .ensures)) (c .span-at2 .ensures .0),
+      subst (λ (z : ℤ). Spans (a .size) z (d .span-at .result .lo) (d .span-at .result .hi)) (counted (u .before .struct-told .given .0 .1) (u .up-from-least .ensures)) (d .span-at .ensures .0),
+      subst (λ (z : ℤ). Spans (a .size) z (c .span-at2 .result .lo) (c .span-at2 .result .hi)) (counted (v .before .struct-told2 .given .1 .0 .1) (v .up-from-least2 .ensures)) (c .span-at2 .ensures .0),
     )
 
 returns-2 : tie.Need-returns-2

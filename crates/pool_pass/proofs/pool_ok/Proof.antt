@@ -4,6 +4,7 @@
 use Prim.Native.Nat.{ℕ, _+_, _-_, _*_, _≤_, _<_}
 use mathlib.Core.Path.{_≡_, refl, sym, _∙_, ap, subst}
 use mathlib.Core.Bool.{false}
+use mathlib.Core.List.{List}
 use mathlib.Core.Logic.{⊎-elim}
 use native.Mathlib.Omega.{arith}
 use lib.IntN.{ℤ}
@@ -19,9 +20,8 @@ use Rattle.cells.specs.Span.{Spans}
 use Rattle.cells.proofs.laws.SpanLaws.{no-span}
 use Rattle.storage.specs.Packed.{first, second}
 use Rattle.objects.specs.Kept.{Kept}
-use Rattle.objects.proofs.laws.KeptLaws.{kept-same}
+use Rattle.objects.proofs.laws.KeptLaws.{kept-same, counted}
 use Rattle.pool_pass.specs.Pass.{Here, Passes, Named}
-use Rattle.pool_pass.proofs.Shared.{back}
 use Rattle.pool_pass.proofs.laws.MarkLaws.{named-none}
 use Rattle.pool_pass.proofs.laws.PassLaws.{below-or, Passed, passed-none, passed-all}
 use Rattle.pool_pass.proofs.laws.RunLaws.{passed-run, row-some, next-row, next-entry}
@@ -83,9 +83,19 @@ turn d = d .before .before .before .before .before .before .before .before
 spans : (d : tie.Joined2 Inv-loop μ-loop) → let a = turn d .before .args in Spans (a .size) (cellOfKey (first (a .cells .now) (turn d .loop .r)) .y) (d .if2 .y-lo) (d .if2 .y-hi)
 spans d =
     ⊎-elim
-    (λ w. spans-of (turn d .before .args .size) (back (w .1 .given .1 .0 .1) ∙ ap (λ (k : Cell). k .y) (d .before .before .before .cell-of-key .ensures)) (w .3) (w .4) (w .2 .ensures))
+    (λ w. spans-of (turn d .before .args .size) (counted (w .1 .given .1 .0 .1) (w .2 .ensures) ∙ ap (λ (k : Cell). k .y) (d .before .before .before .cell-of-key .ensures)) (w .6) (w .7) (w .5 .ensures .0))
     (λ w. spans-of (turn d .before .args .size) (same-line _ _ (sym (d .before .row-of2 .ensures) ∙ sym (w .0 .left) ∙ d .before .before .row-of .ensures)) (w .1) (w .2) (turn d .loop .inv .8))
     (d .if2 .came)
+
+span-at-requires : tie.Need-span-at-requires Inv-loop μ-loop
+span-at-requires c κs = let l = c .before .before .before .before .before .before .before .before .before .before .before .before in (l .before .pre .0 .of-size, l .loop .inv .9)
+
+-- and the spans are kept, whether one more is or not
+kept : (d : tie.Joined2 Inv-loop μ-loop) → Kept (turn d .before .args .size) (d .if2 .known) (d .if2 .ends)
+kept d = ⊎-elim (λ w. kept-of (w .8) (w .9) (w .5 .ensures .1)) (λ w. kept-of (w .3) (w .4) (turn d .loop .inv .9)) (d .if2 .came)
+  where
+    kept-of : {s : ℕ} {k k' : List ℕ} {e e' : List (List Float)} → k' ≡ k → e' ≡ e → Kept s k e → Kept s k' e'
+    kept-of {s} {k} {k'} {e} {e'} f g h = subst (λ (a : List ℕ). Kept s a e') (sym f) (subst (λ (b : List (List Float)). Kept s k b) (sym g) h)
 
 run-end-requires : tie.Need-run-end-requires Inv-loop μ-loop
 run-end-requires c κs =
@@ -95,7 +105,7 @@ run-end-requires c κs =
     let a = l .before .args in
     let p = l .before .pre .0 in
     let y : Spans (a .size) (k .result .y) (d .if2 .y-lo) (d .if2 .y-hi) = subst (λ (h : Cell). Spans (a .size) (h .y) (d .if2 .y-lo) (d .if2 .y-hi)) (sym (k .ensures)) (spans d) in
-    ((k .ensures, y, l .loop .inv .9), (p .most, p .of-reals, p .of-ints, p .in-pool, p .in-spots, p .of-size, l .loop .inv .1, l .loop .inv .4, l .loop .inv .2))
+    ((k .ensures, y, kept d), (p .most, p .of-reals, p .of-ints, p .in-pool, p .in-spots, p .of-size, l .loop .inv .1, l .loop .inv .4, l .loop .inv .2))
 
 returns-2 : tie.Need-returns-2 Inv-loop μ-loop
 returns-2 c =
@@ -167,7 +177,8 @@ pool-ok-spec =
     (λ c. omega arith)
     (λ c κs. tt)
     (λ c κs. tt)
-    (λ c κs. c .before .before .before .before .before .before .before .before .before .before .pre .0 .of-size)
+    (λ c κs. tt)
+    span-at-requires
     (λ c. omega arith)
     (λ c. omega arith)
     run-end-requires
