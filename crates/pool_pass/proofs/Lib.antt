@@ -1,3 +1,2 @@
 -- The laws that the proofs of pool_pass share.
-pub mod Shared
 pub mod laws

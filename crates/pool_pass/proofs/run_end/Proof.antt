@@ -21,7 +21,6 @@ use Rattle.objects.proofs.laws.KeptLaws.{column-of}
 use Rattle.pool_pass.specs.Pass.{Right, Here, Run, Named}
 use Rattle.pool_pass.proofs.laws.MarkLaws.{named-more, named-new}
 use Rattle.pool_pass.proofs.laws.PassLaws.{below-or}
-use Rattle.pool_pass.proofs.Shared.{back}
 use Rattle.pool_pass.proofs.run_end.Statement.{statement}
 use Rattle.pool_pass.proofs.run_end.Tie as tie
 
