@@ -1,4 +1,4 @@
--- The requests that change the boxes: each is a call of the grid, and says its answer and what it returned. Assumes nothing.
+-- The lines that change the boxes: each is a call of the grid, and says its answer and what it returned. Assumes nothing.
 use Prim.Native.Nat.{ℕ}
 use Rattle.slots.specs.declared.Handle.{Handle}
 use Rattle.box_tables.specs.Tables.{Tables}
@@ -7,10 +7,9 @@ use Rattle.box_inserts.specs.Insert.{insertOf}
 use Rattle.box_changes.specs.SetAabb.{setAabbOf}
 use Rattle.box_changes.specs.Remove.{removeOf}
 use Rattle.printing.specs.declared.Said.{Said}
-use Rattle.printing.specs.declared.Said.the-variants.{Refused}
 use Rattle.lines.specs.declared.Spot.{Spot}
-use Rattle.lines.specs.declared.Request.{Request}
-use Rattle.lines.specs.declared.Request.the-variants.{Cell, Ins, Pos, Rem, Now, Mnt, Cir, Rec, Cel, Bin, Bset, Brem, Bqry, Unreadable}
+use Rattle.lines.specs.declared.BoxChange.{BoxChange}
+use Rattle.lines.specs.declared.BoxChange.the-variants.{Bin, Bset, Brem}
 use Rattle.telling.specs.Places.{boxOf}
 use Rattle.telling.specs.Tells.{doneOr, oneOr, twoOr}
 
@@ -30,19 +29,8 @@ placedOf t h ll ur = said doneOr (setAabbOf t h (boxOf ll ur))
 abbrev pub takenOf : Tables → Handle → Outcome Said
 takenOf t h = said (λ r. oneOr (r .answer) (r .obj)) (removeOf t h)
 
--- any other request is not for this call: 10
-unfoldable pub changeOf : Tables → Request → Outcome Said
-changeOf t (Bin ll ur d) = insertedOf t ll ur d
-changeOf t (Bset h ll ur) = placedOf t h ll ur
-changeOf t (Brem h) = takenOf t h
-changeOf t (Cell s) = outcome (Refused 10) t
-changeOf t (Ins p d) = outcome (Refused 10) t
-changeOf t (Pos h p) = outcome (Refused 10) t
-changeOf t (Rem h) = outcome (Refused 10) t
-changeOf t (Now h) = outcome (Refused 10) t
-changeOf t Mnt = outcome (Refused 10) t
-changeOf t (Cir p r) = outcome (Refused 10) t
-changeOf t (Rec p q) = outcome (Refused 10) t
-changeOf t (Cel p q) = outcome (Refused 10) t
-changeOf t (Bqry p q) = outcome (Refused 10) t
-changeOf t Unreadable = outcome (Refused 10) t
+-- the line, with what its record says
+unfoldable pub changeOf : Tables → BoxChange → Handle → Spot → Spot → ℕ → Outcome Said
+changeOf t Bin h p q n = insertedOf t p q n
+changeOf t Bset h p q n = placedOf t h p q
+changeOf t Brem h p q n = takenOf t h

@@ -1,13 +1,12 @@
-// What the box grid of the trace answers to a request: each is one call of the grid.
+// What the box grid of the trace answers to a line: each is one call of the grid.
 ghost use mathlib.Core.Path.{_≡_};
 ghost use Rattle.basics.specs.Lent.{was, is};
 ghost use Rattle.lines.specs.Texts.{SpotInRange};
 ghost use Rattle.box_tables.specs.Lent.{after, before};
 ghost use Rattle.box_tables.specs.Outcome.{outcome};
-ghost use Rattle.telling.specs.InRange.{InRange};
 ghost use Rattle.box_answers.specs.Changes.{changeOf, insertedOf, placedOf, takenOf};
-ghost use Rattle.box_answers.specs.Searches.{searched, searchOf, meetingIn};
-use lines::Request;
+ghost use Rattle.box_answers.specs.Searches.{searched, searchOf};
+use lines::BoxChange;
 use lines::Spot;
 use printing::Said;
 use slots::Handle;
@@ -60,26 +59,30 @@ fn brem(
     telling::one(r.answer, r.obj)
 }
 
-// A request that changes the boxes: bin, bset, brem.
+// A line that changes the boxes, with what its record says.
 pub fn change_boxes(
     nums: &mut [[u32; 4]],
     reals: &mut [[f32; 4]],
     map: &mut [u64],
     pool: &mut [[u64; 2]],
-    r: Request,
+    k: BoxChange,
+    h: Handle,
+    p: Spot,
+    q: Spot,
+    n: u32,
 ) -> Said
-    requires { ⌜ InRange r ⌝ }
-    ensures { λ said. ⌜ outcome said (after nums reals map pool) ≡ changeOf (before nums reals map pool) r ⌝ }
+    requires { ⌜ SpotInRange p × SpotInRange q ⌝ }
+    ensures { λ said. ⌜ outcome said (after nums reals map pool) ≡ changeOf (before nums reals map pool) k h p q n ⌝ }
 {
-    match r {
-        Request::Bin(ll, ur, obj) => bin(nums, reals, map, pool, ll, ur, obj),
-        Request::Bset(h, ll, ur) => bset(nums, reals, map, pool, h, ll, ur),
-        Request::Brem(h) => brem(nums, reals, map, pool, h),
-        _ => Said::Refused(10),
+    match k {
+        BoxChange::Bin => bin(nums, reals, map, pool, p, q, n),
+        BoxChange::Bset => bset(nums, reals, map, pool, h, p, q),
+        BoxChange::Brem => brem(nums, reals, map, pool, h),
     }
 }
 
-fn bqry(
+// The line that searches the boxes. The findings are in the outputs; the trace does not tell their data.
+pub fn search_boxes(
     nums: &[[u32; 4]],
     reals: &[[f32; 4]],
     map: &[u64],
@@ -91,29 +94,9 @@ fn bqry(
     objs: &mut [u32],
 ) -> Said
     requires { ⌜ SpotInRange ll × SpotInRange ur ⌝ }
-    ensures { λ r. ⌜ searched r (is handles) (is corners) (is objs) ≡ meetingIn (before nums reals map pool) ll ur (was handles) (was corners) (was objs) ⌝ }
+    ensures { λ r. ⌜ searched r (is handles) (is corners) (is objs) ≡ searchOf (before nums reals map pool) ll ur (was handles) (was corners) (was objs) ⌝ }
 {
     let q = telling::corners(ll, ur);
     let r = boxes::query(nums, reals, map, pool, q, handles, corners, objs);
     telling::boxes(r.answer, r.count)
-}
-
-// A request that searches the boxes: bqry. The findings are in the outputs; the trace does not tell their data.
-pub fn search_boxes(
-    nums: &[[u32; 4]],
-    reals: &[[f32; 4]],
-    map: &[u64],
-    pool: &[[u64; 2]],
-    r: Request,
-    handles: &mut [[u32; 2]],
-    corners: &mut [[f32; 4]],
-    objs: &mut [u32],
-) -> Said
-    requires { ⌜ InRange r ⌝ }
-    ensures { λ said. ⌜ searched said (is handles) (is corners) (is objs) ≡ searchOf (before nums reals map pool) r (was handles) (was corners) (was objs) ⌝ }
-{
-    match r {
-        Request::Bqry(ll, ur) => bqry(nums, reals, map, pool, ll, ur, handles, corners, objs),
-        _ => Said::Refused(10),
-    }
 }

@@ -9,10 +9,11 @@ use Rattle.basics.specs.Refusals.{pick}
 use Rattle.decimals.specs.declared.Number.{Number}
 use Rattle.decimals.specs.declared.Count.{Count}
 use Rattle.decimals.specs.Fields.{numberOf, countOf}
+use Rattle.lines.specs.declared.Asks.{Asks}
 use Rattle.lines.specs.declared.Request.{Request}
-use Rattle.lines.specs.declared.Request.the-variants.{Unreadable}
-use Rattle.lines.specs.Taken.{Taken, taken, missing, Taker, bind, both, made, numberThen, countThen, takeNumber, takeCount}
-use Rattle.lines.specs.Requests.{whole}
+use Rattle.lines.specs.Words.{Row, sameBytes, rowSays}
+use Rattle.lines.specs.Taken.{Taken, taken, missing, Taker, bind, both, made, numberThen, countThen, takeNumber, takeCount, ifAsked}
+use Rattle.lines.specs.Requests.{unreadable, whole}
 use Rattle.lines.specs.Cursor.{endFrom, fieldsFrom}
 use Rattle.lines.proofs.laws.CursorLaws.{field-at, no-field}
 
@@ -46,7 +47,7 @@ module _ {A B : Type 0} (f : A → B) (p : Taker A) (fs : List (List ℕ)) where
   one-made e = ap (λ (u : Taken A). bind u (λ a gs. taken (f a) gs)) e
 
 module _ {A : Type 0} (f : A → Request) (p : Taker A) (fs : List (List ℕ)) where
-  pub no-request : missing ≡ p fs → Unreadable ≡ whole (made f p fs)
+  pub no-request : missing ≡ p fs → unreadable ≡ whole (made f p fs)
   no-request e = ap whole (none-made f p fs e)
 
   pub one-request : {a : A} {gs : List (List ℕ)} {r : Request} → r ≡ whole (taken (f a) gs) → taken a gs ≡ p fs → r ≡ whole (made f p fs)
@@ -69,9 +70,23 @@ module _ (b : List ℕ) (at end : ℕ) where
   pub count-here : at ≤ length b → end ≡ endFrom b at → {n : Count} → n ≡ countOf (slice at end b) → countThen n (fieldsFrom b (end + 1)) ≡ takeCount (fieldsFrom b at)
   count-here h e q = ap (λ (m : Count). countThen m (fieldsFrom b (end + 1))) q ∙ sym (ap takeCount (here h e))
 
--- ---- one test out of several
-pub hit : {A : Type 0} {t : Bool} (a b : A) → t ≡ true → a ≡ pick t a b
-hit a b e = sym (ap (λ (s : Bool). pick s a b) e)
+-- ---- what is asked for, or not
+module _ {A : Type 0} {asked : Bool} (none : A) (p : Taker A) (fs : List (List ℕ)) where
+  pub if-asked : asked ≡ true → p fs ≡ ifAsked asked none p fs
+  if-asked e = sym (ap (λ (t : Bool). pick t (p fs) (taken none fs)) e)
 
-pub miss : {A : Type 0} {t : Bool} (a : A) {b x : A} → t ≡ false → x ≡ b → x ≡ pick t a b
-miss a {b} e h = h ∙ sym (ap (λ (s : Bool). pick s a b) e)
+  pub not-asked : asked ≡ false → taken none fs ≡ ifAsked asked none p fs
+  not-asked e = sym (ap (λ (t : Bool). pick t (p fs) (taken none fs)) e)
+
+-- ---- one row of the table
+module _ (r : Row) (w : List ℕ) (others : Asks) where
+  pub hit : sameBytes w (r .letters) ≡ true → r .asked ≡ rowSays r w others
+  unfolding rowSays
+  hit e = sym (ap (λ (t : Bool). pick t (r .asked) others) e)
+
+  pub miss : sameBytes w (r .letters) ≡ false → others ≡ rowSays r w others
+  unfolding rowSays
+  miss e = sym (ap (λ (t : Bool). pick t (r .asked) others) e)
+
+pub then-row : (r : Row) (w : List ℕ) {x y z : Asks} → x ≡ rowSays r w y → y ≡ z → x ≡ rowSays r w z
+then-row r w e h = e ∙ ap (rowSays r w) h

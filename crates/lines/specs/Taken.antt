@@ -1,7 +1,10 @@
 -- What is taken off the front of a list of fields: a value and the fields behind it, or nothing, where they do not read so. Assumes nothing.
 use Prim.Native.Nat.{ℕ}
 use mathlib.Core.List.{List, [], _∷_}
-use lib.IntN.{ℤ}
+use mathlib.Core.Bool.{Bool}
+use lib.Dec.{ltb}
+use lib.IntN.{ℤ, pos}
+use Rattle.basics.specs.Refusals.{pick}
 use Rattle.slots.specs.declared.Handle.{Handle}
 use Rattle.decimals.specs.declared.Number.{Number}
 use Rattle.decimals.specs.declared.Number.the-variants.{Read, Unreadable}
@@ -56,5 +59,16 @@ takeSpot = made spotOf (both takeCount takeCount)
 abbrev pub takeHandle : Taker Handle
 takeHandle = made handleOf (both takeNumber takeNumber)
 
-abbrev pub takeSpots : Taker (Spot × Spot)
-takeSpots = both takeSpot takeSpot
+-- what is not asked for is not taken, and is this value
+abbrev pub ifAsked : {A : Type 0} → Bool → A → Taker A → Taker A
+ifAsked asked a p fs = pick asked (p fs) (taken a fs)
+
+abbrev pub nobody : Handle
+nobody = record { slot = 0; version = 0 }
+
+abbrev pub origin : Spot
+origin = record { x = pos 0; y = pos 0 }
+
+-- so many places, of two
+abbrev pub takePlaces : ℕ → Taker (Spot × Spot)
+takePlaces n = both (ifAsked (ltb 0 n) origin takeSpot) (ifAsked (ltb 1 n) origin takeSpot)

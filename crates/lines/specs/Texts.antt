@@ -1,32 +1,19 @@
--- The one text of a request, and when its numbers are in range. Assumes nothing.
+-- The text of a request behind its word, and when its numbers are in range. Assumes nothing.
 use Prim.Native.Nat.{ℕ, _≤_}
+use mathlib.Core.Path.{_≡_}
+use mathlib.Core.Bool.{Bool, true, false}
 use mathlib.Core.List.{List, [], _∷_, _++_}
-use lib.IntN.{ℤ, natAbs}
+use lib.Dec.{ltb}
+use lib.IntN.{ℤ, pos, natAbs}
+use Rattle.basics.specs.Refusals.{pick}
 use Rattle.slots.specs.declared.Handle.{Handle}
 use Rattle.decimals.specs.Text.{decimal, signedText}
 use Rattle.lines.specs.declared.Spot.{Spot}
-use Rattle.lines.specs.declared.Keyword.{Keyword}
-use Rattle.lines.specs.declared.Keyword.the-variants as word
+use Rattle.lines.specs.declared.Asks.{Asks}
 use Rattle.lines.specs.declared.Request.{Request}
-use Rattle.lines.specs.declared.Request.the-variants.{Cell, Ins, Pos, Rem, Now, Mnt, Cir, Rec, Cel, Bin, Bset, Brem, Bqry, Unreadable}
 use Rattle.lines.specs.Fields.{joined}
-use Rattle.lines.specs.Words.{letters}
-
-abbrev pub keywordOf : Request → Keyword
-keywordOf (Cell s) = word.Cell
-keywordOf (Ins p d) = word.Ins
-keywordOf (Pos h p) = word.Pos
-keywordOf (Rem h) = word.Rem
-keywordOf (Now h) = word.Now
-keywordOf Mnt = word.Mnt
-keywordOf (Cir p r) = word.Cir
-keywordOf (Rec p q) = word.Rec
-keywordOf (Cel p q) = word.Cel
-keywordOf (Bin p q d) = word.Bin
-keywordOf (Bset h p q) = word.Bset
-keywordOf (Brem h) = word.Brem
-keywordOf (Bqry p q) = word.Bqry
-keywordOf Unreadable = word.Other
+use Rattle.lines.specs.Words.{askedBy}
+use Rattle.lines.specs.Taken.{nobody, origin}
 
 abbrev pub number : ℕ → List (List ℕ)
 number n = decimal n ∷ []
@@ -41,24 +28,16 @@ abbrev pub handle : Handle → List (List ℕ)
 handle h = decimal (h .slot) ∷ decimal (h .version) ∷ []
 
 -- the fields behind the word
-abbrev pub argumentTexts : Request → List (List ℕ)
-argumentTexts (Cell s) = number s
-argumentTexts (Ins p d) = spot p ++ number d
-argumentTexts (Pos h p) = handle h ++ spot p
-argumentTexts (Rem h) = handle h
-argumentTexts (Now h) = handle h
-argumentTexts Mnt = []
-argumentTexts (Cir p r) = spot p ++ count r
-argumentTexts (Rec p q) = spot p ++ spot q
-argumentTexts (Cel p q) = spot p ++ spot q
-argumentTexts (Bin p q d) = (spot p ++ spot q) ++ number d
-argumentTexts (Bset h p q) = handle h ++ (spot p ++ spot q)
-argumentTexts (Brem h) = handle h
-argumentTexts (Bqry p q) = spot p ++ spot q
-argumentTexts Unreadable = []
+abbrev pub only : Bool → List (List ℕ) → List (List ℕ)
+only asked fs = pick asked fs []
 
-unfoldable pub textOf : Request → List ℕ
-textOf r = joined (letters (keywordOf r) ∷ argumentTexts r)
+abbrev pub argumentTexts : Asks → Request → List (List ℕ)
+argumentTexts k r =
+    ((only (k .handle) (handle (r .h)) ++ (only (ltb 0 (k .places)) (spot (r .p)) ++ only (ltb 1 (k .places)) (spot (r .q)))) ++ only (k .radius) (count (r .far))) ++ only (k .number) (number (r .n))
+
+-- with this word
+unfoldable pub textOf : List ℕ → Request → List ℕ
+textOf word r = joined (word ∷ argumentTexts (askedBy word) r)
 
 abbrev pub NumberInRange : ℕ → Type 0
 NumberInRange n = n ≤ 4294967295
@@ -72,19 +51,15 @@ SpotInRange p = CountInRange (p .x) × CountInRange (p .y)
 abbrev pub HandleInRange : Handle → Type 0
 HandleInRange h = NumberInRange (h .slot) × NumberInRange (h .version)
 
--- a request with its numbers in range; what is unreadable is none
-abbrev pub Proper : Request → Type 0
-Proper (Cell s) = NumberInRange s
-Proper (Ins p d) = SpotInRange p × NumberInRange d
-Proper (Pos h p) = HandleInRange h × SpotInRange p
-Proper (Rem h) = HandleInRange h
-Proper (Now h) = HandleInRange h
-Proper Mnt = Unit {0}
-Proper (Cir p r) = SpotInRange p × CountInRange r
-Proper (Rec p q) = SpotInRange p × SpotInRange q
-Proper (Cel p q) = SpotInRange p × SpotInRange q
-Proper (Bin p q d) = (SpotInRange p × SpotInRange q) × NumberInRange d
-Proper (Bset h p q) = HandleInRange h × (SpotInRange p × SpotInRange q)
-Proper (Brem h) = HandleInRange h
-Proper (Bqry p q) = SpotInRange p × SpotInRange q
-Proper Unreadable = ⊥
+-- what is asked for is in range, and what is not is this value
+abbrev pub AsAsked : {A : Type 0} → Bool → (A → Type 0) → A → A → Type 0
+AsAsked true R none a = R a
+AsAsked false R none a = a ≡ none
+
+abbrev pub ArgumentsInRange : Asks → Request → Type 0
+ArgumentsInRange k r =
+    ((AsAsked (k .handle) HandleInRange nobody (r .h) × (AsAsked (ltb 0 (k .places)) SpotInRange origin (r .p) × AsAsked (ltb 1 (k .places)) SpotInRange origin (r .q))) × AsAsked (k .radius) CountInRange (pos 0) (r .far)) × AsAsked (k .number) NumberInRange 0 (r .n)
+
+-- a request of this word, with its numbers in range
+abbrev pub Proper : List ℕ → Request → Type 0
+Proper word r = (r .line ≡ askedBy word .line) × ArgumentsInRange (askedBy word) r

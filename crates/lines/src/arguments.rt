@@ -4,20 +4,39 @@ ghost use Prim.Native.Nat.{_≤_};
 ghost use lib.ListN.{length};
 ghost use Rattle.basics.specs.Lent.{was};
 ghost use Rattle.lines.specs.Taken.{taken};
-ghost use Rattle.lines.specs.Requests.{argumentsOf, whole as Requests·whole};
+ghost use Rattle.lines.specs.Requests.{argumentsOf, unreadable as Requests·unreadable, whole as Requests·whole};
 ghost use Rattle.lines.specs.Cursor.{fieldsFrom};
-use crate::Keyword;
+use crate::Asks;
+use crate::Line;
 use crate::Request;
+use crate::Spot;
 use crate::TakenCount;
 use crate::TakenHandle;
 use crate::TakenNumber;
-use crate::TakenSpot;
 use crate::TakenSpots;
-use crate::fields::take_count;
-use crate::fields::take_handle;
-use crate::fields::take_number;
-use crate::fields::take_spot;
-use crate::fields::take_spots;
+use crate::fields::count_if;
+use crate::fields::handle_if;
+use crate::fields::number_if;
+use crate::fields::spots_if;
+use slots::Handle;
+
+pub fn unreadable() -> Request
+    ensures { λ r. ⌜ r ≡ Requests·unreadable ⌝ }
+{
+    let h = Handle {
+        slot: 0,
+        version: 0,
+    };
+    let p = Spot { x: 0, y: 0 };
+    Request {
+        line: Line::Unreadable,
+        h,
+        p,
+        q: p,
+        far: 0,
+        n: 0,
+    }
+}
 
 // The request, if no field is left.
 fn whole(b: &[u8], at: usize, r: Request) -> Request
@@ -26,180 +45,41 @@ fn whole(b: &[u8], at: usize, r: Request) -> Request
     if b.len() < at {
         return r;
     }
-    Request::Unreadable
-}
-
-fn cell(b: &[u8], at: usize) -> Request
-    requires { ⌜ length (now b) ≤ 128 ⌝ }
-    ensures { λ r. ⌜ r ≡ Requests·whole (argumentsOf Keyword.Cell (fieldsFrom (was b) at)) ⌝ }
-{
-    let first = take_number(b, at);
-    let TakenNumber::At(s, end) = first else {
-        return Request::Unreadable;
-    };
-    whole(b, end, Request::Cell(s))
-}
-
-fn ins(b: &[u8], at: usize) -> Request
-    requires { ⌜ length (now b) ≤ 128 ⌝ }
-    ensures { λ r. ⌜ r ≡ Requests·whole (argumentsOf Keyword.Ins (fieldsFrom (was b) at)) ⌝ }
-{
-    let first = take_spot(b, at);
-    let TakenSpot::At(p, next) = first else {
-        return Request::Unreadable;
-    };
-    let second = take_number(b, next);
-    let TakenNumber::At(d, end) = second else {
-        return Request::Unreadable;
-    };
-    whole(b, end, Request::Ins(p, d))
-}
-
-fn pos(b: &[u8], at: usize) -> Request
-    requires { ⌜ length (now b) ≤ 128 ⌝ }
-    ensures { λ r. ⌜ r ≡ Requests·whole (argumentsOf Keyword.Pos (fieldsFrom (was b) at)) ⌝ }
-{
-    let first = take_handle(b, at);
-    let TakenHandle::At(h, next) = first else {
-        return Request::Unreadable;
-    };
-    let second = take_spot(b, next);
-    let TakenSpot::At(p, end) = second else {
-        return Request::Unreadable;
-    };
-    whole(b, end, Request::Pos(h, p))
-}
-
-fn rem(b: &[u8], at: usize) -> Request
-    requires { ⌜ length (now b) ≤ 128 ⌝ }
-    ensures { λ r. ⌜ r ≡ Requests·whole (argumentsOf Keyword.Rem (fieldsFrom (was b) at)) ⌝ }
-{
-    let first = take_handle(b, at);
-    let TakenHandle::At(h, end) = first else {
-        return Request::Unreadable;
-    };
-    whole(b, end, Request::Rem(h))
-}
-
-fn now(b: &[u8], at: usize) -> Request
-    requires { ⌜ length (now b) ≤ 128 ⌝ }
-    ensures { λ r. ⌜ r ≡ Requests·whole (argumentsOf Keyword.Now (fieldsFrom (was b) at)) ⌝ }
-{
-    let first = take_handle(b, at);
-    let TakenHandle::At(h, end) = first else {
-        return Request::Unreadable;
-    };
-    whole(b, end, Request::Now(h))
-}
-
-fn cir(b: &[u8], at: usize) -> Request
-    requires { ⌜ length (now b) ≤ 128 ⌝ }
-    ensures { λ r. ⌜ r ≡ Requests·whole (argumentsOf Keyword.Cir (fieldsFrom (was b) at)) ⌝ }
-{
-    let first = take_spot(b, at);
-    let TakenSpot::At(p, next) = first else {
-        return Request::Unreadable;
-    };
-    let second = take_count(b, next);
-    let TakenCount::At(r, end) = second else {
-        return Request::Unreadable;
-    };
-    whole(b, end, Request::Cir(p, r))
-}
-
-fn rec(b: &[u8], at: usize) -> Request
-    requires { ⌜ length (now b) ≤ 128 ⌝ }
-    ensures { λ r. ⌜ r ≡ Requests·whole (argumentsOf Keyword.Rec (fieldsFrom (was b) at)) ⌝ }
-{
-    let first = take_spots(b, at);
-    let TakenSpots::At(p, q, end) = first else {
-        return Request::Unreadable;
-    };
-    whole(b, end, Request::Rec(p, q))
-}
-
-fn cel(b: &[u8], at: usize) -> Request
-    requires { ⌜ length (now b) ≤ 128 ⌝ }
-    ensures { λ r. ⌜ r ≡ Requests·whole (argumentsOf Keyword.Cel (fieldsFrom (was b) at)) ⌝ }
-{
-    let first = take_spots(b, at);
-    let TakenSpots::At(p, q, end) = first else {
-        return Request::Unreadable;
-    };
-    whole(b, end, Request::Cel(p, q))
-}
-
-fn bin(b: &[u8], at: usize) -> Request
-    requires { ⌜ length (now b) ≤ 128 ⌝ }
-    ensures { λ r. ⌜ r ≡ Requests·whole (argumentsOf Keyword.Bin (fieldsFrom (was b) at)) ⌝ }
-{
-    let first = take_spots(b, at);
-    let TakenSpots::At(p, q, next) = first else {
-        return Request::Unreadable;
-    };
-    let second = take_number(b, next);
-    let TakenNumber::At(d, end) = second else {
-        return Request::Unreadable;
-    };
-    whole(b, end, Request::Bin(p, q, d))
-}
-
-fn bset(b: &[u8], at: usize) -> Request
-    requires { ⌜ length (now b) ≤ 128 ⌝ }
-    ensures { λ r. ⌜ r ≡ Requests·whole (argumentsOf Keyword.Bset (fieldsFrom (was b) at)) ⌝ }
-{
-    let first = take_handle(b, at);
-    let TakenHandle::At(h, next) = first else {
-        return Request::Unreadable;
-    };
-    let second = take_spots(b, next);
-    let TakenSpots::At(p, q, end) = second else {
-        return Request::Unreadable;
-    };
-    whole(b, end, Request::Bset(h, p, q))
-}
-
-fn brem(b: &[u8], at: usize) -> Request
-    requires { ⌜ length (now b) ≤ 128 ⌝ }
-    ensures { λ r. ⌜ r ≡ Requests·whole (argumentsOf Keyword.Brem (fieldsFrom (was b) at)) ⌝ }
-{
-    let first = take_handle(b, at);
-    let TakenHandle::At(h, end) = first else {
-        return Request::Unreadable;
-    };
-    whole(b, end, Request::Brem(h))
-}
-
-fn bqry(b: &[u8], at: usize) -> Request
-    requires { ⌜ length (now b) ≤ 128 ⌝ }
-    ensures { λ r. ⌜ r ≡ Requests·whole (argumentsOf Keyword.Bqry (fieldsFrom (was b) at)) ⌝ }
-{
-    let first = take_spots(b, at);
-    let TakenSpots::At(p, q, end) = first else {
-        return Request::Unreadable;
-    };
-    whole(b, end, Request::Bqry(p, q))
+    unreadable()
 }
 
 // What is behind the word.
-pub fn arguments(k: Keyword, b: &[u8], at: usize) -> Request
+pub fn arguments(k: Asks, b: &[u8], at: usize) -> Request
     requires { ⌜ length (now b) ≤ 128 ⌝ }
     ensures { λ r. ⌜ r ≡ Requests·whole (argumentsOf k (fieldsFrom (was b) at)) ⌝ }
 {
-    match k {
-        Keyword::Cell => cell(b, at),
-        Keyword::Ins => ins(b, at),
-        Keyword::Pos => pos(b, at),
-        Keyword::Rem => rem(b, at),
-        Keyword::Now => now(b, at),
-        Keyword::Mnt => whole(b, at, Request::Mnt),
-        Keyword::Cir => cir(b, at),
-        Keyword::Rec => rec(b, at),
-        Keyword::Cel => cel(b, at),
-        Keyword::Bin => bin(b, at),
-        Keyword::Bset => bset(b, at),
-        Keyword::Brem => brem(b, at),
-        Keyword::Bqry => bqry(b, at),
-        Keyword::Other => Request::Unreadable,
-    }
+    let line = k.line;
+    let first = handle_if(b, at, k.handle);
+    let TakenHandle::At(h, second) = first else {
+        return unreadable();
+    };
+    let places = spots_if(b, second, k.places);
+    let TakenSpots::At(p, q, third) = places else {
+        return unreadable();
+    };
+    let radius = count_if(b, third, k.radius);
+    let TakenCount::At(far, fourth) = radius else {
+        return unreadable();
+    };
+    let number = number_if(b, fourth, k.number);
+    let TakenNumber::At(n, end) = number else {
+        return unreadable();
+    };
+    whole(
+        b,
+        end,
+        Request {
+            line,
+            h,
+            p,
+            q,
+            far,
+            n,
+        },
+    )
 }

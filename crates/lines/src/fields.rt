@@ -1,9 +1,10 @@
-// The fields of a record from a place on: a number, a count, a spot, two spots, a handle. No field is past the record's end.
+// The fields of a record from a place on: a number, a count, a spot, a handle, as they are asked for. No field is past the record's end.
 ghost use mathlib.Core.Path.{_≡_};
 ghost use Prim.Native.Nat.{_≤_};
+ghost use lib.IntN.{pos};
 ghost use lib.ListN.{length};
 ghost use Rattle.basics.specs.Lent.{was};
-ghost use Rattle.lines.specs.Taken.{takeNumber, takeCount, takeSpot, takeSpots, takeHandle};
+ghost use Rattle.lines.specs.Taken.{takeNumber, takeCount, takeSpot, takeHandle, ifAsked, nobody, origin, takePlaces};
 ghost use Rattle.lines.specs.Cursor.{endFrom, fieldsFrom, numberTaken, countTaken, spotTaken, spotsTaken, handleTaken};
 use crate::Spot;
 use crate::TakenCount;
@@ -30,7 +31,7 @@ pub fn field_end(b: &[u8], at: usize) -> usize
     i
 }
 
-pub fn take_number(b: &[u8], at: usize) -> TakenNumber
+fn take_number(b: &[u8], at: usize) -> TakenNumber
     requires { ⌜ length (now b) ≤ 128 ⌝ }
     ensures { λ r. ⌜ numberTaken (was b) r ≡ takeNumber (fieldsFrom (was b) at) ⌝ }
 {
@@ -45,7 +46,7 @@ pub fn take_number(b: &[u8], at: usize) -> TakenNumber
     }
 }
 
-pub fn take_count(b: &[u8], at: usize) -> TakenCount
+fn take_count(b: &[u8], at: usize) -> TakenCount
     requires { ⌜ length (now b) ≤ 128 ⌝ }
     ensures { λ r. ⌜ countTaken (was b) r ≡ takeCount (fieldsFrom (was b) at) ⌝ }
 {
@@ -60,7 +61,7 @@ pub fn take_count(b: &[u8], at: usize) -> TakenCount
     }
 }
 
-pub fn take_spot(b: &[u8], at: usize) -> TakenSpot
+fn take_spot(b: &[u8], at: usize) -> TakenSpot
     requires { ⌜ length (now b) ≤ 128 ⌝ }
     ensures { λ r. ⌜ spotTaken (was b) r ≡ takeSpot (fieldsFrom (was b) at) ⌝ }
 {
@@ -75,7 +76,7 @@ pub fn take_spot(b: &[u8], at: usize) -> TakenSpot
     TakenSpot::At(Spot { x, y }, end)
 }
 
-pub fn take_handle(b: &[u8], at: usize) -> TakenHandle
+fn take_handle(b: &[u8], at: usize) -> TakenHandle
     requires { ⌜ length (now b) ≤ 128 ⌝ }
     ensures { λ r. ⌜ handleTaken (was b) r ≡ takeHandle (fieldsFrom (was b) at) ⌝ }
 {
@@ -90,15 +91,63 @@ pub fn take_handle(b: &[u8], at: usize) -> TakenHandle
     TakenHandle::At(Handle { slot, version }, end)
 }
 
-pub fn take_spots(b: &[u8], at: usize) -> TakenSpots
+// Where a field is not asked for none is taken, and the value is zero.
+pub fn number_if(b: &[u8], at: usize, asked: bool) -> TakenNumber
     requires { ⌜ length (now b) ≤ 128 ⌝ }
-    ensures { λ r. ⌜ spotsTaken (was b) r ≡ takeSpots (fieldsFrom (was b) at) ⌝ }
+    ensures { λ r. ⌜ numberTaken (was b) r ≡ ifAsked asked 0 takeNumber (fieldsFrom (was b) at) ⌝ }
 {
-    let first = take_spot(b, at);
+    if asked {
+        return take_number(b, at);
+    }
+    TakenNumber::At(0, at)
+}
+
+pub fn count_if(b: &[u8], at: usize, asked: bool) -> TakenCount
+    requires { ⌜ length (now b) ≤ 128 ⌝ }
+    ensures { λ r. ⌜ countTaken (was b) r ≡ ifAsked asked (pos 0) takeCount (fieldsFrom (was b) at) ⌝ }
+{
+    if asked {
+        return take_count(b, at);
+    }
+    TakenCount::At(0, at)
+}
+
+pub fn handle_if(b: &[u8], at: usize, asked: bool) -> TakenHandle
+    requires { ⌜ length (now b) ≤ 128 ⌝ }
+    ensures { λ r. ⌜ handleTaken (was b) r ≡ ifAsked asked nobody takeHandle (fieldsFrom (was b) at) ⌝ }
+{
+    if asked {
+        return take_handle(b, at);
+    }
+    TakenHandle::At(
+        Handle {
+            slot: 0,
+            version: 0,
+        },
+        at,
+    )
+}
+
+fn spot_if(b: &[u8], at: usize, asked: bool) -> TakenSpot
+    requires { ⌜ length (now b) ≤ 128 ⌝ }
+    ensures { λ r. ⌜ spotTaken (was b) r ≡ ifAsked asked origin takeSpot (fieldsFrom (was b) at) ⌝ }
+{
+    if asked {
+        return take_spot(b, at);
+    }
+    TakenSpot::At(Spot { x: 0, y: 0 }, at)
+}
+
+// So many places, of two.
+pub fn spots_if(b: &[u8], at: usize, places: u32) -> TakenSpots
+    requires { ⌜ length (now b) ≤ 128 ⌝ }
+    ensures { λ r. ⌜ spotsTaken (was b) r ≡ takePlaces places (fieldsFrom (was b) at) ⌝ }
+{
+    let first = spot_if(b, at, 0 < places);
     let TakenSpot::At(p, next) = first else {
         return TakenSpots::Missing;
     };
-    let second = take_spot(b, next);
+    let second = spot_if(b, next, 1 < places);
     let TakenSpot::At(q, end) = second else {
         return TakenSpots::Missing;
     };

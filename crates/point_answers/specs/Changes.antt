@@ -1,4 +1,4 @@
--- The requests that change the points: each is a call of the grid, and says its answer and what it returned. Assumes nothing.
+-- The lines that change the points: each is a call of the grid, and says its answer and what it returned. Assumes nothing.
 use Prim.Native.Nat.{ℕ}
 use Rattle.slots.specs.declared.Handle.{Handle}
 use Rattle.point_tables.specs.Tables.{Tables}
@@ -8,10 +8,9 @@ use Rattle.moves.specs.Moves.{setPositionOf, removeOf}
 use Rattle.removals.specs.Meaning.RemoveMaintain.{removeMaintainOf}
 use Rattle.maintain.specs.Maintain.{maintainOf}
 use Rattle.printing.specs.declared.Said.{Said}
-use Rattle.printing.specs.declared.Said.the-variants.{Refused}
 use Rattle.lines.specs.declared.Spot.{Spot}
-use Rattle.lines.specs.declared.Request.{Request}
-use Rattle.lines.specs.declared.Request.the-variants.{Cell, Ins, Pos, Rem, Now, Mnt, Cir, Rec, Cel, Bin, Bset, Brem, Bqry, Unreadable}
+use Rattle.lines.specs.declared.PointChange.{PointChange}
+use Rattle.lines.specs.declared.PointChange.the-variants.{Ins, Pos, Rem, Now, Mnt}
 use Rattle.telling.specs.Places.{placeOf}
 use Rattle.telling.specs.Tells.{doneOr, oneOr, twoOr}
 
@@ -38,19 +37,10 @@ takenOf t h = said (λ r. oneOr (r .answer) (r .obj)) (removeMaintainOf t h)
 abbrev pub maintainedOf : Tables → Outcome Said
 maintainedOf t = said (λ r. twoOr (r .answer) (r .moved) (r .removed)) (maintainOf t)
 
--- any other request is not for this call: 10
-unfoldable pub changeOf : Tables → Request → Outcome Said
-changeOf t (Ins p d) = insertedOf t p d
-changeOf t (Pos h p) = movedOf t h p
-changeOf t (Rem h) = markedOf t h
-changeOf t (Now h) = takenOf t h
-changeOf t Mnt = maintainedOf t
-changeOf t (Cell s) = outcome (Refused 10) t
-changeOf t (Cir p r) = outcome (Refused 10) t
-changeOf t (Rec p q) = outcome (Refused 10) t
-changeOf t (Cel p q) = outcome (Refused 10) t
-changeOf t (Bin p q d) = outcome (Refused 10) t
-changeOf t (Bset h p q) = outcome (Refused 10) t
-changeOf t (Brem h) = outcome (Refused 10) t
-changeOf t (Bqry p q) = outcome (Refused 10) t
-changeOf t Unreadable = outcome (Refused 10) t
+-- the line, with what its record says
+unfoldable pub changeOf : Tables → PointChange → Handle → Spot → ℕ → Outcome Said
+changeOf t Ins h p n = insertedOf t p n
+changeOf t Pos h p n = movedOf t h p
+changeOf t Rem h p n = markedOf t h
+changeOf t Now h p n = takenOf t h
+changeOf t Mnt h p n = maintainedOf t

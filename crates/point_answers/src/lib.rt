@@ -1,15 +1,18 @@
-// What the point grid of the trace answers to a request: each is one call of the grid.
+// What the point grid of the trace answers to a line: each is one call of the grid.
 ghost use mathlib.Core.Path.{_≡_};
 ghost use Rattle.basics.specs.Lent.{was, is};
 ghost use Rattle.lines.specs.Texts.{SpotInRange, CountInRange};
 ghost use Rattle.point_tables.specs.Lent.{after, before};
 ghost use Rattle.point_tables.specs.Outcome.{outcome};
-ghost use Rattle.telling.specs.InRange.{InRange};
 ghost use Rattle.point_answers.specs.Changes.{changeOf, movedOf, insertedOf, takenOf, markedOf, maintainedOf};
-ghost use Rattle.point_answers.specs.Searches.{searched, searchOf, aroundIn, rectangleIn, cellsIn};
-use lines::Request;
+ghost use Rattle.point_answers.specs.Searches.{searched, findingsOf, searchOf};
+ghost use Rattle.queries.specs.Queries.{findings};
+use geometry::Position;
+use lines::PointChange;
+use lines::PointSearch;
 use lines::Spot;
 use printing::Said;
+use replies::Count;
 use slots::Handle;
 
 fn ins(
@@ -98,7 +101,7 @@ fn mnt(
     telling::two(r.answer, r.moved, r.removed)
 }
 
-// A request that changes the points: ins, pos, rem, now, mnt.
+// A line that changes the points, with what its record says.
 pub fn change_points(
     nums: &mut [[u32; 4]],
     reals: &mut [[f32; 4]],
@@ -107,22 +110,25 @@ pub fn change_points(
     pool: &mut [[u64; 2]],
     spots: &mut [[f32; 2]],
     cells: &mut [[u64; 2]],
-    r: Request,
+    k: PointChange,
+    h: Handle,
+    p: Spot,
+    n: u32,
 ) -> Said
-    requires { ⌜ InRange r ⌝ }
-    ensures { λ said. ⌜ outcome said (after nums reals ints map pool spots cells) ≡ changeOf (before nums reals ints map pool spots cells) r ⌝ }
+    requires { ⌜ SpotInRange p ⌝ }
+    ensures { λ said. ⌜ outcome said (after nums reals ints map pool spots cells) ≡ changeOf (before nums reals ints map pool spots cells) k h p n ⌝ }
 {
-    match r {
-        Request::Ins(at, obj) => ins(nums, reals, ints, map, pool, spots, cells, at, obj),
-        Request::Pos(h, at) => pos(nums, reals, ints, map, pool, spots, cells, h, at),
-        Request::Rem(h) => rem(nums, reals, ints, map, pool, spots, cells, h),
-        Request::Now(h) => now(nums, reals, ints, map, pool, spots, cells, h),
-        Request::Mnt => mnt(nums, reals, ints, map, pool, spots, cells),
-        _ => Said::Refused(10),
+    match k {
+        PointChange::Ins => ins(nums, reals, ints, map, pool, spots, cells, p, n),
+        PointChange::Pos => pos(nums, reals, ints, map, pool, spots, cells, h, p),
+        PointChange::Rem => rem(nums, reals, ints, map, pool, spots, cells, h),
+        PointChange::Now => now(nums, reals, ints, map, pool, spots, cells, h),
+        PointChange::Mnt => mnt(nums, reals, ints, map, pool, spots, cells),
     }
 }
 
-fn cir(
+// Each line that searches the points is a query of the grid.
+fn find(
     nums: &[[u32; 4]],
     reals: &[[f32; 4]],
     ints: &[[i32; 4]],
@@ -130,101 +136,65 @@ fn cir(
     pool: &[[u64; 2]],
     spots: &[[f32; 2]],
     cells: &[[u64; 2]],
-    centre: Spot,
-    radius: i32,
+    s: PointSearch,
+    p: Position,
+    q: Position,
+    far: f32,
     handles: &mut [[u32; 2]],
     places: &mut [[f32; 2]],
-) -> Said
-    requires { ⌜ SpotInRange centre × CountInRange radius ⌝ }
-    ensures { λ r. ⌜ searched r (is handles) (is places) ≡ aroundIn (before nums reals ints map pool spots cells) centre radius (was handles) (was places) ⌝ }
+) -> Count
+    ensures { λ r. ⌜ findings r (is handles) (is places) ≡ findingsOf (before nums reals ints map pool spots cells) s p q far (was handles) (was places) ⌝ }
 {
-    let p = telling::place(centre);
-    let far = sixteenths::from_sixteenths(radius);
-    let r = points::query_around(
-        nums,
-        reals,
-        ints,
-        map,
-        pool,
-        spots,
-        cells,
-        p,
-        far,
-        handles,
-        places,
-    );
-    telling::points(r.answer, r.count)
+    match s {
+        PointSearch::Cir => {
+            points::query_around(
+                nums,
+                reals,
+                ints,
+                map,
+                pool,
+                spots,
+                cells,
+                p,
+                far,
+                handles,
+                places,
+            )
+        }
+        PointSearch::Rec => {
+            points::query_aabb(
+                nums,
+                reals,
+                ints,
+                map,
+                pool,
+                spots,
+                cells,
+                p,
+                q,
+                handles,
+                places,
+            )
+        }
+        PointSearch::Cel => {
+            points::query(
+                nums,
+                reals,
+                ints,
+                map,
+                pool,
+                spots,
+                cells,
+                p,
+                q,
+                handles,
+                places,
+            )
+        }
+    }
 }
 
-fn rec(
-    nums: &[[u32; 4]],
-    reals: &[[f32; 4]],
-    ints: &[[i32; 4]],
-    map: &[u64],
-    pool: &[[u64; 2]],
-    spots: &[[f32; 2]],
-    cells: &[[u64; 2]],
-    a: Spot,
-    b: Spot,
-    handles: &mut [[u32; 2]],
-    places: &mut [[f32; 2]],
-) -> Said
-    requires { ⌜ SpotInRange a × SpotInRange b ⌝ }
-    ensures { λ r. ⌜ searched r (is handles) (is places) ≡ rectangleIn (before nums reals ints map pool spots cells) a b (was handles) (was places) ⌝ }
-{
-    let p = telling::place(a);
-    let q = telling::place(b);
-    let r = points::query_aabb(
-        nums,
-        reals,
-        ints,
-        map,
-        pool,
-        spots,
-        cells,
-        p,
-        q,
-        handles,
-        places,
-    );
-    telling::points(r.answer, r.count)
-}
-
-fn cel(
-    nums: &[[u32; 4]],
-    reals: &[[f32; 4]],
-    ints: &[[i32; 4]],
-    map: &[u64],
-    pool: &[[u64; 2]],
-    spots: &[[f32; 2]],
-    cells: &[[u64; 2]],
-    ll: Spot,
-    ur: Spot,
-    handles: &mut [[u32; 2]],
-    places: &mut [[f32; 2]],
-) -> Said
-    requires { ⌜ SpotInRange ll × SpotInRange ur ⌝ }
-    ensures { λ r. ⌜ searched r (is handles) (is places) ≡ cellsIn (before nums reals ints map pool spots cells) ll ur (was handles) (was places) ⌝ }
-{
-    let p = telling::place(ll);
-    let q = telling::place(ur);
-    let r = points::query(
-        nums,
-        reals,
-        ints,
-        map,
-        pool,
-        spots,
-        cells,
-        p,
-        q,
-        handles,
-        places,
-    );
-    telling::points(r.answer, r.count)
-}
-
-// A request that searches the points: cir, rec, cel. The findings are in the outputs.
+// A line that searches the points, with what its record says. The findings are in the outputs.
 pub fn search_points(
     nums: &[[u32; 4]],
     reals: &[[f32; 4]],
@@ -233,53 +203,33 @@ pub fn search_points(
     pool: &[[u64; 2]],
     spots: &[[f32; 2]],
     cells: &[[u64; 2]],
-    r: Request,
+    s: PointSearch,
+    p: Spot,
+    q: Spot,
+    far: i32,
     handles: &mut [[u32; 2]],
     places: &mut [[f32; 2]],
 ) -> Said
-    requires { ⌜ InRange r ⌝ }
-    ensures { λ said. ⌜ searched said (is handles) (is places) ≡ searchOf (before nums reals ints map pool spots cells) r (was handles) (was places) ⌝ }
+    requires { ⌜ (SpotInRange p × SpotInRange q) × CountInRange far ⌝ }
+    ensures { λ said. ⌜ searched said (is handles) (is places) ≡ searchOf (before nums reals ints map pool spots cells) s p q far (was handles) (was places) ⌝ }
 {
-    match r {
-        Request::Cir(centre, radius) => cir(
-            nums,
-            reals,
-            ints,
-            map,
-            pool,
-            spots,
-            cells,
-            centre,
-            radius,
-            handles,
-            places,
-        ),
-        Request::Rec(a, b) => rec(
-            nums,
-            reals,
-            ints,
-            map,
-            pool,
-            spots,
-            cells,
-            a,
-            b,
-            handles,
-            places,
-        ),
-        Request::Cel(ll, ur) => cel(
-            nums,
-            reals,
-            ints,
-            map,
-            pool,
-            spots,
-            cells,
-            ll,
-            ur,
-            handles,
-            places,
-        ),
-        _ => Said::Refused(10),
-    }
+    let a = telling::place(p);
+    let b = telling::place(q);
+    let radius = sixteenths::from_sixteenths(far);
+    let r = find(
+        nums,
+        reals,
+        ints,
+        map,
+        pool,
+        spots,
+        cells,
+        s,
+        a,
+        b,
+        radius,
+        handles,
+        places,
+    );
+    telling::points(r.answer, r.count)
 }

@@ -1,6 +1,6 @@
 -- The record that tells an answer: a refusal is its number alone; after 0 come the numbers that there are to tell, and for a query its
 -- count and then slot, version and coordinates of each finding. Assumes nothing.
-use Prim.Native.Nat.{ℕ, zero, suc, _≤_}
+use Prim.Native.Nat.{ℕ, zero, suc, _-_, _≤_}
 use mathlib.Core.List.{List, [], _∷_, _++_}
 use lib.Ieee.{Float, nan}
 use lib.ListN.{getD}
@@ -50,6 +50,13 @@ crlf = 13 ∷ 10 ∷ []
 unfoldable pub recordText : Said → List (List ℕ) → List (List Float) → List (List Float) → List ℕ
 unfolding saidText
 recordText said handles places boxes = saidText said handles places boxes ++ crlf
+
+-- no record is longer; without its ending
+abbrev pub longest : ℕ
+longest = 12000
+
+abbrev pub longestSaid : ℕ
+longestSaid = longest - 2
 
 -- the findings are there, and no more than a trace's grids can give
 abbrev pub Told : Said → ℕ → ℕ → ℕ → Type 0

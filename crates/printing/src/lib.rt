@@ -4,9 +4,12 @@ ghost use mathlib.Core.List.{[], _∷_, _++_};
 ghost use Prim.Native.Nat.{_+_, _*_, _≤_, _<_};
 ghost use lib.ListN.{length};
 ghost use Rattle.basics.specs.Lent.{was, is};
-ghost use Rattle.printing.specs.Said.{numberField, coordinateField, handleText, placeText, cornersText, pointsText, boxesText, saidText, recordText, Told};
+ghost use Rattle.printing.specs.Said.{numberField, coordinateField, handleText, placeText, cornersText, pointsText, boxesText, saidText, recordText, longest, longestSaid, Told};
 ghost use Rattle.printing.specs.Puts.{Puts};
 ghost use Rattle.decimals.specs.Text.{decimal};
+
+// No record of an answer is longer.
+pub const LONGEST: usize = 12000;
 
 // What a request got: its answer, and after a 0 what there is to tell. Points and Boxes are findings, so many of them.
 pub enum Said {
@@ -135,8 +138,8 @@ fn put_said(
     places: &[[f32; 2]],
     boxes: &[[f32; 4]],
 ) -> usize
-    requires { ⌜ Told said (length (now handles)) (length (now places)) (length (now boxes)) × (at + 11900 ≤ length (now out)) ⌝ }
-    ensures { λ r. ⌜ Puts (was out) at (is out) r (saidText said (was handles) (was places) (was boxes)) 11900 ⌝ }
+    requires { ⌜ Told said (length (now handles)) (length (now places)) (length (now boxes)) × (at + longestSaid ≤ length (now out)) ⌝ }
+    ensures { λ r. ⌜ Puts (was out) at (is out) r (saidText said (was handles) (was places) (was boxes)) longestSaid ⌝ }
 {
     match said {
         Said::Refused(a) => put_first(out, at, a),
@@ -166,8 +169,8 @@ pub fn put_record(
     places: &[[f32; 2]],
     boxes: &[[f32; 4]],
 ) -> usize
-    requires { ⌜ Told said (length (now handles)) (length (now places)) (length (now boxes)) × (at + 12000 ≤ length (now out)) ⌝ }
-    ensures { λ r. ⌜ Puts (was out) at (is out) r (recordText said (was handles) (was places) (was boxes)) 12000 ⌝ }
+    requires { ⌜ Told said (length (now handles)) (length (now places)) (length (now boxes)) × (at + longest ≤ length (now out)) ⌝ }
+    ensures { λ r. ⌜ Puts (was out) at (is out) r (recordText said (was handles) (was places) (was boxes)) longest ⌝ }
 {
     let next = put_said(out, at, said, handles, places, boxes);
     let end = decimals::put_byte(out, next, 13);

@@ -6,6 +6,7 @@ ghost use Rattle.basics.specs.Lent.{was, is};
 ghost use Rattle.decimals.specs.Written.{written};
 ghost use Rattle.point_tables.specs.Lent as Points;
 ghost use Rattle.box_tables.specs.Lent as Boxes;
+ghost use Rattle.printing.specs.Said.{longest};
 ghost use Rattle.replay.specs.Replay.{grids, replayed, replayOf};
 ghost use Rattle.answers.specs.Cell.{built, cellOf};
 use printing::Said;
@@ -60,9 +61,9 @@ pub fn answer_record(
     out: &mut [u8],
     at: usize,
 ) -> usize
-    requires { ⌜ at + 12000 ≤ length (now out) ⌝ }
+    requires { ⌜ at + longest ≤ length (now out) ⌝ }
     ensures { λ r. ⌜ replayed (grids (Points.after nums reals ints map pool spots cells) (Boxes.after bnums breals bmap bpool)) (written (is out) r) ≡ replayOf (grids (Points.before nums reals ints map pool spots cells) (Boxes.before bnums breals bmap bpool)) (take len (was line)) (written (was out) at) ⌝ }
-    ensures { λ r. ⌜ r ≤ at + 12000 ⌝ }
+    ensures { λ r. ⌜ r ≤ at + longest ⌝ }
 {
     let mut handles = [[0u32; 2]; 256];
     let mut places = [[0.0f32; 2]; 256];

@@ -6,6 +6,7 @@ ghost use Prim.Native.Nat.{_<_, _≤_};
 ghost use Rattle.trace.specs.Ready.{Fits, Ready};
 use libc::STDIN_FILENO;
 use libc::STDOUT_FILENO;
+use printing::LONGEST;
 use splits::Splitter;
 
 // How far the program is: `have` bytes in the block, of which those before `at` are used; `put` bytes of answers that are not written yet;
@@ -77,7 +78,7 @@ fn make_room(out: &[u8; 65536], p: Progress) -> Progress
     ensures { λ r. ⌜ Ready r ⌝ }
 {
     if p.open {
-        if p.put <= 53536 {
+        if p.put + LONGEST <= 65536 {
             return p;
         }
     }

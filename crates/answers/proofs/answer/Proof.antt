@@ -1,48 +1,86 @@
--- `answers::answer` meets its contract. Assumes nothing.
-use mathlib.Core.Path.{_≡_, sym, _∙_}
-use native.Mathlib.Omega.{arith}
+-- `answers::answer` meets its contract, line by line. Assumes nothing.
+use mathlib.Core.Path.{sym, subst}
+use lib.IntN.{ℤ}
+use mir.Syntax.{w32}
+use mir.ValLaws.{toZ-ofZ}
 use borrow.Author.Needs.{needs}
+use Rattle.lines.specs.Texts.{CountInRange}
+use Rattle.telling.specs.InRange.{in-range-fits}
 use Rattle.point_tables.specs.Lent as Points
 use Rattle.box_tables.specs.Lent as Boxes
 use Rattle.answers.specs.State.{state}
-use Rattle.answers.specs.Answer.{partOf}
-use Rattle.answers.proofs.laws.AnswerLaws.{some-part, answered-points, answered-boxes, answered-both, answered-nobody}
+use Rattle.answers.proofs.laws.AnswerLaws.{for-both, points-changed, points-searched, boxes-changed, boxes-searched, for-nobody}
 use Rattle.answers.proofs.answer.Statement.{statement}
 use Rattle.answers.proofs.answer.Tie as tie
 
-answer-points-requires : tie.Need-answer-points-requires
-answer-points-requires c κs = c .before .before .before .before .before .before .before .before .before .before .before .before .before .before .pre
+change-points-requires : tie.Need-change-points-requires
+change-points-requires c κs = c .before .before .before .before .before .before .before .before .before .before .before .before .before .before .before .before .pre .0 .0
+
+search-points-requires : tie.Need-search-points-requires
+search-points-requires c κs =
+    let s = c .before .before .before .before .before .before .before .before .before .before .before .before .before .before .before .before .before .before .before in
+    let h = s .pre in
+    (h .0, subst (λ (k : ℤ). CountInRange k) (sym (toZ-ofZ w32 (s .args .r .far) (in-range-fits _ (h .1)))) (h .1))
+
+change-boxes-requires : tie.Need-change-boxes-requires
+change-boxes-requires c κs = c .before .before .before .before .before .before .before .before .before .before .before .before .before .pre .0
+
+search-boxes-requires : tie.Need-search-boxes-requires
+search-boxes-requires c κs = c .before .before .before .before .before .before .before .before .before .before .before .before .before .before .before .pre .0
 
 returns : tie.Need-returns
 returns c =
-    let a = c .before .before .before .before .before .before .before .before .before .before .before .before .before .before .before .before .before .before .before .before .before .before .before .before .before .args in
-    answered-points (state (Points.lent (a .nums) (a .reals) (a .ints) (a .map) (a .pool) (a .spots) (a .cells)) (Boxes.lent (a .bnums) (a .breals) (a .bmap) (a .bpool)) (a .handles .now) (a .places .now) (a .corners .now) (a .objs .now)) (a .r) (c .before .before .before .before .before .before .before .before .before .before .answer-points .ensures) (sym (c .before .before .before .before .before .before .before .before .before .before .before .before .before .before .before .before .before .before .before .before .before .part-of .ensures) ∙ c .before .before .before .before .before .before .before .before .before .before .before .before .before .before .before .before .before .before .before .before .if1 .taken)
-
-answer-boxes-requires : tie.Need-answer-boxes-requires
-answer-boxes-requires c κs = c .before .before .before .before .before .before .before .before .before .before .before .before .before .pre
+    let s = c .before .before .before .before .before .before .before .before .before .before .before .before .before .before .before .before .before .before .before .before .before .before .before .before .before .before in
+    let a = s .args in
+    for-both (state (Points.lent (a .nums) (a .reals) (a .ints) (a .map) (a .pool) (a .spots) (a .cells)) (Boxes.lent (a .bnums) (a .breals) (a .bmap) (a .bpool)) (a .handles .now) (a .places .now) (a .corners .now) (a .objs .now)) (a .r) (c .before .before .before .before .before .before .cell .ensures) (c .before .before .before .before .before .before .before .before .before .before .before .before .before .before .before .before .before .before .enum-told .given .1)
 
 returns-2 : tie.Need-returns-2
 returns-2 c =
-    let a = c .before .before .before .before .before .before .before .before .before .before .before .before .before .before .before .before .before .before .before .before .before .before .before .args in
-    answered-boxes (state (Points.lent (a .nums) (a .reals) (a .ints) (a .map) (a .pool) (a .spots) (a .cells)) (Boxes.lent (a .bnums) (a .breals) (a .bmap) (a .bpool)) (a .handles .now) (a .places .now) (a .corners .now) (a .objs .now)) (a .r) (c .before .before .before .before .before .before .before .before .before .answer-boxes .ensures) (sym (c .before .before .before .before .before .before .before .before .before .before .before .before .before .before .before .before .before .before .before .part-of .ensures) ∙ c .before .before .before .before .before .before .before .before .before .before .before .before .before .before .before .before .before .if2 .taken)
+    let s = c .before .before .before .before .before .before .before .before .before .before .before .before .before .before .before .before .before .before .before .before .before .before .before .before .before in
+    let a = s .args in
+    points-changed (state (Points.lent (a .nums) (a .reals) (a .ints) (a .map) (a .pool) (a .spots) (a .cells)) (Boxes.lent (a .bnums) (a .breals) (a .bmap) (a .bpool)) (a .handles .now) (a .places .now) (a .corners .now) (a .objs .now)) (a .r) (c .before .before .before .before .before .before .before .before .change-points .ensures) (c .before .before .before .before .before .before .before .before .before .before .before .before .before .before .before .before .before .line .given .1)
 
 returns-3 : tie.Need-returns-3
 returns-3 c =
-    let a = c .before .before .before .before .before .before .before .before .before .before .before .before .before .before .before .before .before .before .before .before .before .before .before .before .before .before .args in
-    answered-both (state (Points.lent (a .nums) (a .reals) (a .ints) (a .map) (a .pool) (a .spots) (a .cells)) (Boxes.lent (a .bnums) (a .breals) (a .bmap) (a .bpool)) (a .handles .now) (a .places .now) (a .corners .now) (a .objs .now)) (a .r) (c .before .before .before .before .before .before .cell .ensures) (c .before .before .before .before .before .before .before .before .before .before .before .before .before .before .before .before .before .before .size-asked .ensures) (sym (c .before .before .before .before .before .before .before .before .before .before .before .before .before .before .before .before .before .before .before .before .before .before .part-of .ensures) ∙ c .before .before .before .before .before .before .before .before .before .before .before .before .before .before .before .before .before .before .before .if3 .taken)
+    let s = c .before .before .before .before .before .before .before .before .before .before .before .before .before .before .before .before .before .before .before .before .before .before in
+    let a = s .args in
+    points-searched (state (Points.lent (a .nums) (a .reals) (a .ints) (a .map) (a .pool) (a .spots) (a .cells)) (Boxes.lent (a .bnums) (a .breals) (a .bmap) (a .bpool)) (a .handles .now) (a .places .now) (a .corners .now) (a .objs .now)) (a .r) (c .before .before .search-points .ensures) (toZ-ofZ w32 (a .r .far) (in-range-fits _ (s .pre .1))) (c .before .before .before .before .before .before .before .before .before .before .before .before .before .before .line2 .given .1)
 
 returns-4 : tie.Need-returns-4
 returns-4 c =
-    let a = c .before .before .before .before .before .before .before .args in
-    let k : partOf (a .r) ≡ 3 = omega (arith, some-part (a .r), c .before .before .before .part-of .ensures, c .if3 .left, c .before .if2 .left, c .before .before .if1 .left) in
-    answered-nobody (state (Points.lent (a .nums) (a .reals) (a .ints) (a .map) (a .pool) (a .spots) (a .cells)) (Boxes.lent (a .bnums) (a .breals) (a .bmap) (a .bpool)) (a .handles .now) (a .places .now) (a .corners .now) (a .objs .now)) (a .r) k
+    let s = c .before .before .before .before .before .before .before .before .before .before .before .before .before .before .before .before .before .before .before in
+    let a = s .args in
+    boxes-changed (state (Points.lent (a .nums) (a .reals) (a .ints) (a .map) (a .pool) (a .spots) (a .cells)) (Boxes.lent (a .bnums) (a .breals) (a .bmap) (a .bpool)) (a .handles .now) (a .places .now) (a .corners .now) (a .objs .now)) (a .r) (c .before .before .before .before .before .change-boxes .ensures) (c .before .before .before .before .before .before .before .before .before .before .before .line3 .given .1)
+
+returns-5 : tie.Need-returns-5
+returns-5 c =
+    let s = c .before .before .before .before .before .before .before .before .before .before .before .before .before .before .before .before .before .before .before .before in
+    let a = s .args in
+    boxes-searched (state (Points.lent (a .nums) (a .reals) (a .ints) (a .map) (a .pool) (a .spots) (a .cells)) (Boxes.lent (a .bnums) (a .breals) (a .bmap) (a .bpool)) (a .handles .now) (a .places .now) (a .corners .now) (a .objs .now)) (a .r) (c .before .before .before .before .search-boxes .ensures) (c .before .before .before .before .before .before .before .before .before .before .before .before .enum-told2 .given .1)
+
+returns-6 : tie.Need-returns-6
+returns-6 c =
+    let s = c .before .before .before .before .before .before .before .before in
+    let a = s .args in
+    for-nobody (state (Points.lent (a .nums) (a .reals) (a .ints) (a .map) (a .pool) (a .spots) (a .cells)) (Boxes.lent (a .bnums) (a .breals) (a .bmap) (a .bpool)) (a .handles .now) (a .places .now) (a .corners .now) (a .objs .now)) (a .r) (c .enum-told3 .given .1)
 
 pub answer-spec : {M : Type 1} → statement M
 answer-spec =
     tie.close
     (tie.spec
+    (λ c. search needs)
     (λ c κs. search needs)
-    answer-points-requires
+    (λ c. search needs)
+    change-points-requires
+    (λ c. search needs)
+    search-points-requires
+    (λ c. search needs)
+    change-boxes-requires
+    (λ c. search needs)
+    search-boxes-requires
+    (λ c. search needs)
+    (λ c. search needs)
+    (λ c. search needs)
     (λ c. search needs)
     (λ c. search needs)
     (λ c. search needs)
@@ -53,7 +91,6 @@ answer-spec =
     (λ c. search needs)
     (λ c. search needs)
     returns
-    answer-boxes-requires
     (λ c. search needs)
     (λ c. search needs)
     (λ c. search needs)
@@ -62,10 +99,6 @@ answer-spec =
     (λ c. search needs)
     (λ c. search needs)
     returns-2
-    (λ c κs. search needs)
-    (λ c κs. search needs)
-    (λ c. search needs)
-    (λ c. search needs)
     (λ c. search needs)
     (λ c. search needs)
     (λ c. search needs)
@@ -76,4 +109,17 @@ answer-spec =
     (λ c. search needs)
     (λ c. search needs)
     returns-3
-    returns-4)
+    (λ c. search needs)
+    (λ c. search needs)
+    (λ c. search needs)
+    (λ c. search needs)
+    returns-4
+    (λ c. search needs)
+    (λ c. search needs)
+    (λ c. search needs)
+    (λ c. search needs)
+    (λ c. search needs)
+    (λ c. search needs)
+    (λ c. search needs)
+    returns-5
+    returns-6)

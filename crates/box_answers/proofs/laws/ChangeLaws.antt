@@ -1,6 +1,6 @@
--- What a call did is what its request asks for. Assumes nothing.
+-- What a call did is what its line asks for. Assumes nothing.
 use Prim.Native.Nat.{ℕ}
-use mathlib.Core.Path.{_≡_, sym, ap, _∙_}
+use mathlib.Core.Path.{_≡_, ap, _∙_}
 use Rattle.slots.specs.declared.Handle.{Handle}
 use Rattle.box_tables.specs.Tables.{Tables}
 use Rattle.box_tables.specs.Outcome.{Outcome, outcome}
@@ -12,9 +12,7 @@ use Rattle.telling.specs.Places.{boxOf}
 use Rattle.telling.specs.Tells.{doneOr, twoOr}
 use Rattle.printing.specs.declared.Said.{Said}
 use Rattle.lines.specs.declared.Spot.{Spot}
-use Rattle.lines.specs.declared.Request.{Request}
-use Rattle.lines.specs.declared.Request.the-variants.{Bin, Bset, Brem}
-use Rattle.box_answers.specs.Changes.{said, insertedOf, placedOf, takenOf, changeOf}
+use Rattle.box_answers.specs.Changes.{said, insertedOf, placedOf}
 
 -- x is what the call told
 pub said-of : {R : Type 0} (tell : R → Said) {r : R} {u : Tables} {o : Outcome R} {x : Said} → x ≡ tell r → outcome r u ≡ o → outcome x u ≡ said tell o
@@ -28,20 +26,3 @@ inserted-said t ll ur d w k e = said-of (λ r. twoOr (r .answer) (r .handle .slo
 pub placed-said : (t : Tables) (h : Handle) (ll ur : Spot) {u : Tables} {a : ℕ} {b : Aabb} {x : Said}
     → x ≡ doneOr a → b ≡ boxOf ll ur → outcome a u ≡ setAabbOf t h b → outcome x u ≡ placedOf t h ll ur
 placed-said t h ll ur w k e = said-of doneOr w (e ∙ ap (setAabbOf t h) k)
-
--- ---- the request that r is
-module _ (t : Tables) {r : Request} where
-  asked : {s : Request} → r ≡ s → changeOf t s ≡ changeOf t r
-  asked e = ap (changeOf t) (sym e)
-
-  pub is-bin : {p q : Spot} {d : ℕ} → r ≡ Bin p q d → insertedOf t p q d ≡ changeOf t r
-  unfolding changeOf
-  is-bin e = asked e
-
-  pub is-bset : {h : Handle} {p q : Spot} → r ≡ Bset h p q → placedOf t h p q ≡ changeOf t r
-  unfolding changeOf
-  is-bset e = asked e
-
-  pub is-brem : {h : Handle} → r ≡ Brem h → takenOf t h ≡ changeOf t r
-  unfolding changeOf
-  is-brem e = asked e

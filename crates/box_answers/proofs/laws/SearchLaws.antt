@@ -1,6 +1,6 @@
--- What a query did is what its request asks for. Assumes nothing.
+-- What a query did is what its line asks for. Assumes nothing.
 use Prim.Native.Nat.{ℕ}
-use mathlib.Core.Path.{_≡_, sym, ap, _∙_}
+use mathlib.Core.Path.{_≡_, ap, _∙_}
 use mathlib.Core.List.{List}
 use lib.Ieee.{Float}
 use Rattle.geometry.specs.declared.Aabb.{Aabb}
@@ -9,21 +9,14 @@ use Rattle.replies.specs.declared.Count.{Count}
 use Rattle.box_queries.specs.Queries.{findings, queryOf}
 use Rattle.printing.specs.declared.Said.{Said}
 use Rattle.lines.specs.declared.Spot.{Spot}
-use Rattle.lines.specs.declared.Request.{Request}
-use Rattle.lines.specs.declared.Request.the-variants.{Bqry}
 use Rattle.telling.specs.Places.{boxOf}
 use Rattle.telling.specs.Tells.{boxesOr}
-use Rattle.box_answers.specs.Searches.{searched, said, meetingIn, searchOf}
+use Rattle.box_answers.specs.Searches.{searched, said, searchOf}
 
 module _ (t : Tables) (handles : List (List ℕ)) (corners : List (List Float)) (objs : List ℕ) where
-  -- x is what the query told, which was given the box that the request names
+  -- x is what the query told, which was given the box that the record names
   pub meeting-said : (ll ur : Spot) {x : Said} {c : Count} {h : List (List ℕ)} {k : List (List Float)} {o : List ℕ} {q : Aabb}
       → x ≡ boxesOr (c .answer) (c .count) → q ≡ boxOf ll ur → findings c h k o ≡ queryOf t q handles corners objs
-      → searched x h k o ≡ meetingIn t ll ur handles corners objs
+      → searched x h k o ≡ searchOf t ll ur handles corners objs
   meeting-said ll ur {h = h} {k = k} {o = o} w i e =
       ap (λ (s : Said). searched s h k o) w ∙ ap said (e ∙ ap (λ (q : Aabb). queryOf t q handles corners objs) i)
-
-  -- the request that r is
-  pub is-bqry : {r : Request} {a b : Spot} → r ≡ Bqry a b → meetingIn t a b handles corners objs ≡ searchOf t r handles corners objs
-  unfolding searchOf
-  is-bqry e = ap (λ (s : Request). searchOf t s handles corners objs) (sym e)

@@ -24,8 +24,10 @@ use Rattle.box_queries.specs.Queries as query
 use Rattle.printing.specs.declared.Said.the-variants.{Refused, Done, One, Two, Boxes}
 use Rattle.printing.specs.Said.{Told}
 use Rattle.replies.specs.Replies.{count}
-use Rattle.lines.specs.declared.Request.{Request}
-use Rattle.lines.specs.declared.Request.the-variants.{Cell, Ins, Pos, Rem, Now, Mnt, Cir, Rec, Cel, Bin, Bset, Brem, Bqry, Unreadable}
+use Rattle.slots.specs.declared.Handle.{Handle}
+use Rattle.lines.specs.declared.Spot.{Spot}
+use Rattle.lines.specs.declared.BoxChange.{BoxChange}
+use Rattle.lines.specs.declared.BoxChange.the-variants.{Bin, Bset, Brem}
 use Rattle.telling.proofs.laws.RoomLaws.{had-room}
 use Rattle.telling.specs.Tells.{told-tells}
 use Rattle.box_answers.specs.Changes.{changeOf}
@@ -63,38 +65,13 @@ module _ (places : ℕ) (handles : List (List ℕ)) (corners : List (List Float)
       go true h = told-found ss (handleAt (t .nums)) (query.boxRow (t .reals)) (room-of t q (length ss) (query.roomOf handles corners objs) (eqb-true a 0 h))
       go false h = subst (λ (x : Bool). Told (pick x (Boxes (pick (eqb a 9) (length ss) 0)) (Refused a)) (length handles) places (length corners)) (sym h) tt
 
-  pub told : (t : Tables) (r : Request) → IsTold places (searchOf t r handles corners objs)
-  unfolding searchOf
-  told t (Bqry a b) = told-query t (boxOf a b)
-  told t (Cell s) = tt
-  told t (Ins p d) = tt
-  told t (Pos h p) = tt
-  told t (Rem h) = tt
-  told t (Now h) = tt
-  told t Mnt = tt
-  told t (Cir c k) = tt
-  told t (Rec a b) = tt
-  told t (Cel a b) = tt
-  told t (Bin p q d) = tt
-  told t (Bset h p q) = tt
-  told t (Brem h) = tt
-  told t Unreadable = tt
+  pub told : (t : Tables) (p q : Spot) → IsTold places (searchOf t p q handles corners objs)
+  told t p q = told-query t (boxOf p q)
 
 -- a change has no findings to tell
 module _ (handles places boxes : ℕ) where
-  pub told-change : (t : Tables) (r : Request) → Told (changeOf t r .result) handles places boxes
+  pub told-change : (t : Tables) (k : BoxChange) (h : Handle) (p q : Spot) (n : ℕ) → Told (changeOf t k h p q n .result) handles places boxes
   unfolding changeOf
-  told-change t (Cell s) = tt
-  told-change t (Ins p d) = tt
-  told-change t (Pos h p) = tt
-  told-change t (Rem h) = tt
-  told-change t (Now h) = tt
-  told-change t Mnt = tt
-  told-change t (Cir c k) = tt
-  told-change t (Rec a b) = tt
-  told-change t (Cel a b) = tt
-  told-change t (Bin p q d) = let r = insertOf t (boxOf p q) d .result in told-tells handles places boxes (r .answer) (Two (r .handle .slot) (r .handle .version)) tt
-  told-change t (Bset h p q) = told-tells handles places boxes (setAabbOf t h (boxOf p q) .result) Done tt
-  told-change t (Brem h) = let r = removeOf t h .result in told-tells handles places boxes (r .answer) (One (r .obj)) tt
-  told-change t (Bqry a b) = tt
-  told-change t Unreadable = tt
+  told-change t Bin h p q n = let r = insertOf t (boxOf p q) n .result in told-tells handles places boxes (r .answer) (Two (r .handle .slot) (r .handle .version)) tt
+  told-change t Bset h p q n = told-tells handles places boxes (setAabbOf t h (boxOf p q) .result) Done tt
+  told-change t Brem h p q n = let r = removeOf t h .result in told-tells handles places boxes (r .answer) (One (r .obj)) tt

@@ -1,9 +1,11 @@
 -- A taker takes exactly the texts of the values in range. That holds of a number and of a count, and of what is made of them. Assumes nothing.
 use Prim.Native.Nat.{ℕ}
 use mathlib.Core.Path.{_≡_, refl, sym, ap, subst, _∙_}
+use mathlib.Core.Bool.{Bool, true, false}
 use mathlib.Core.List.{List, [], _∷_, _++_, append-assoc, append-nil}
 use native.Mathlib.Omega.{arith}
-use lib.IntN.{ℤ}
+use lib.Dec.{ltb}
+use lib.IntN.{ℤ, pos}
 use Rattle.decimals.specs.declared.Number.{Number}
 use Rattle.decimals.specs.declared.Number.the-variants as read
 use Rattle.decimals.specs.declared.Count.{Count}
@@ -12,11 +14,12 @@ use Rattle.decimals.specs.Text.{decimal, signedText}
 use Rattle.decimals.specs.Fields.{numberOf, countOf}
 use Rattle.decimals.proofs.laws.FieldLaws.{number-text, number-read}
 use Rattle.decimals.proofs.laws.CountLaws.{count-text, count-read}
+use Rattle.lines.specs.declared.Line.{Line}
+use Rattle.lines.specs.declared.Asks.{Asks}
 use Rattle.lines.specs.declared.Request.{Request}
-use Rattle.lines.specs.declared.Request.the-variants.{Unreadable}
-use Rattle.lines.specs.Taken.{Taken, taken, missing, Taker, bind, both, made, numberThen, countThen, takeNumber, takeCount, spotOf, handleOf, takeSpot, takeHandle, takeSpots}
-use Rattle.lines.specs.Requests.{whole}
-use Rattle.lines.specs.Texts.{number, count, spot, handle, NumberInRange, CountInRange, SpotInRange, HandleInRange}
+use Rattle.lines.specs.Taken.{Taken, taken, missing, Taker, bind, both, made, numberThen, countThen, takeNumber, takeCount, spotOf, handleOf, takeSpot, takeHandle, ifAsked, nobody, origin}
+use Rattle.lines.specs.Requests.{Arguments, request, unreadable, takeArguments, argumentsOf, whole}
+use Rattle.lines.specs.Texts.{number, count, spot, handle, only, argumentTexts, NumberInRange, CountInRange, SpotInRange, HandleInRange, AsAsked, ArgumentsInRange}
 
 pub record Exact {A : Type 0} (p : Taker A) (text : A → List (List ℕ)) (InRange : A → Type 0) : Type 0 where
   pub reads : (a : A) (rest : List (List ℕ)) → InRange a → p (text a ++ rest) ≡ taken a rest
@@ -111,24 +114,46 @@ exact-spot = exact-made spotOf (λ p. (p .x, p .y)) (λ a. refl) (λ p. refl) (e
 pub exact-handle : Exact takeHandle handle HandleInRange
 exact-handle = exact-made handleOf (λ h. (h .slot, h .version)) (λ a. refl) (λ h. refl) (exact-both exact-number exact-number)
 
-pub exact-spots : Exact takeSpots (λ a. spot (a .0) ++ spot (a .1)) (λ a. SpotInRange (a .0) × SpotInRange (a .1))
-exact-spots = exact-both exact-spot exact-spot
+-- what is not asked for has no text
+pub exact-if : {A : Type 0} {p : Taker A} {s : A → List (List ℕ)} {R : A → Type 0} (asked : Bool) (none : A) → Exact p s R → Exact (ifAsked asked none p) (λ a. only asked (s a)) (AsAsked asked R none)
+exact-if true none x = record { reads = x .reads; is-text = x .is-text }
+exact-if {A} {p} {s} {R} false none x = record { reads = λ a rest h. ap (λ (c : A). taken c rest) (sym h); is-text = back }
+  where
+    back : (fs : List (List ℕ)) (a : A) (rest : List (List ℕ)) → taken none fs ≡ taken a rest → (fs ≡ rest) × (a ≡ none)
+    back fs a rest e =
+        let same : a ≡ none = cc in
+        let left : fs ≡ rest = cc in
+        (left, same)
 
--- ---- a request of such a value
-pub record Made {A : Type 0} (f : A → Request) (s : A → List (List ℕ)) (R : A → Type 0) (fs : List (List ℕ)) (r : Request) : Type 0 where
-  pub value : A
-  pub text : fs ≡ s value
-  pub in-range : R value
-  pub is : f value ≡ r
+module _ (k : Asks) where
+  abbrev texts : Arguments → List (List ℕ)
+  texts a = argumentTexts k (request (k .line) a)
 
-module _ {A : Type 0} {p : Taker A} {s : A → List (List ℕ)} {R : A → Type 0} (f : A → Request) (x : Exact p s R) where
-  pub made-reads : (a : A) → R a → whole (made f p (s a)) ≡ f a
-  made-reads a h = ap (λ (u : Taken A). whole (bind u (λ b gs. taken (f b) gs))) (ap p (sym (append-nil (s a))) ∙ x .reads a [] h)
+  abbrev InRange : Arguments → Type 0
+  InRange a = ArgumentsInRange k (request (k .line) a)
 
-  pub made-text : (fs : List (List ℕ)) (r : Request) → whole (made f p fs) ≡ r → (r ≡ Unreadable → ⊥) → Made f s R fs r
-  made-text fs r e n = go (p fs) refl e
+  exact-arguments : Exact (takeArguments k) texts InRange
+  exact-arguments =
+      exact-both
+      (exact-both
+      (exact-both (exact-if (k .handle) nobody exact-handle) (exact-both (exact-if (ltb 0 (k .places)) origin exact-spot) (exact-if (ltb 1 (k .places)) origin exact-spot)))
+      (exact-if (k .radius) (pos 0) exact-count))
+      (exact-if (k .number) 0 exact-number)
+
+  -- ---- a request of such arguments
+  pub arguments-read : (r : Request) → r .line ≡ k .line → ArgumentsInRange k r → whole (argumentsOf k (argumentTexts k r)) ≡ r
+  unfolding argumentsOf
+  arguments-read r e h =
+      let a : Arguments = (((r .h, (r .p, r .q)), r .far), r .n) in
+      ap (λ (u : Taken Arguments). whole (bind u (λ b gs. taken (request (k .line) b) gs))) (ap (takeArguments k) (sym (append-nil (texts a))) ∙ exact-arguments .reads a [] h)
+      ∙ ap (λ (l : Line). request l a) (sym e)
+
+  -- whatever holds of what is unreadable and of requests with their arguments in range, by the text or not
+  pub by-arguments : (fs : List (List ℕ)) (P : Request → Type 0) → P unreadable → ((r : Request) → fs ≡ argumentTexts k r → r .line ≡ k .line → ArgumentsInRange k r → P r) → P (whole (argumentsOf k fs))
+  unfolding argumentsOf
+  by-arguments fs P bad each = go (takeArguments k fs) refl
     where
-      go : (u : Taken A) → p fs ≡ u → whole (bind u (λ b gs. taken (f b) gs)) ≡ r → Made f s R fs r
-      go (taken a []) h e = let t = x .is-text fs a [] h in record { value = a; text = t .0 ∙ append-nil (s a); in-range = t .1; is = e }
-      go (taken a (g ∷ gs)) h e = absurd (n (sym e))
-      go missing h e = absurd (n (sym e))
+      go : (u : Taken Arguments) → takeArguments k fs ≡ u → P (whole (bind u (λ b gs. taken (request (k .line) b) gs)))
+      go (taken a []) h = let t = exact-arguments .is-text fs a [] h in each (request (k .line) a) (t .0 ∙ append-nil (texts a)) refl (t .1)
+      go (taken a (g ∷ gs)) h = bad
+      go missing h = bad

@@ -13,25 +13,24 @@ use Rattle.basics.specs.Says.{d-le}
 use Rattle.splits.specs.Records.{recordsOf}
 use Rattle.splits.specs.Sofar.{begun, recordsFrom}
 use Rattle.splits.proofs.laws.SplitLaws.{splits-records}
-use Rattle.lines.specs.declared.Keyword.{Keyword}
+use Rattle.lines.specs.declared.Asks.{Asks}
 use Rattle.lines.specs.declared.Request.{Request}
-use Rattle.lines.specs.declared.Request.the-variants.{Unreadable}
 use Rattle.lines.specs.Fields.{fieldsOf}
-use Rattle.lines.specs.Words.{wordOf}
-use Rattle.lines.specs.Requests.{argumentsOf, whole, ofFields, requestOf}
+use Rattle.lines.specs.Words.{askedBy}
+use Rattle.lines.specs.Requests.{unreadable, argumentsOf, whole, ofFields, requestOf}
 use Rattle.lines.specs.Cursor.{endFrom, fieldsFrom}
 use Rattle.lines.proofs.laws.CursorLaws.{field-at, fields-from-start}
 
-pub too-long : (bytes : List ℕ) → 128 < length bytes → requestOf bytes ≡ Unreadable
+pub too-long : (bytes : List ℕ) → 128 < length bytes → requestOf bytes ≡ unreadable
 unfolding requestOf
-too-long bytes h = ap (λ (t : Bool). pick t (ofFields (fieldsOf bytes)) Unreadable) (lt-leb (length bytes) 128 h)
+too-long bytes h = ap (λ (t : Bool). pick t (ofFields (fieldsOf bytes)) unreadable) (lt-leb (length bytes) 128 h)
 
-pub read-at : (bytes : List ℕ) → length bytes ≤ 128 → (end : ℕ) (k : Keyword) (r : Request) → end ≡ endFrom bytes 0 → k ≡ wordOf (take end bytes) → r ≡ whole (argumentsOf k (fieldsFrom bytes (end + 1))) → requestOf bytes ≡ r
+pub read-at : (bytes : List ℕ) → length bytes ≤ 128 → (end : ℕ) (k : Asks) (r : Request) → end ≡ endFrom bytes 0 → k ≡ askedBy (take end bytes) → r ≡ whole (argumentsOf k (fieldsFrom bytes (end + 1))) → requestOf bytes ≡ r
 unfolding requestOf ofFields
 read-at bytes h end k r e w a =
     let first : fieldsOf bytes ≡ take end bytes ∷ fieldsFrom bytes (end + 1) = sym (fields-from-start bytes) ∙ (field-at bytes 0 (omega arith) ∙ ap (λ (n : ℕ). take n bytes ∷ fieldsFrom bytes (n + 1)) (sym e)) in
-    ap (λ (t : Bool). pick t (ofFields (fieldsOf bytes)) Unreadable) (le-leb (length bytes) 128 h) ∙
-    (ap ofFields first ∙ (ap (λ (j : Keyword). whole (argumentsOf j (fieldsFrom bytes (end + 1)))) (sym w) ∙ sym a))
+    ap (λ (t : Bool). pick t (ofFields (fieldsOf bytes)) unreadable) (le-leb (length bytes) 128 h) ∙
+    (ap ofFields first ∙ (ap (λ (j : Asks). whole (argumentsOf j (fieldsFrom bytes (end + 1)))) (sym w) ∙ sym a))
 
 -- ---- of a record its first 129 bytes are enough
 pub cut-read : (bytes : List ℕ) → requestOf (take 129 bytes) ≡ requestOf bytes

@@ -1,9 +1,10 @@
 -- The text of a request has no comma but between its fields, and is short. Assumes nothing.
 use Prim.Native.Nat.{ℕ, suc, _+_, _≤_, _%_, _/_}
 use mathlib.Core.Path.{_≡_, ap, _∙_}
-use mathlib.Core.Bool.{true}
-use mathlib.Core.List.{[], _∷_, _++_}
+use mathlib.Core.Bool.{Bool, true, false}
+use mathlib.Core.List.{List, [], _∷_, _++_}
 use native.Mathlib.Omega.{arith}
+use lib.Dec.{ltb}
 use lib.IntN.{ℤ, pos, negsuc}
 use lib.ListN.{length}
 use borrow.Author.Tests.{ne-eqb}
@@ -11,11 +12,12 @@ use Rattle.slots.specs.declared.Handle.{Handle}
 use Rattle.decimals.specs.Text.{decimal, signedText}
 use Rattle.decimals.proofs.laws.TextLaws.{one-digit, last-digit, by-digits, number-length}
 use Rattle.lines.specs.declared.Spot.{Spot}
+use Rattle.lines.specs.declared.Asks.{Asks}
 use Rattle.lines.specs.declared.Request.{Request}
-use Rattle.lines.specs.declared.Request.the-variants.{Cell, Ins, Pos, Rem, Now, Mnt, Cir, Rec, Cel, Bin, Bset, Brem, Bqry, Unreadable}
 use Rattle.lines.specs.Fields.{comma}
 use Rattle.lines.proofs.laws.FieldLaws.{clear, AllClear, clear-append, all-clear-append, size, size-append}
-use Rattle.lines.specs.Texts.{number, count, spot, handle, argumentTexts, NumberInRange, CountInRange, SpotInRange, HandleInRange, Proper}
+use Rattle.lines.specs.Texts.{number, count, spot, handle, only, argumentTexts, NumberInRange, CountInRange, SpotInRange, HandleInRange, AsAsked, ArgumentsInRange}
+use Rattle.lines.specs.Taken.{nobody, origin}
 
 digit-clear : (d : ℕ) → clear ((48 + d) ∷ []) ≡ true
 unfolding clear
@@ -38,24 +40,20 @@ spot-clear p = (signed-clear (p .x), (signed-clear (p .y), tt))
 handle-clear : (h : Handle) → AllClear (handle h)
 handle-clear h = (decimal-clear (h .slot), (decimal-clear (h .version), tt))
 
-spots-clear : (p q : Spot) → AllClear (spot p ++ spot q)
-spots-clear p q = all-clear-append (spot p) (spot q) (spot-clear p) (spot-clear q)
+only-clear : (asked : Bool) (fs : List (List ℕ)) → AllClear fs → AllClear (only asked fs)
+only-clear true fs h = h
+only-clear false fs h = tt
 
-pub arguments-clear : (r : Request) → AllClear (argumentTexts r)
-arguments-clear (Cell s) = (decimal-clear s, tt)
-arguments-clear (Ins p d) = all-clear-append (spot p) (number d) (spot-clear p) (decimal-clear d, tt)
-arguments-clear (Pos h p) = all-clear-append (handle h) (spot p) (handle-clear h) (spot-clear p)
-arguments-clear (Rem h) = handle-clear h
-arguments-clear (Now h) = handle-clear h
-arguments-clear Mnt = tt
-arguments-clear (Cir p r) = all-clear-append (spot p) (count r) (spot-clear p) (signed-clear r, tt)
-arguments-clear (Rec p q) = spots-clear p q
-arguments-clear (Cel p q) = spots-clear p q
-arguments-clear (Bin p q d) = all-clear-append (spot p ++ spot q) (number d) (spots-clear p q) (decimal-clear d, tt)
-arguments-clear (Bset h p q) = all-clear-append (handle h) (spot p ++ spot q) (handle-clear h) (spots-clear p q)
-arguments-clear (Brem h) = handle-clear h
-arguments-clear (Bqry p q) = spots-clear p q
-arguments-clear Unreadable = tt
+pub arguments-clear : (k : Asks) (r : Request) → AllClear (argumentTexts k r)
+arguments-clear k r =
+    let h = only (k .handle) (handle (r .h)) in
+    let p = only (ltb 0 (k .places)) (spot (r .p)) in
+    let q = only (ltb 1 (k .places)) (spot (r .q)) in
+    let far = only (k .radius) (count (r .far)) in
+    let n = only (k .number) (number (r .n)) in
+    let pq = all-clear-append p q (only-clear (ltb 0 (k .places)) (spot (r .p)) (spot-clear (r .p))) (only-clear (ltb 1 (k .places)) (spot (r .q)) (spot-clear (r .q))) in
+    let hpq = all-clear-append h (p ++ q) (only-clear (k .handle) (handle (r .h)) (handle-clear (r .h))) pq in
+    all-clear-append ((h ++ (p ++ q)) ++ far) n (all-clear-append (h ++ (p ++ q)) far hpq (only-clear (k .radius) (count (r .far)) (signed-clear (r .far), tt))) (only-clear (k .number) (number (r .n)) (decimal-clear (r .n), tt))
 
 -- ---- how long
 count-length : (k : ℤ) → CountInRange k → length (signedText k) ≤ 11
@@ -75,21 +73,15 @@ spot-size p h = omega (arith, count-length (p .x) (h .0), count-length (p .y) (h
 handle-size : (h : Handle) → HandleInRange h → size (handle h) ≤ 22
 handle-size h i = omega (arith, number-length (h .slot) (i .0), number-length (h .version) (i .1))
 
-spots-size : (p q : Spot) → SpotInRange p × SpotInRange q → size (spot p ++ spot q) ≤ 48
-spots-size p q h = omega (arith, size-append (spot p) (spot q), spot-size p (h .0), spot-size q (h .1))
+only-size : {A : Type 0} (s : A → List (List ℕ)) (R : A → Type 0) {most : ℕ} → ((a : A) → R a → size (s a) ≤ most) → (asked : Bool) (none a : A) → AsAsked asked R none a → size (only asked (s a)) ≤ most
+only-size s R each true none a h = each a h
+only-size s R each false none a h = omega arith
 
-pub arguments-size : (r : Request) → Proper r → size (argumentTexts r) ≤ 70
-arguments-size (Cell s) h = omega (arith, number-size s h)
-arguments-size (Ins p d) h = omega (arith, size-append (spot p) (number d), spot-size p (h .0), number-size d (h .1))
-arguments-size (Pos h p) i = omega (arith, size-append (handle h) (spot p), handle-size h (i .0), spot-size p (i .1))
-arguments-size (Rem h) i = omega (arith, handle-size h i)
-arguments-size (Now h) i = omega (arith, handle-size h i)
-arguments-size Mnt h = omega arith
-arguments-size (Cir p r) h = omega (arith, size-append (spot p) (count r), spot-size p (h .0), count-size r (h .1))
-arguments-size (Rec p q) h = omega (arith, spots-size p q h)
-arguments-size (Cel p q) h = omega (arith, spots-size p q h)
-arguments-size (Bin p q d) h = omega (arith, size-append (spot p ++ spot q) (number d), spots-size p q (h .0), number-size d (h .1))
-arguments-size (Bset h p q) i = omega (arith, size-append (handle h) (spot p ++ spot q), handle-size h (i .0), spots-size p q (i .1))
-arguments-size (Brem h) i = omega (arith, handle-size h i)
-arguments-size (Bqry p q) h = omega (arith, spots-size p q h)
-arguments-size Unreadable h = absurd h
+pub arguments-size : (k : Asks) (r : Request) → ArgumentsInRange k r → size (argumentTexts k r) ≤ 93
+arguments-size k r i =
+    let h = only (k .handle) (handle (r .h)) in
+    let p = only (ltb 0 (k .places)) (spot (r .p)) in
+    let q = only (ltb 1 (k .places)) (spot (r .q)) in
+    let far = only (k .radius) (count (r .far)) in
+    let n = only (k .number) (number (r .n)) in
+    omega (arith, size-append ((h ++ (p ++ q)) ++ far) n, size-append (h ++ (p ++ q)) far, size-append h (p ++ q), size-append p q, only-size handle HandleInRange handle-size (k .handle) nobody (r .h) (i .0 .0 .0), only-size spot SpotInRange spot-size (ltb 0 (k .places)) origin (r .p) (i .0 .0 .1 .0), only-size spot SpotInRange spot-size (ltb 1 (k .places)) origin (r .q) (i .0 .0 .1 .1), only-size count CountInRange count-size (k .radius) (pos 0) (r .far) (i .0 .1), only-size number NumberInRange number-size (k .number) 0 (r .n) (i .1))

@@ -4,16 +4,16 @@ use mathlib.Core.Path.{_≡_, refl, sym, ap, _∙_}
 use mathlib.Core.Bool.{Bool, true, false, _&&_}
 use mathlib.Core.List.{List, [], _∷_}
 use native.Mathlib.Omega.{arith}
-use lib.Dec.{eqb}
-use lib.ListN.{length, take, getD}
-use lib.Seq.{length-take-le, getD-take, ext-getD}
-use borrow.Author.Tests.{eqb-true, eq-eqb}
+use lib.Dec.{eqb, leb}
+use lib.ListN.{length, getD}
+use lib.Seq.{ext-getD}
+use borrow.Author.Tests.{eqb-true, eq-eqb, leb-true}
 use Rattle.basics.specs.Refusals.{pick}
 use Rattle.basics.specs.Says.{apart}
-use Rattle.lines.specs.declared.Keyword.{Keyword}
-use Rattle.lines.specs.declared.Keyword.the-variants as word
+use Rattle.lines.specs.declared.Line.the-variants.{Unreadable}
+use Rattle.lines.specs.declared.Asks.{Asks}
 use Rattle.lines.proofs.laws.FieldLaws.{clear}
-use Rattle.lines.specs.Words.{letters, keywords, sameBytes, foundIn, wordOf}
+use Rattle.lines.specs.Words.{Row, asks, table, sameBytes, rowSays, foundIn, askedBy}
 
 pub same-true : (a b : List ℕ) → sameBytes a b ≡ true → a ≡ b
 same-true [] [] e = refl
@@ -29,69 +29,45 @@ pub same-self : (a : List ℕ) → sameBytes a a ≡ true
 same-self [] = refl
 same-self (x ∷ a) = rw (eq-eqb x x refl) (same-self a)
 
-found-letters : (ks : List Keyword) (w : List ℕ) (k : Keyword) → foundIn ks w ≡ k → (k ≡ word.Other → ⊥) → w ≡ letters k
-found-letters [] w k e n = absurd (n (sym e))
-found-letters (j ∷ ks) w k e n = go (sameBytes w (letters j)) refl e (λ f. found-letters ks w k f n)
+-- a word has no comma and at most four letters: tested over the whole table
+abbrev good : List ℕ → Bool
+good w = clear w && leb (length w) 4
+
+allGood : List Row → Bool
+allGood [] = true
+allGood (r ∷ rs) = good (r .letters) && allGood rs
+
+all-good : allGood table ≡ true
+unfolding clear allGood
+all-good = refl
+
+parts : (s t : Bool) → (s && t) ≡ true → (s ≡ true) × (t ≡ true)
+parts true t e = (refl, e)
+parts false t e = absurd (apart e)
+
+found-good : (rs : List Row) (w : List ℕ) (others : Asks) → others .line ≡ Unreadable → allGood rs ≡ true → (foundIn rs w others .line ≡ Unreadable → ⊥) → good w ≡ true
+unfolding allGood rowSays
+found-good [] w others u h n = absurd (n u)
+found-good (r ∷ rs) w others u h n = go (sameBytes w (r .letters)) refl n (found-good rs w others u (parts (good (r .letters)) (allGood rs) h .1))
   where
-    go : (t : Bool) → sameBytes w (letters j) ≡ t → pick t j (foundIn ks w) ≡ k → (foundIn ks w ≡ k → w ≡ letters k) → w ≡ letters k
-    go true h e ih = same-true w (letters j) h ∙ ap letters e
-    go false h e ih = ih e
+    go : (t : Bool) → sameBytes w (r .letters) ≡ t → (pick t (r .asked) (foundIn rs w others) .line ≡ Unreadable → ⊥) → ((foundIn rs w others .line ≡ Unreadable → ⊥) → good w ≡ true) → good w ≡ true
+    go true e n ih = ap good (same-true w (r .letters) e) ∙ parts (good (r .letters)) (allGood rs) h .0
+    go false e n ih = ih n
 
-pub word-letters : (w : List ℕ) (k : Keyword) → wordOf w ≡ k → (k ≡ word.Other → ⊥) → w ≡ letters k
-unfolding wordOf
-word-letters w k e n = found-letters keywords w k e n
+pub record Word (w : List ℕ) : Type 0 where
+  pub no-comma : clear w ≡ true
+  pub short : length w ≤ 4
 
-pub word-read : (k : Keyword) → wordOf (letters k) ≡ k
-unfolding wordOf
-word-read word.Cell = refl
-word-read word.Ins = refl
-word-read word.Pos = refl
-word-read word.Rem = refl
-word-read word.Now = refl
-word-read word.Mnt = refl
-word-read word.Cir = refl
-word-read word.Rec = refl
-word-read word.Cel = refl
-word-read word.Bin = refl
-word-read word.Bset = refl
-word-read word.Brem = refl
-word-read word.Bqry = refl
-word-read word.Other = refl
+pub is-word : (w : List ℕ) → (askedBy w .line ≡ Unreadable → ⊥) → Word w
+unfolding askedBy
+is-word w n = go (clear w) (leb (length w) 4) refl refl (found-good table w (asks Unreadable false 0 false false) refl all-good n)
+  where
+    go : (s t : Bool) → clear w ≡ s → leb (length w) 4 ≡ t → (s && t) ≡ true → Word w
+    go true true c l e = record { no-comma = c; short = leb-true (length w) 4 l }
+    go true false c l e = absurd (apart e)
+    go false t c l e = absurd (apart e)
 
-pub word-clear : (k : Keyword) → clear (letters k) ≡ true
-unfolding clear
-word-clear word.Cell = refl
-word-clear word.Ins = refl
-word-clear word.Pos = refl
-word-clear word.Rem = refl
-word-clear word.Now = refl
-word-clear word.Mnt = refl
-word-clear word.Cir = refl
-word-clear word.Rec = refl
-word-clear word.Cel = refl
-word-clear word.Bin = refl
-word-clear word.Bset = refl
-word-clear word.Brem = refl
-word-clear word.Bqry = refl
-word-clear word.Other = refl
-
-pub word-length : (k : Keyword) → length (letters k) ≤ 4
-word-length word.Cell = omega arith
-word-length word.Ins = omega arith
-word-length word.Pos = omega arith
-word-length word.Rem = omega arith
-word-length word.Now = omega arith
-word-length word.Mnt = omega arith
-word-length word.Cir = omega arith
-word-length word.Rec = omega arith
-word-length word.Cel = omega arith
-word-length word.Bin = omega arith
-word-length word.Bset = omega arith
-word-length word.Brem = omega arith
-word-length word.Bqry = omega arith
-word-length word.Other = omega arith
-
--- ---- the word at the front of a record, byte by byte
+-- ---- byte by byte
 pub same-false : (a b : List ℕ) → (a ≡ b → ⊥) → sameBytes a b ≡ false
 same-false a b n = go (sameBytes a b) refl
   where
@@ -99,15 +75,12 @@ same-false a b n = go (sameBytes a b) refl
     go true e = absurd (n (same-true a b e))
     go false e = refl
 
-module _ (b w : List ℕ) (end : ℕ) (h : end ≤ length b) where
-  pub other-length : (end ≡ length w → ⊥) → sameBytes (take end b) w ≡ false
-  other-length n = same-false (take end b) w (λ e. n (sym (length-take-le end b h) ∙ ap length e))
+module _ (a w : List ℕ) where
+  pub other-length : (length a ≡ length w → ⊥) → sameBytes a w ≡ false
+  other-length n = same-false a w (λ e. n (ap length e))
 
-  pub other-byte : (i : ℕ) → i < end → (getD b i 0 ≡ getD w i 0 → ⊥) → sameBytes (take end b) w ≡ false
-  other-byte i l n = same-false (take end b) w (λ e. n (sym (getD-take end b i 0 l) ∙ ap (λ (x : List ℕ). getD x i 0) e))
+  pub other-byte : (i : ℕ) → (getD a i 0 ≡ getD w i 0 → ⊥) → sameBytes a w ≡ false
+  other-byte i n = same-false a w (λ e. n (ap (λ (x : List ℕ). getD x i 0) e))
 
-  pub same-bytes : end ≡ length w → ((i : ℕ) → i < end → getD b i 0 ≡ getD w i 0) → sameBytes (take end b) w ≡ true
-  same-bytes e each =
-      let long : length (take end b) ≡ length w = length-take-le end b h ∙ e in
-      let all : take end b ≡ w = ext-getD 0 (take end b) w long (λ i l. let k : i < end = omega (arith, length-take-le end b h, l) in getD-take end b i 0 k ∙ each i k) in
-      ap (λ (x : List ℕ). sameBytes x w) all ∙ same-self w
+  pub same-bytes : length a ≡ length w → ((i : ℕ) → i < length a → getD a i 0 ≡ getD w i 0) → sameBytes a w ≡ true
+  same-bytes e each = ap (λ (x : List ℕ). sameBytes x w) (ext-getD 0 a w e each) ∙ same-self w

@@ -1,6 +1,6 @@
--- What a call did is what its request asks for. Assumes nothing.
+-- What a call did is what its line asks for. Assumes nothing.
 use Prim.Native.Nat.{ℕ}
-use mathlib.Core.Path.{_≡_, sym, ap, _∙_}
+use mathlib.Core.Path.{_≡_, ap, _∙_}
 use Rattle.slots.specs.declared.Handle.{Handle}
 use Rattle.point_tables.specs.Tables.{Tables}
 use Rattle.point_tables.specs.Outcome.{Outcome, outcome}
@@ -13,9 +13,7 @@ use Rattle.telling.specs.Places.{placeOf}
 use Rattle.telling.specs.Tells.{doneOr, twoOr}
 use Rattle.printing.specs.declared.Said.{Said}
 use Rattle.lines.specs.declared.Spot.{Spot}
-use Rattle.lines.specs.declared.Request.{Request}
-use Rattle.lines.specs.declared.Request.the-variants.{Ins, Pos, Rem, Now, Mnt}
-use Rattle.point_answers.specs.Changes.{said, insertedOf, movedOf, markedOf, takenOf, maintainedOf, changeOf}
+use Rattle.point_answers.specs.Changes.{said, insertedOf, movedOf}
 
 -- x is what the call told
 pub said-of : {R : Type 0} (tell : R → Said) {r : R} {u : Tables} {o : Outcome R} {x : Said} → x ≡ tell r → outcome r u ≡ o → outcome x u ≡ said tell o
@@ -29,28 +27,3 @@ inserted-said t p d w k e = said-of (λ r. twoOr (r .answer) (r .handle .slot) (
 pub moved-said : (t : Tables) (h : Handle) (p : Spot) {u : Tables} {r : Reply} {q : Position} {x : Said}
     → x ≡ doneOr (r .answer) → q ≡ placeOf p → outcome r u ≡ setPositionOf t h q → outcome x u ≡ movedOf t h p
 moved-said t h p w k e = said-of (λ r. doneOr (r .answer)) w (e ∙ ap (setPositionOf t h) k)
-
--- ---- the request that r is
-module _ (t : Tables) {r : Request} where
-  asked : {s : Request} → r ≡ s → changeOf t s ≡ changeOf t r
-  asked e = ap (changeOf t) (sym e)
-
-  pub is-ins : {p : Spot} {d : ℕ} → r ≡ Ins p d → insertedOf t p d ≡ changeOf t r
-  unfolding changeOf
-  is-ins e = asked e
-
-  pub is-pos : {h : Handle} {p : Spot} → r ≡ Pos h p → movedOf t h p ≡ changeOf t r
-  unfolding changeOf
-  is-pos e = asked e
-
-  pub is-rem : {h : Handle} → r ≡ Rem h → markedOf t h ≡ changeOf t r
-  unfolding changeOf
-  is-rem e = asked e
-
-  pub is-now : {h : Handle} → r ≡ Now h → takenOf t h ≡ changeOf t r
-  unfolding changeOf
-  is-now e = asked e
-
-  pub is-mnt : r ≡ Mnt → maintainedOf t ≡ changeOf t r
-  unfolding changeOf
-  is-mnt e = asked e

@@ -7,6 +7,7 @@ use native.Mathlib.Omega.{arith}
 use native.Mathlib.Nat.{min-le-left, min-le-right}
 use lib.Dec.{eqb, leb}
 use lib.Ieee.{Float}
+use lib.IntN.{ℤ}
 use lib.ListN.{length, length-map}
 use borrow.Author.Tests.{eqb-true, leb-true}
 use Rattle.basics.specs.Refusals.{pick}
@@ -33,12 +34,16 @@ use Rattle.printing.specs.declared.Said.{Said}
 use Rattle.printing.specs.declared.Said.the-variants.{Refused, Done, One, Two, Points}
 use Rattle.printing.specs.Said.{Told}
 use Rattle.replies.specs.Replies.{count}
-use Rattle.lines.specs.declared.Request.{Request}
-use Rattle.lines.specs.declared.Request.the-variants.{Cell, Ins, Pos, Rem, Now, Mnt, Cir, Rec, Cel, Bin, Bset, Brem, Bqry, Unreadable}
+use Rattle.slots.specs.declared.Handle.{Handle}
+use Rattle.lines.specs.declared.Spot.{Spot}
+use Rattle.lines.specs.declared.PointChange.{PointChange}
+use Rattle.lines.specs.declared.PointChange.the-variants.{Ins, Pos, Rem, Now, Mnt}
+use Rattle.lines.specs.declared.PointSearch.{PointSearch}
+use Rattle.lines.specs.declared.PointSearch.the-variants.{Cir, Rec, Cel}
 use Rattle.telling.proofs.laws.RoomLaws.{had-room}
 use Rattle.telling.specs.Tells.{told-tells}
 use Rattle.point_answers.specs.Changes.{changeOf}
-use Rattle.point_answers.specs.Searches.{Searched, said, searchOf}
+use Rattle.point_answers.specs.Searches.{Searched, said, findingsOf, searchOf}
 
 -- what there is to tell is there: as many findings as the trace's grids can give, and all in the outputs
 abbrev pub IsTold : ℕ → Searched → Type 0
@@ -70,44 +75,24 @@ module _ (boxes : ℕ) (handles : List (List ℕ)) (places : List (List Float)) 
         go true h = told-found (query.found t ll ur test) (query.handleRow t) query.placeRow (room-of t ok ll ur test (min (length handles) (length places)) (eqb-true a 0 h))
         go false h = subst (λ (x : Bool). Told (pick x (Points (pick (eqb a 9) (length (query.found t ll ur test)) 0)) (Refused a)) (length handles) (length places) boxes) (sym h) tt
 
-  pub told : (t : Tables) (r : Request) → IsTold boxes (searchOf t r handles places)
-  unfolding searchOf query.aroundOf query.aabbOf query.queryOf
-  told t (Cir c k) =
-      let q = placeOf c in
-      let f = sixteenth k in
-      told-search t (positionInDomain q && radiusInDomain f) (cornerBelow q f) (cornerAbove q f) (Circle q f)
-  told t (Rec a b) =
-      let l = lowerCorner (placeOf a) (placeOf b) in
-      let u = upperCorner (placeOf a) (placeOf b) in
-      told-search t (positionInDomain (placeOf a) && positionInDomain (placeOf b)) l u (Rectangle l u)
-  told t (Cel a b) = told-search t (positionInDomain (placeOf a) && positionInDomain (placeOf b)) (placeOf a) (placeOf b) Any
-  told t (Cell s) = tt
-  told t (Ins p d) = tt
-  told t (Pos h p) = tt
-  told t (Rem h) = tt
-  told t (Now h) = tt
-  told t Mnt = tt
-  told t (Bin p q d) = tt
-  told t (Bset h p q) = tt
-  told t (Brem h) = tt
-  told t (Bqry p q) = tt
-  told t Unreadable = tt
+  pub told : (t : Tables) (s : PointSearch) (p q : Spot) (far : ℤ) → IsTold boxes (searchOf t s p q far handles places)
+  unfolding findingsOf query.aroundOf query.aabbOf query.queryOf
+  told t Cir p q far =
+      let c = placeOf p in
+      let f = sixteenth far in
+      told-search t (positionInDomain c && radiusInDomain f) (cornerBelow c f) (cornerAbove c f) (Circle c f)
+  told t Rec p q far =
+      let l = lowerCorner (placeOf p) (placeOf q) in
+      let u = upperCorner (placeOf p) (placeOf q) in
+      told-search t (positionInDomain (placeOf p) && positionInDomain (placeOf q)) l u (Rectangle l u)
+  told t Cel p q far = told-search t (positionInDomain (placeOf p) && positionInDomain (placeOf q)) (placeOf p) (placeOf q) Any
 
 -- a change has no findings to tell
 module _ (handles places boxes : ℕ) where
-  pub told-change : (t : Tables) (r : Request) → Told (changeOf t r .result) handles places boxes
+  pub told-change : (t : Tables) (k : PointChange) (h : Handle) (p : Spot) (n : ℕ) → Told (changeOf t k h p n .result) handles places boxes
   unfolding changeOf
-  told-change t (Cell s) = tt
-  told-change t (Ins p d) = let r = insertOf t (placeOf p) d .result in told-tells handles places boxes (r .answer) (Two (r .handle .slot) (r .handle .version)) tt
-  told-change t (Pos h p) = let r = setPositionOf t h (placeOf p) .result in told-tells handles places boxes (r .answer) Done tt
-  told-change t (Rem h) = let r = removeOf t h .result in told-tells handles places boxes (r .answer) (One (r .obj)) tt
-  told-change t (Now h) = let r = removeMaintainOf t h .result in told-tells handles places boxes (r .answer) (One (r .obj)) tt
-  told-change t Mnt = let r = maintainOf t .result in told-tells handles places boxes (r .answer) (Two (r .moved) (r .removed)) tt
-  told-change t (Cir c k) = tt
-  told-change t (Rec a b) = tt
-  told-change t (Cel a b) = tt
-  told-change t (Bin p q d) = tt
-  told-change t (Bset h p q) = tt
-  told-change t (Brem h) = tt
-  told-change t (Bqry a b) = tt
-  told-change t Unreadable = tt
+  told-change t Ins h p n = let r = insertOf t (placeOf p) n .result in told-tells handles places boxes (r .answer) (Two (r .handle .slot) (r .handle .version)) tt
+  told-change t Pos h p n = let r = setPositionOf t h (placeOf p) .result in told-tells handles places boxes (r .answer) Done tt
+  told-change t Rem h p n = let r = removeOf t h .result in told-tells handles places boxes (r .answer) (One (r .obj)) tt
+  told-change t Now h p n = let r = removeMaintainOf t h .result in told-tells handles places boxes (r .answer) (One (r .obj)) tt
+  told-change t Mnt h p n = let r = maintainOf t .result in told-tells handles places boxes (r .answer) (Two (r .moved) (r .removed)) tt

@@ -1,106 +1,94 @@
--- `lines::arguments::arguments` meets its contract, word by word. Assumes nothing.
-use Prim.Native.Nat.{ℕ}
-use mathlib.Core.Path.{_≡_, refl, sym, ap, _∙_}
-use mathlib.Core.List.{List}
+-- `lines::arguments::arguments` meets its contract: what is asked for is taken, one after the other. Assumes nothing.
+use mathlib.Core.Path.{ap, _∙_}
+use lib.IntN.{ℤ, pos}
+use mir.Facts.{toZ-ofZ}
 use borrow.Author.Needs.{needs}
-use Rattle.lines.specs.declared.Keyword.{Keyword}
-use Rattle.lines.specs.declared.Keyword.the-variants as word
-use Rattle.lines.specs.declared.Request.{Request}
-use Rattle.lines.specs.Requests.{argumentsOf, whole}
-use Rattle.lines.specs.Cursor.{fieldsFrom}
+use Rattle.lines.specs.Taken.{taken, both, takeNumber, takeCount, takeHandle, ifAsked, nobody, takePlaces}
+use Rattle.lines.specs.Requests.{request, argumentsOf, whole}
+use Rattle.lines.specs.Cursor.{fieldsFrom, numberTaken, countTaken, spotsTaken, handleTaken}
+use Rattle.lines.proofs.Shared.{told, none-first, none-second, both-taken, no-request, one-request}
 use Rattle.lines.proofs.arguments.arguments.Statement.{statement}
 use Rattle.lines.proofs.arguments.arguments.Tie as tie
 
-module _ (fs : List (List ℕ)) {k : Keyword} {r : Request} where
-  of-word : (j : Keyword) → k ≡ j → r ≡ whole (argumentsOf j fs) → r ≡ whole (argumentsOf k fs)
-  of-word j e h = h ∙ sym (ap (λ (i : Keyword). whole (argumentsOf i fs)) e)
-
 returns : tie.Need-returns
-returns c = let a = c .before .before .before .before .args in of-word (fieldsFrom (a .b .now) (a .at)) word.Cell (c .before .enum-told .given .1) (c .cell .ensures)
+unfolding argumentsOf
+returns c =
+    let a = c .before .before .before .before .before .args in
+    let fs = fieldsFrom (a .b .now) (a .at) in
+    let h = ifAsked (a .k .handle) nobody takeHandle in
+    let l = takePlaces (a .k .places) in
+    let f = ifAsked (a .k .radius) (pos 0) takeCount in
+    let m = ifAsked (a .k .number) 0 takeNumber in
+    c .unreadable .ensures ∙ no-request (request (a .k .line)) (both (both (both h l) f) m) fs (none-first (both (both h l) f) m fs (none-first (both h l) f fs (none-first h l fs (told (handleTaken (a .b .now)) (c .before .enum-told .given .1) (c .before .before .before .handle-if .ensures)))))
 
 returns-2 : tie.Need-returns-2
-returns-2 c = let a = c .before .before .before .before .args in of-word (fieldsFrom (a .b .now) (a .at)) word.Ins (c .before .enum-told2 .given .1) (c .ins .ensures)
+unfolding argumentsOf
+returns-2 c =
+    let a = c .before .before .before .before .before .before .before .before .before .args in
+    let fs = fieldsFrom (a .b .now) (a .at) in
+    let h = ifAsked (a .k .handle) nobody takeHandle in
+    let l = takePlaces (a .k .places) in
+    let f = ifAsked (a .k .radius) (pos 0) takeCount in
+    let m = ifAsked (a .k .number) 0 takeNumber in
+    c .unreadable2 .ensures ∙ no-request (request (a .k .line)) (both (both (both h l) f) m) fs (none-first (both (both h l) f) m fs (none-first (both h l) f fs (none-second h l fs (told (handleTaken (a .b .now)) (c .before .before .before .before .before .first .given .1) (c .before .before .before .before .before .before .before .handle-if .ensures)) (told (spotsTaken (a .b .now)) (c .before .enum-told2 .given .1) (c .before .before .before .spots-if .ensures)))))
 
 returns-3 : tie.Need-returns-3
-returns-3 c = let a = c .before .before .before .before .args in of-word (fieldsFrom (a .b .now) (a .at)) word.Pos (c .before .enum-told3 .given .1) (c .pos .ensures)
+unfolding argumentsOf
+returns-3 c =
+    let a = c .before .before .before .before .before .before .before .before .before .before .before .before .before .args in
+    let fs = fieldsFrom (a .b .now) (a .at) in
+    let h = ifAsked (a .k .handle) nobody takeHandle in
+    let l = takePlaces (a .k .places) in
+    let f = ifAsked (a .k .radius) (pos 0) takeCount in
+    let m = ifAsked (a .k .number) 0 takeNumber in
+    c .unreadable3 .ensures ∙ no-request (request (a .k .line)) (both (both (both h l) f) m) fs (none-first (both (both h l) f) m fs (none-second (both h l) f fs (both-taken h l fs (told (handleTaken (a .b .now)) (c .before .before .before .before .before .before .before .before .before .first .given .1) (c .before .before .before .before .before .before .before .before .before .before .before .handle-if .ensures)) (told (spotsTaken (a .b .now)) (c .before .before .before .before .before .places .given .1) (c .before .before .before .before .before .before .before .spots-if .ensures))) (told (countTaken (a .b .now)) (c .before .enum-told3 .given .1) (c .before .before .before .count-if .ensures))))
 
 returns-4 : tie.Need-returns-4
-returns-4 c = let a = c .before .before .before .before .args in of-word (fieldsFrom (a .b .now) (a .at)) word.Rem (c .before .enum-told4 .given .1) (c .rem .ensures)
+unfolding argumentsOf
+returns-4 c =
+    let a = c .before .before .before .before .before .before .before .before .before .before .before .before .before .before .before .before .before .args in
+    let fs = fieldsFrom (a .b .now) (a .at) in
+    let h = ifAsked (a .k .handle) nobody takeHandle in
+    let l = takePlaces (a .k .places) in
+    let f = ifAsked (a .k .radius) (pos 0) takeCount in
+    let m = ifAsked (a .k .number) 0 takeNumber in
+    c .unreadable4 .ensures ∙ no-request (request (a .k .line)) (both (both (both h l) f) m) fs (none-second (both (both h l) f) m fs (both-taken (both h l) f fs (both-taken h l fs (told (handleTaken (a .b .now)) (c .before .before .before .before .before .before .before .before .before .before .before .before .before .first .given .1) (c .before .before .before .before .before .before .before .before .before .before .before .before .before .before .before .handle-if .ensures)) (told (spotsTaken (a .b .now)) (c .before .before .before .before .before .before .before .before .before .places .given .1) (c .before .before .before .before .before .before .before .before .before .before .before .spots-if .ensures))) (told (countTaken (a .b .now)) (c .before .before .before .before .before .radius .given .1) (c .before .before .before .before .before .before .before .count-if .ensures))) (told (numberTaken (a .b .now)) (c .before .enum-told4 .given .1) (c .before .before .before .number-if .ensures)))
 
 returns-5 : tie.Need-returns-5
-returns-5 c = let a = c .before .before .before .before .args in of-word (fieldsFrom (a .b .now) (a .at)) word.Now (c .before .enum-told5 .given .1) (c .now .ensures)
-
-returns-6 : tie.Need-returns-6
 unfolding argumentsOf
-returns-6 c = let a = c .before .before .before .before .args in of-word (fieldsFrom (a .b .now) (a .at)) word.Mnt (c .before .enum-told6 .given .1) (c .whole .ensures)
-
-returns-7 : tie.Need-returns-7
-returns-7 c = let a = c .before .before .before .before .args in of-word (fieldsFrom (a .b .now) (a .at)) word.Cir (c .before .enum-told7 .given .1) (c .cir .ensures)
-
-returns-8 : tie.Need-returns-8
-returns-8 c = let a = c .before .before .before .before .args in of-word (fieldsFrom (a .b .now) (a .at)) word.Rec (c .before .enum-told8 .given .1) (c .rec .ensures)
-
-returns-9 : tie.Need-returns-9
-returns-9 c = let a = c .before .before .before .before .args in of-word (fieldsFrom (a .b .now) (a .at)) word.Cel (c .before .enum-told9 .given .1) (c .cel .ensures)
-
-returns-10 : tie.Need-returns-10
-returns-10 c = let a = c .before .before .before .before .args in of-word (fieldsFrom (a .b .now) (a .at)) word.Bin (c .before .enum-told10 .given .1) (c .bin .ensures)
-
-returns-11 : tie.Need-returns-11
-returns-11 c = let a = c .before .before .before .before .args in of-word (fieldsFrom (a .b .now) (a .at)) word.Bset (c .before .enum-told11 .given .1) (c .bset .ensures)
-
-returns-12 : tie.Need-returns-12
-returns-12 c = let a = c .before .before .before .before .args in of-word (fieldsFrom (a .b .now) (a .at)) word.Brem (c .before .enum-told12 .given .1) (c .brem .ensures)
-
-returns-13 : tie.Need-returns-13
-returns-13 c = let a = c .before .before .before .before .args in of-word (fieldsFrom (a .b .now) (a .at)) word.Bqry (c .before .enum-told13 .given .1) (c .bqry .ensures)
-
-returns-14 : tie.Need-returns-14
-unfolding argumentsOf
-returns-14 c = let a = c .before .before .before .args in of-word (fieldsFrom (a .b .now) (a .at)) word.Other (c .enum-told14 .given .1) refl
+returns-5 c =
+    let a = c .before .before .before .before .before .before .before .before .before .before .before .before .before .before .before .before .before .before .args in
+    let fs = fieldsFrom (a .b .now) (a .at) in
+    let h = ifAsked (a .k .handle) nobody takeHandle in
+    let l = takePlaces (a .k .places) in
+    let f = ifAsked (a .k .radius) (pos 0) takeCount in
+    let m = ifAsked (a .k .number) 0 takeNumber in
+    let far = ap (λ (z : ℤ). whole (taken (request (a .k .line) (((c .before .before .before .before .before .before .before .before .before .before .before .before .before .before .first .given .0 .0, (c .before .before .before .before .before .before .before .before .before .before .places .given .0 .0, c .before .before .before .before .before .before .before .before .before .before .places .given .0 .1 .0)), z), c .before .before .number .given .0 .0)) (fieldsFrom (a .b .now) (c .before .before .number .given .0 .1 .0)))) (toZ-ofZ (record { sfits = c .before .before .before .before .before .known-told3 .given .0 .1 })) in
+    one-request (request (a .k .line)) (both (both (both h l) f) m) fs (c .whole .ensures ∙ far) (both-taken (both (both h l) f) m fs (both-taken (both h l) f fs (both-taken h l fs (told (handleTaken (a .b .now)) (c .before .before .before .before .before .before .before .before .before .before .before .before .before .before .first .given .1) (c .before .before .before .before .before .before .before .before .before .before .before .before .before .before .before .before .handle-if .ensures)) (told (spotsTaken (a .b .now)) (c .before .before .before .before .before .before .before .before .before .before .places .given .1) (c .before .before .before .before .before .before .before .before .before .before .before .before .spots-if .ensures))) (told (countTaken (a .b .now)) (c .before .before .before .before .before .before .radius .given .1) (c .before .before .before .before .before .before .before .before .count-if .ensures))) (told (numberTaken (a .b .now)) (c .before .before .number .given .1) (c .before .before .before .before .number-if .ensures)))
 
 pub arguments-spec : {M : Type 1} → statement M
 arguments-spec =
     tie.close
     (tie.spec
-    (λ c. search needs)
     (λ c κs. search needs)
     (λ c. search needs)
-    (λ c κs. search needs)
     (λ c. search needs)
     (λ c κs. search needs)
-    (λ c. search needs)
-    (λ c κs. search needs)
-    (λ c. search needs)
-    (λ c κs. search needs)
-    (λ c. search needs)
-    (λ c κs. search needs)
-    (λ c. search needs)
-    (λ c κs. search needs)
-    (λ c. search needs)
-    (λ c κs. search needs)
-    (λ c. search needs)
-    (λ c κs. search needs)
-    (λ c. search needs)
-    (λ c κs. search needs)
-    (λ c. search needs)
-    (λ c κs. search needs)
-    (λ c. search needs)
-    (λ c κs. search needs)
-    (λ c. search needs)
-    (λ c κs. search needs)
-    (λ c. search needs)
     returns
+    (λ c κs. search needs)
+    (λ c. search needs)
+    (λ c. search needs)
+    (λ c κs. search needs)
     returns-2
+    (λ c κs. search needs)
+    (λ c. search needs)
+    (λ c. search needs)
+    (λ c κs. search needs)
     returns-3
+    (λ c κs. search needs)
+    (λ c. search needs)
+    (λ c. search needs)
+    (λ c κs. search needs)
     returns-4
-    returns-5
-    returns-6
-    returns-7
-    returns-8
-    returns-9
-    returns-10
-    returns-11
-    returns-12
-    returns-13
-    returns-14)
+    (λ c κs. search needs)
+    returns-5)

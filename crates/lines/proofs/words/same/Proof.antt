@@ -9,15 +9,15 @@ use Rattle.lines.proofs.words.same.Statement.{statement}
 use Rattle.lines.proofs.words.same.Tie as tie
 
 abbrev Inv-loop : tie.InvT-loop
-Inv-loop b end w i₀ i = (i ≤ end) × (end ≡ length w) × ((k : ℕ) → k < i → getD b k 0 ≡ getD w k 0)
+Inv-loop a w i₀ i = (i ≤ length a) × (length a ≡ length w) × ((k : ℕ) → k < i → getD a k 0 ≡ getD w k 0)
 
 abbrev μ-loop : tie.MeasureT-loop
-μ-loop b end w i₀ i = end - i
+μ-loop a w i₀ i = length a - i
 
 returns : tie.Need-returns Inv-loop μ-loop
 returns c =
     let a = c .before .args in
-    sym (other-length (a .b .now) (a .w .now) (a .end) (c .before .pre) (c .if1 .taken))
+    sym (other-length (a .word .now) (a .w .now) (c .if1 .taken))
 
 loop-holds : tie.Need-loop-holds Inv-loop μ-loop
 loop-holds c = (omega arith, c .if1 .left, below-none _)
@@ -26,7 +26,7 @@ returns-2 : tie.Need-returns-2 Inv-loop μ-loop
 returns-2 c =
     let l = c .before .before .before .before in
     let s = l .before .before in
-    sym (other-byte (s .args .b .now) (s .args .w .now) (s .args .end) (s .pre) (l .loop .i) (c .before .before .before .loop-test .taken) (c .if2 .taken))
+    sym (other-byte (s .args .word .now) (s .args .w .now) (l .loop .i) (c .if2 .taken))
 
 loop-again : tie.Need-loop-again Inv-loop μ-loop
 loop-again c =
@@ -37,7 +37,7 @@ returns-3 : tie.Need-returns-3 Inv-loop μ-loop
 returns-3 c =
     let l = c .before in
     let s = l .before .before in
-    sym (same-bytes (s .args .b .now) (s .args .w .now) (s .args .end) (s .pre) (l .loop .inv .1) (λ k h. l .loop .inv .2 k (omega arith)))
+    sym (same-bytes (s .args .word .now) (s .args .w .now) (l .loop .inv .1) (λ k h. l .loop .inv .2 k (omega arith)))
 
 pub same-spec : {M : Type 1} → statement M
 same-spec =

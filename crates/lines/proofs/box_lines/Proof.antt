@@ -1,0 +1,21 @@
+-- `lines::box_lines` meets its contract, row by row. Assumes nothing.
+use borrow.Author.Needs.{needs}
+use Rattle.lines.proofs.box_lines.Statement.{statement}
+use Rattle.lines.proofs.box_lines.Tie as tie
+
+returns : tie.Need-returns
+returns c = cc (c .box-change3 .ensures, c .before .before .box-change2 .ensures, c .before .before .before .before .box-change .ensures, c .before .before .before .before .before .before .row .ensures)
+
+pub box-lines-spec : {M : Type 1} → statement M
+box-lines-spec =
+    tie.close
+    (tie.spec
+    (λ c. search needs)
+    (λ c κs. search needs)
+    (λ c. search needs)
+    (λ c κs. search needs)
+    (λ c. search needs)
+    (λ c κs. search needs)
+    (λ c. search needs)
+    (λ c κs. search needs)
+    returns)
