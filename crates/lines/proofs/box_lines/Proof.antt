@@ -1,10 +1,11 @@
 -- `lines::box_lines` meets its contract, row by row. Assumes nothing.
 use borrow.Author.Needs.{needs}
+use Rattle.lines.proofs.Shared.{then-row}
 use Rattle.lines.proofs.box_lines.Statement.{statement}
 use Rattle.lines.proofs.box_lines.Tie as tie
 
 returns : tie.Need-returns
-returns c = cc (c .box-change3 .ensures, c .before .before .box-change2 .ensures, c .before .before .before .before .box-change .ensures, c .before .before .before .before .before .before .row .ensures)
+returns c = then-row _ _ (c .box-change3 .ensures) (then-row _ _ (c .before .before .box-change2 .ensures) (then-row _ _ (c .before .before .before .before .box-change .ensures) (c .before .before .before .before .before .before .row .ensures)))
 
 pub box-lines-spec : {M : Type 1} → statement M
 box-lines-spec =
