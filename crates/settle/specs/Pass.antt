@@ -1,11 +1,12 @@
 -- The pass over the slots: what it is asked for, one slot's part of it, and what it leaves. Assumes nothing.
-use Prim.Native.Nat.{ℕ, _+_, _/_, _<_}
+use Prim.Native.Nat.{ℕ, _+_, _/_, _<_, _≤_}
 use mathlib.Core.Path.{_≡_}
 use mathlib.Core.List.{List, [], _∷_, _++_, map}
 use lib.IntN.{ℤ}
 use lib.Ieee.{Float, nan}
 use lib.ListN.{length, getD, set, take, drop}
 use denote.Ref.{RefT, now}
+use Rattle.basics.specs.Lent.{Lent}
 use Rattle.basics.specs.Refusals.{pick}
 use Rattle.geometry.specs.declared.Position.{Position}
 use Rattle.cells.specs.declared.Cell.{Cell}
@@ -24,12 +25,18 @@ use Rattle.maintain.specs.Settle.{settledAll}
 use Rattle.maintain.specs.SettleLaws.{Shaped}
 use Rattle.maintain.specs.Closed.{relocatedBelow}
 
--- ---- tables that have the records and the slot map alone, and the same behind four references
+-- ---- tables that have the records and the slot map alone, and the same behind four references: at one moment, before and after a call
 abbrev pub recordsIn : List (List ℕ) → List (List Float) → List (List ℤ) → List ℕ → Tables
 recordsIn nums reals ints map = tables nums reals ints map [] [] []
 
 abbrev pub lentRecords : RefT (List (List ℕ)) → RefT (List (List Float)) → RefT (List (List ℤ)) → RefT (List ℕ) → Tables
 lentRecords nums reals ints map = recordsIn (now nums) (now reals) (now ints) (now map)
+
+abbrev pub recordsBefore : Lent (List (List ℕ)) → Lent (List (List Float)) → Lent (List (List ℤ)) → Lent (List ℕ) → Tables
+recordsBefore nums reals ints map = lentRecords (nums .entry) (reals .entry) (ints .entry) (map .entry)
+
+abbrev pub recordsAfter : Lent (List (List ℕ)) → Lent (List (List Float)) → Lent (List (List ℤ)) → Lent (List ℕ) → Tables
+recordsAfter nums reals ints map = lentRecords (nums .exit) (reals .exit) (ints .exit) (map .exit)
 
 abbrev pub bare : Tables → Tables
 bare t = recordsIn (t .nums) (t .reals) (t .ints) (t .map)
@@ -45,6 +52,10 @@ pub record Slotted (t : Tables) (s : ℕ) : Type 0 where
 pub record Ready (t : Tables) : Type 0 where
   pub shaped : Shaped t
   pub agrees : (s : ℕ) → s < slotsOf t → phaseAt (t .nums) s ≡ live → Agrees (sizeOf t) (recordOn t s .cell) (recordOn t s .state)
+
+-- the pool has room for the rows of relocated objects from place w on
+abbrev pub Room : Tables → ℕ → List (List ℕ) → Type 0
+Room t w pool = w + length (relocatedBelow (length (t .nums)) t) ≤ length pool
 
 -- ---- one slot
 -- the row of a relocated object: the key of its target cell, and its slot
@@ -74,6 +85,10 @@ turnedRows t s = pick (isLive t s) (targetRows s (recordOn t s .state)) []
 -- a table with rows from place w on
 abbrev pub putAt : {A : Type 0} → ℕ → List A → List A → List A
 putAt w rows l = take w l ++ (rows ++ drop (w + length rows) l)
+
+-- n rows are put into the pool from place w on
+abbrev pub Put : List (List ℕ) → ℕ → List (List ℕ) → List (List ℕ) → ℕ → Type 0
+Put rows w pool put n = (n ≡ length rows) × (put ≡ putAt w rows pool)
 
 -- from the records of t to those of `after`, with k rows put from place w on
 pub record Passed (t after : Tables) (w : ℕ) (pool put : List (List ℕ)) (k : ℕ) : Type 0 where

@@ -5,8 +5,7 @@ ghost use Prim.Native.Nat.{_+_, _≤_, _<_};
 ghost use lib.ListN.{length, set};
 ghost use Rattle.basics.specs.Lent.{was, is};
 ghost use Rattle.cells.specs.Key.{keyOf};
-ghost use Rattle.maintain.specs.Closed.{relocatedBelow};
-ghost use Rattle.settle.specs.Pass.{lentRecords, Slotted, Ready, Placed, turned, turnedRows, putAt, Passed};
+ghost use Rattle.settle.specs.Pass.{lentRecords, recordsBefore, recordsAfter, Slotted, Ready, Room, Placed, turned, turnedRows, Put, Passed};
 ghost use Rattle.settle.specs.Counts.{counts, numbered, movedIn, removedIn, oneMoved, oneRemoved};
 use cells::Cell;
 
@@ -50,8 +49,8 @@ fn turn(
     s: usize,
 ) -> usize
     requires { ⌜ Slotted (lentRecords nums reals ints map) s × (at + length (turnedRows (lentRecords nums reals ints map) s) ≤ length (now pool)) ⌝ }
-    ensures records { λ _. ⌜ lentRecords (nums .exit) (reals .exit) (ints .exit) (map .exit) ≡ turned (lentRecords (nums .entry) (reals .entry) (ints .entry) (map .entry)) s ⌝ }
-    ensures rows { λ r. ⌜ (r ≡ length (turnedRows (lentRecords (nums .entry) (reals .entry) (ints .entry) (map .entry)) s)) × (is pool ≡ putAt at (turnedRows (lentRecords (nums .entry) (reals .entry) (ints .entry) (map .entry)) s) (was pool)) ⌝ }
+    ensures records { λ _. ⌜ recordsAfter nums reals ints map ≡ turned (recordsBefore nums reals ints map) s ⌝ }
+    ensures rows { λ r. ⌜ Put (turnedRows (recordsBefore nums reals ints map) s) at (was pool) (is pool) r ⌝ }
 {
     let n = nums[s];
     if n[1] != 1 {
@@ -85,8 +84,8 @@ pub fn settle_slots(
     pool: &mut [[u64; 2]],
     w: usize,
 ) -> usize
-    requires { ⌜ Ready (lentRecords nums reals ints map) × (w + length (relocatedBelow (length (now nums)) (lentRecords nums reals ints map)) ≤ length (now pool)) ⌝ }
-    ensures { λ r. ⌜ Passed (lentRecords (nums .entry) (reals .entry) (ints .entry) (map .entry)) (lentRecords (nums .exit) (reals .exit) (ints .exit) (map .exit)) w (was pool) (is pool) r ⌝ }
+    requires { ⌜ Ready (lentRecords nums reals ints map) × Room (lentRecords nums reals ints map) w (now pool) ⌝ }
+    ensures { λ r. ⌜ Passed (recordsBefore nums reals ints map) (recordsAfter nums reals ints map) w (was pool) (is pool) r ⌝ }
 {
     let mut k = 0;
     let mut i = 0;
