@@ -5,6 +5,7 @@ use mathlib.Core.Bool.{Bool}
 use mathlib.Core.List.{List, _++_}
 use lib.Ieee.{Float}
 use lib.ListN.{length}
+use Rattle.basics.specs.Lent.{Lent, was, is}
 use Rattle.basics.specs.Refusals.{pick}
 use Rattle.storage.specs.Entries.{Entry, entriesOf}
 use Rattle.storage.specs.Packed.{second}
@@ -35,6 +36,14 @@ pub record Laid (es : List Entry) (pool : List (List ℕ)) (spots : List (List F
 -- the list at the places from..to
 abbrev pub listAt : List (List ℕ) → List (List Float) → ℕ → ℕ → List Entry
 listAt pool spots from to = run (entryAt pool spots) from (to - from)
+
+-- the same in lent columns, before the call
+abbrev pub lentList : Lent (List (List ℕ)) → Lent (List (List Float)) → ℕ → ℕ → List Entry
+lentList pool spots from to = listAt (was pool) (was spots) from to
+
+-- r entries, those of es, are in use in lent columns after the call, and past them is what was there before
+abbrev pub InUse : List Entry → Lent (List (List ℕ)) → Lent (List (List Float)) → ℕ → Type 0
+InUse es pool spots r = (r ≡ length es) × Columns es (was pool) (was spots) (is pool) (is spots)
 
 -- what a list keeps: it is walked if its cell is dirty
 abbrev pub keptIf : Bool → List (List ℕ) → List (List Float) → List Entry → List Entry

@@ -5,13 +5,12 @@ ghost use Prim.Native.Nat.{_+_, _-_, _≤_, _<_};
 ghost use mathlib.Core.List.{[]};
 ghost use lib.ListN.{length, getD, set};
 ghost use Rattle.basics.specs.Lent.{was, is};
-ghost use Rattle.storage.specs.Pooled.{Columns};
 ghost use Rattle.point_tables.specs.Lent.{before, lent};
 ghost use Rattle.point_tables.specs.Holds.{Holds};
 ghost use Rattle.maintain.specs.Kept.{kept};
 ghost use Rattle.maintain.specs.Closed.{keptEntries};
 ghost use Rattle.sweep.specs.Tags.{spotBy, fateIn};
-ghost use Rattle.sweep.specs.Laid.{Room, Slotted, Laid, listAt, keptIf};
+ghost use Rattle.sweep.specs.Laid.{Room, Slotted, Laid, lentList, InUse, keptIf};
 
 // The position of an entry that stays is laid at place w: with tag 1 it is the pending one, which is in its slot's row.
 // By a branch, so that only the position that is laid is read.
@@ -39,7 +38,7 @@ pub fn walk_run(
     start: usize,
 ) -> usize
     requires { ⌜ Room (now pool) (now spots) from to start × Slotted (now nums) (now reals) (now pool) from to ⌝ }
-    ensures { λ r. ⌜ Laid (kept (fateIn (was nums) (was reals)) (listAt (was pool) (was spots) from to)) (was pool) (was spots) start to r (is pool) (is spots) ⌝ }
+    ensures { λ r. ⌜ Laid (kept (fateIn (was nums) (was reals)) (lentList pool spots from to)) (was pool) (was spots) start to r (is pool) (is spots) ⌝ }
 {
     let mut at = from;
     let mut i = from;
@@ -73,7 +72,7 @@ fn move_run(
     start: usize,
 ) -> usize
     requires { ⌜ Room (now pool) (now spots) from to start ⌝ }
-    ensures { λ r. ⌜ Laid (listAt (was pool) (was spots) from to) (was pool) (was spots) start to r (is pool) (is spots) ⌝ }
+    ensures { λ r. ⌜ Laid (lentList pool spots from to) (was pool) (was spots) start to r (is pool) (is spots) ⌝ }
 {
     let mut i = from;
     let mut w = start;
@@ -98,7 +97,7 @@ fn sweep_run(
     dirty: bool,
 ) -> usize
     requires { ⌜ Room (now pool) (now spots) from to start × Slotted (now nums) (now reals) (now pool) from to ⌝ }
-    ensures { λ r. ⌜ Laid (keptIf dirty (was nums) (was reals) (listAt (was pool) (was spots) from to)) (was pool) (was spots) start to r (is pool) (is spots) ⌝ }
+    ensures { λ r. ⌜ Laid (keptIf dirty (was nums) (was reals) (lentList pool spots from to)) (was pool) (was spots) start to r (is pool) (is spots) ⌝ }
 {
     if dirty {
         return walk_run(nums, reals, pool, spots, from, to, start);
@@ -120,7 +119,7 @@ pub fn sweep_lists(
     cells: &[[u64; 2]],
 ) -> usize
     requires { ⌜ Holds (lent nums reals ints map pool spots cells) ⌝ }
-    ensures { λ r. ⌜ (r ≡ length (keptEntries (before nums reals ints map pool spots cells))) × Columns (keptEntries (before nums reals ints map pool spots cells)) (was pool) (was spots) (is pool) (is spots) ⌝ }
+    ensures { λ r. ⌜ InUse (keptEntries (before nums reals ints map pool spots cells)) pool spots r ⌝ }
 {
     let used = basics::index_of(map[1]);
     let rows = basics::index_of(map[2]);
