@@ -5,6 +5,7 @@ use mathlib.Core.List.{List, [], _∷_}
 use lib.Dec.{eqb, leb}
 use lib.Ieee.{Float, nan}
 use lib.ListN.{length, getD}
+use Rattle.basics.specs.Lent.{Lent, was, is}
 use Rattle.basics.specs.Refusals.{Refusal, unless, firstOf, pick, byTests}
 use Rattle.geometry.specs.declared.Position.{Position}
 use Rattle.slots.specs.declared.Handle.{Handle}
@@ -13,6 +14,7 @@ use Rattle.point_tables.specs.Tables.{Tables}
 use Rattle.point_tables.specs.Decide.{holds}
 use Rattle.point_tables.specs.Outcome.{Outcome, outcome}
 use Rattle.replies.specs.declared.Reply.{Reply}
+use Rattle.moves.specs.declared.BatchReply.{BatchReply}
 use Rattle.moves.specs.Moves.{setPositionOf, removeOf}
 
 pub record Call : Type 0 where
@@ -47,6 +49,9 @@ callsOf (k ∷ ks) [] ps = []
 callsOf (k ∷ ks) (h ∷ hs) [] = []
 callsOf (k ∷ ks) (h ∷ hs) (p ∷ ps) = record { kind = k; handle = handleOf h; at = positionOf p } ∷ callsOf ks hs ps
 
+abbrev pub callsIn : Lent (List ℕ) → Lent (List (List ℕ)) → Lent (List (List Float)) → List Call
+callsIn kinds handles positions = callsOf (was kinds) (was handles) (was positions)
+
 -- ---- the output: a row (answer, data) for each call
 abbrev pub replyRows : List Reply → List (List ℕ)
 replyRows [] = []
@@ -70,6 +75,9 @@ pub record Batched : Type 0 where
 
 abbrev pub batched : ℕ → ℕ → List (List ℕ) → Batched
 batched a n o = record { answer = a; count = n; out = o }
+
+abbrev pub batchedBy : BatchReply → Lent (List (List ℕ)) → Batched
+batchedBy r out = batched (r .answer) (r .count) (is out)
 
 unfoldable pub batchOf : Tables → List ℕ → List (List ℕ) → List (List Float) → List (List ℕ) → Outcome Batched
 unfolding batchAnswer replies tablesAfter

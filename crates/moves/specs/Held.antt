@@ -8,6 +8,7 @@ use denote.Ref.{RefT, now}
 use lib.IntN.{ℤ}
 use lib.Ieee.{Float}
 use lib.ListN.{set}
+use Rattle.basics.specs.Lent.{Lent, was, is}
 use Rattle.basics.specs.Says.{said}
 use Rattle.basics.specs.Refusals.{firstOf, pick}
 use Rattle.geometry.specs.declared.Position.{Position}
@@ -26,13 +27,27 @@ use Rattle.moves.specs.Moves.{pended, setHeldTests, removeHeldTests}
 use Rattle.moves.specs.Batch.{Call}
 use Rattle.replies.specs.Replies.{reply}
 
--- tables without the pool, the same behind five references, and tables with a pool
+-- tables without the pool, and the same behind five references: at one moment, before a call, and after one, which only reads the map
 abbrev pub poolless : List (List ℕ) → List (List Float) → List (List ℤ) → List ℕ → List (List ℕ) → Tables
 poolless nums reals ints map cells = tables nums reals ints map [] [] cells
 
 abbrev pub lentPoolless : RefT (List (List ℕ)) → RefT (List (List Float)) → RefT (List (List ℤ)) → RefT (List ℕ) → RefT (List (List ℕ)) → Tables
 lentPoolless nums reals ints map cells = poolless (now nums) (now reals) (now ints) (now map) (now cells)
 
+abbrev pub poollessBefore : Lent (List (List ℕ)) → Lent (List (List Float)) → Lent (List (List ℤ)) → Lent (List ℕ) → Lent (List (List ℕ)) → Tables
+poollessBefore nums reals ints map cells = lentPoolless (nums .entry) (reals .entry) (ints .entry) (map .entry) (cells .entry)
+
+abbrev pub poollessAfter : Lent (List (List ℕ)) → Lent (List (List Float)) → Lent (List (List ℤ)) → Lent (List ℕ) → Lent (List (List ℕ)) → Tables
+poollessAfter nums reals ints map cells = lentPoolless (nums .exit) (reals .exit) (ints .exit) (map .entry) (cells .exit)
+
+-- the records with a cell size alone, before a call and after it
+abbrev pub recordsBefore : Lent (List (List ℕ)) → Lent (List (List Float)) → Lent (List (List ℤ)) → ℕ → Tables
+recordsBefore nums reals ints size = poolless (was nums) (was reals) (was ints) (size ∷ []) []
+
+abbrev pub recordsAfter : Lent (List (List ℕ)) → Lent (List (List Float)) → Lent (List (List ℤ)) → ℕ → Tables
+recordsAfter nums reals ints size = poolless (is nums) (is reals) (is ints) (size ∷ []) []
+
+-- tables with a pool
 abbrev pub withPool : Tables → List (List ℕ) → List (List Float) → Tables
 withPool t pool spots = tables (t .nums) (t .reals) (t .ints) (t .map) pool spots (t .cells)
 

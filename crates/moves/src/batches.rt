@@ -8,12 +8,12 @@ ghost use lib.ListN.{length};
 ghost use Rattle.basics.specs.Lent.{was, is};
 ghost use Rattle.basics.specs.Refusals.{unless, firstOf};
 ghost use Rattle.storage.specs.Keyed.{written};
-ghost use Rattle.point_tables.specs.Lent.{after, before, lent};
+ghost use Rattle.point_tables.specs.Lent.{lent};
 ghost use Rattle.point_tables.specs.Holds.{Holds};
-ghost use Rattle.point_tables.specs.Outcome.{outcome};
-ghost use Rattle.moves.specs.Batch.{callsOf, replyRows, batched, batchOf};
+ghost use Rattle.moves.specs.Batch.{callsIn, replyRows, batchedBy, batchOf};
+ghost use Rattle.moves.specs.Gives.{Gives};
 ghost use Rattle.moves.specs.Ready.{Ready};
-ghost use Rattle.moves.specs.Held.{lentPoolless, heldAfter, heldReplies};
+ghost use Rattle.moves.specs.Held.{lentPoolless, poollessBefore, poollessAfter, heldAfter, heldReplies};
 use crate::BatchReply;
 use crate::call::deferred;
 use crate::call::unmarked;
@@ -53,8 +53,8 @@ fn run(
 )
     requires ready { ⌜ Ready (lentPoolless nums reals ints map cells) ⌝ }
     requires long { ⌜ (length (now handles) ≡ length (now kinds)) × (length (now positions) ≡ length (now kinds)) × (length (now kinds) ≤ length (now out)) ⌝ }
-    ensures after { λ _. ⌜ lentPoolless (nums .exit) (reals .exit) (ints .exit) (map .entry) (cells .exit) ≡ heldAfter (lentPoolless (nums .entry) (reals .entry) (ints .entry) (map .entry) (cells .entry)) (callsOf (was kinds) (was handles) (was positions)) ⌝ }
-    ensures out { λ _. ⌜ is out ≡ written (replyRows (heldReplies (lentPoolless (nums .entry) (reals .entry) (ints .entry) (map .entry) (cells .entry)) (callsOf (was kinds) (was handles) (was positions)))) (was out) ⌝ }
+    ensures after { λ _. ⌜ poollessAfter nums reals ints map cells ≡ heldAfter (poollessBefore nums reals ints map cells) (callsIn kinds handles positions) ⌝ }
+    ensures out { λ _. ⌜ is out ≡ written (replyRows (heldReplies (poollessBefore nums reals ints map cells) (callsIn kinds handles positions))) (was out) ⌝ }
 {
     let mut i = 0;
     while i < kinds.len() {
@@ -94,8 +94,8 @@ fn run_many(
 )
     requires grid { ⌜ Holds (lent nums reals ints map pool spots cells) ⌝ }
     requires long { ⌜ (length (now handles) ≡ length (now kinds)) × (length (now positions) ≡ length (now kinds)) × (length (now kinds) ≤ length (now out)) ⌝ }
-    ensures after { λ _. ⌜ lentPoolless (nums .exit) (reals .exit) (ints .exit) (map .entry) (cells .exit) ≡ heldAfter (lentPoolless (nums .entry) (reals .entry) (ints .entry) (map .entry) (cells .entry)) (callsOf (was kinds) (was handles) (was positions)) ⌝ }
-    ensures out { λ _. ⌜ is out ≡ written (replyRows (heldReplies (lentPoolless (nums .entry) (reals .entry) (ints .entry) (map .entry) (cells .entry)) (callsOf (was kinds) (was handles) (was positions)))) (was out) ⌝ }
+    ensures after { λ _. ⌜ poollessAfter nums reals ints map cells ≡ heldAfter (poollessBefore nums reals ints map cells) (callsIn kinds handles positions) ⌝ }
+    ensures out { λ _. ⌜ is out ≡ written (replyRows (heldReplies (poollessBefore nums reals ints map cells) (callsIn kinds handles positions))) (was out) ⌝ }
 {
     let size = map[0];
     let mut i = 0;
@@ -136,7 +136,7 @@ pub fn batch(
     positions: &[[f32; 2]],
     out: &mut [[u32; 2]],
 ) -> BatchReply
-    ensures { λ r. ⌜ outcome (batched (r .answer) (r .count) (is out)) (after nums reals ints map pool spots cells) ≡ batchOf (before nums reals ints map pool spots cells) (was kinds) (was handles) (was positions) (was out) ⌝ }
+    ensures { λ r. ⌜ Gives (λ t. batchOf t (was kinds) (was handles) (was positions) (was out)) (batchedBy r out) nums reals ints map pool spots cells ⌝ }
 {
     let held = point_tables::check(nums, reals, ints, map, pool, spots, cells);
     let n = kinds.len();

@@ -1,6 +1,5 @@
 // One deferred call on tables that hold a grid: kind 0 is `set_position`, any other `remove`. The pool is neither read nor written.
 ghost use mathlib.Core.Path.{_≡_};
-ghost use mathlib.Core.List.{[], _∷_};
 ghost use Prim.Native.Nat.{_<_};
 ghost use lib.ListN.{length};
 ghost use Rattle.basics.specs.Lent.{was, is};
@@ -10,7 +9,7 @@ ghost use Rattle.objects.specs.Occupied.{InDomain};
 ghost use Rattle.point_tables.specs.Outcome.{outcome};
 ghost use Rattle.moves.specs.Ready.{Ready, Workable};
 ghost use Rattle.moves.specs.Held as Held;
-ghost use Rattle.moves.specs.Held.{poolless, lentPoolless, setRefusal, removeRefusal, refusalOf, tagTo, PendedRows, worked, heldOf, unmarkedOf};
+ghost use Rattle.moves.specs.Held.{lentPoolless, poollessBefore, poollessAfter, recordsBefore, recordsAfter, setRefusal, removeRefusal, refusalOf, tagTo, PendedRows, worked, heldOf, unmarkedOf};
 use cells::Cell;
 use geometry::Position;
 use replies::Reply;
@@ -119,7 +118,7 @@ fn work(
     at: Position,
 ) -> u32
     requires { ⌜ Ready (lentPoolless nums reals ints map cells) × Workable (lentPoolless nums reals ints map cells) s kind at ⌝ }
-    ensures { λ r. ⌜ outcome r (lentPoolless (nums .exit) (reals .exit) (ints .exit) (map .entry) (cells .exit)) ≡ worked (lentPoolless (nums .entry) (reals .entry) (ints .entry) (map .entry) (cells .entry)) s kind at ⌝ }
+    ensures { λ r. ⌜ outcome r (poollessAfter nums reals ints map cells) ≡ worked (poollessBefore nums reals ints map cells) s kind at ⌝ }
 {
     let z = ints[s];
     let k = cells::key_of(Cell { x: z[0], y: z[1] });
@@ -139,7 +138,7 @@ pub fn unmarked(
     at: Position,
 ) -> Reply
     requires { ⌜ (length (now reals) ≡ length (now nums)) × (length (now ints) ≡ length (now nums)) × SizeInDomain size ⌝ }
-    ensures { λ r. ⌜ outcome r (poolless (is nums) (is reals) (is ints) (size ∷ []) []) ≡ unmarkedOf (poolless (was nums) (was reals) (was ints) (size ∷ []) []) (Held.call kind h at) ⌝ }
+    ensures { λ r. ⌜ outcome r (recordsAfter nums reals ints size) ≡ unmarkedOf (recordsBefore nums reals ints size) (Held.call kind h at) ⌝ }
 {
     let a = refusal(nums, reals, ints, kind, h, at);
     if a != 0 {
@@ -161,7 +160,7 @@ pub fn deferred(
     at: Position,
 ) -> Reply
     requires { ⌜ Ready (lentPoolless nums reals ints map cells) ⌝ }
-    ensures { λ r. ⌜ outcome r (lentPoolless (nums .exit) (reals .exit) (ints .exit) (map .entry) (cells .exit)) ≡ heldOf (lentPoolless (nums .entry) (reals .entry) (ints .entry) (map .entry) (cells .entry)) (Held.call kind h at) ⌝ }
+    ensures { λ r. ⌜ outcome r (poollessAfter nums reals ints map cells) ≡ heldOf (poollessBefore nums reals ints map cells) (Held.call kind h at) ⌝ }
 {
     let a = refusal(nums, reals, ints, kind, h, at);
     if a != 0 {
