@@ -8,11 +8,10 @@ ghost use Rattle.slots.specs.Map.{wordsFor};
 ghost use Rattle.storage.specs.Keyed.{written};
 ghost use Rattle.point_tables.specs.Lent.{before, after};
 ghost use Rattle.point_tables.specs.Tables.{counting};
-ghost use Rattle.point_tables.specs.Outcome.{outcome};
 ghost use Rattle.slot_walks.specs.Live.{liveFrom};
 ghost use Rattle.slot_walks.specs.Cleared.{clearedRows, clearedMap};
-ghost use Rattle.removals.specs.Meaning.Clear.{wrote, clearOf};
-ghost use Rattle.removals.specs.Inner.{roomAnswer, countBy, placesOf, objsOf};
+ghost use Rattle.removals.specs.Meaning.Clear.{seen, clearInto};
+ghost use Rattle.removals.specs.Inner.{roomAnswer, countBy, placesOf, objsOf, Room};
 use replies::Count;
 
 // 9 if one of the outputs has fewer than n places, else 0.
@@ -49,7 +48,7 @@ fn answer(map: &[u64], held: bool, places: usize, objs: usize) -> Count
 
 // The recorded position and the data of each live slot, from place 0 of the outputs on.
 fn put_objects(nums: &[[u32; 4]], reals: &[[f32; 4]], places: &mut [[f32; 2]], objs: &mut [u32])
-    requires { ⌜ (length (now reals) ≡ length (now nums)) × (length (now nums) ≤ 4096) × (length (liveFrom 0 (now nums)) ≤ length (now places)) × (length (liveFrom 0 (now nums)) ≤ length (now objs)) ⌝ }
+    requires { ⌜ Room (now nums) (now reals) (now places) (now objs) ⌝ }
     ensures places { λ _. ⌜ is places ≡ written (placesOf (was reals) (liveFrom 0 (was nums))) (was places) ⌝ }
     ensures objs { λ _. ⌜ is objs ≡ written (objsOf (was nums) (liveFrom 0 (was nums))) (was objs) ⌝ }
 {
@@ -89,7 +88,7 @@ pub fn clear(
     places: &mut [[f32; 2]],
     objs: &mut [u32],
 ) -> Count
-    ensures { λ r. ⌜ outcome (wrote r (is places) (is objs)) (after nums reals ints map pool spots cells) ≡ clearOf (before nums reals ints map pool spots cells) (was places) (was objs) ⌝ }
+    ensures { λ r. ⌜ seen r places objs (after nums reals ints map pool spots cells) ≡ clearInto (before nums reals ints map pool spots cells) places objs ⌝ }
 {
     let held = point_tables::check(nums, reals, ints, map, pool, spots, cells);
     let c = answer(map, held, places.len(), objs.len());

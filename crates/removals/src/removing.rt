@@ -6,14 +6,14 @@ ghost use lib.ListN.{length, take};
 ghost use Rattle.basics.specs.Lent.{was, is};
 ghost use Rattle.basics.specs.Refusals.{unless, firstOf};
 ghost use Rattle.slots.specs.Slot.{good, emptiedNums, emptiedMap};
-ghost use Rattle.storage.specs.Keyed.{Sorted, under, written};
+ghost use Rattle.storage.specs.Keyed.{Sorted};
 ghost use Rattle.storage.specs.Entries.{rowKey};
 ghost use Rattle.storage.specs.Tables.{Rising};
 ghost use Rattle.point_tables.specs.Lent.{lent, before, after};
-ghost use Rattle.point_tables.specs.Tables.{counting, recordOn};
+ghost use Rattle.point_tables.specs.Tables.{counting};
 ghost use Rattle.point_tables.specs.Outcome.{outcome};
-ghost use Rattle.removals.specs.Meaning.RemoveMaintain.{isEmpty, takenOut, removeMaintainOf};
-ghost use Rattle.removals.specs.Inner.{Object, rowsBy};
+ghost use Rattle.removals.specs.Meaning.RemoveMaintain.{removeMaintainOf};
+ghost use Rattle.removals.specs.Inner.{Object, takenFrom, rowsLeft, RowsInUse};
 use replies::Reply;
 use slots::Handle;
 
@@ -40,7 +40,7 @@ fn drop_empty(
 ) -> usize
     requires cells { ⌜ (rows ≤ length (now cells)) × Rising rowKey (take rows (now cells)) ⌝ }
     requires pool { ⌜ (used ≤ length (now pool)) × Sorted rowKey (take used (now pool)) ⌝ }
-    ensures { λ r. ⌜ (r ≡ length (rowsBy (isEmpty (under rowKey key (take used (was pool)))) key (take rows (was cells)))) × (is cells ≡ written (rowsBy (isEmpty (under rowKey key (take used (was pool)))) key (take rows (was cells))) (was cells)) ⌝ }
+    ensures { λ r. ⌜ RowsInUse (rowsLeft (was pool) used key (was cells) rows) (was cells) (is cells) r ⌝ }
 {
     if storage::has_key(pool, used, key) {
         return rows;
@@ -71,7 +71,7 @@ fn take_out(
     s: usize,
 ) -> u32
     requires { ⌜ Object (lent nums reals ints map pool spots cells) s ⌝ }
-    ensures { λ r. ⌜ outcome r (after nums reals ints map pool spots cells) ≡ outcome (recordOn (before nums reals ints map pool spots cells) s .obj) (takenOut (before nums reals ints map pool spots cells) s) ⌝ }
+    ensures { λ r. ⌜ outcome r (after nums reals ints map pool spots cells) ≡ takenFrom (before nums reals ints map pool spots cells) s ⌝ }
 {
     let r = objects::load(nums, reals, ints, s);
     let key = objects::key_of(r);

@@ -4,6 +4,7 @@ use mathlib.Core.List.{List, [], _∷_, map}
 use lib.Dec.{eqb, leb}
 use lib.Ieee.{Float}
 use lib.ListN.{length}
+use Rattle.basics.specs.Lent.{Lent, was, is}
 use Rattle.basics.specs.Refusals.{Refusal, unless, pick, byTests}
 use Rattle.storage.specs.Keyed.{written}
 use Rattle.slot_walks.specs.Live.{liveFrom}
@@ -38,6 +39,10 @@ pub record Written : Type 0 where
 abbrev pub wrote : Count → List (List Float) → List ℕ → Written
 wrote c p o = record { returned = c; places = p; objs = o }
 
+-- the outcome seen, with the lent outputs after the call
+abbrev pub seen : Count → Lent (List (List Float)) → Lent (List ℕ) → Tables → Outcome Written
+seen c places objs t = outcome (wrote c (is places) (is objs)) t
+
 abbrev pub clearTests : Tables → List (List Float) → List ℕ → List Refusal
 clearTests t places objs = unless (holds t) 3 ∷ unless (leb (length (liveSlots t)) (min (length places) (length objs))) 9 ∷ []
 
@@ -49,3 +54,7 @@ clearOf t places objs =
     byTests (clearTests t places objs)
     (outcome (wrote (count 0 n) (written (map (placeOn t) (liveSlots t)) places) (written (map (objOn t) (liveSlots t)) objs)) (cleared t))
     (λ a. outcome (wrote (count a (pick (eqb a 9) n 0)) places objs) t)
+
+-- the outcome with lent outputs, from what they were before the call
+abbrev pub clearInto : Tables → Lent (List (List Float)) → Lent (List ℕ) → Outcome Written
+clearInto t places objs = clearOf t (was places) (was objs)
