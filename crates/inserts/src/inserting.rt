@@ -2,19 +2,16 @@
 ghost use mathlib.Core.Path.{_≡_};
 ghost use mathlib.Core.Bool.{true};
 ghost use Prim.Native.Nat.{_+_, _/_, _≤_, _<_};
-ghost use lib.ListN.{length, set};
+ghost use lib.ListN.{length};
 ghost use Rattle.basics.specs.Lent.{was, is};
-ghost use Rattle.geometry.specs.Domain.{positionInDomain};
-ghost use Rattle.slots.specs.declared.Usable.the-variants.{At};
-ghost use Rattle.slots.specs.Map.{wordsFor, taken, lowestUsable, NonePast};
+ghost use Rattle.slots.specs.Map.{wordsFor, taken, NonePast};
 ghost use Rattle.slots.specs.Slot.{versionAt};
-ghost use Rattle.objects.specs.Columns.{numsOf, realsOf, intsOf};
 ghost use Rattle.point_tables.specs.Tables.{counting};
 ghost use Rattle.point_tables.specs.Lent.{after, before, lent};
 ghost use Rattle.point_tables.specs.Outcome.{outcome};
 ghost use Rattle.inserts.specs.Insert as Insert;
 ghost use Rattle.inserts.specs.Insert.{insertOf};
-ghost use Rattle.inserts.specs.Fresh.{Fresh, freshRecord, answerBy};
+ghost use Rattle.inserts.specs.Fresh.{Fresh, Chose, freshRecord, Stored};
 ghost use Rattle.replies.specs.Replies.{inserted};
 use cells::Cell;
 use geometry::Position;
@@ -34,7 +31,7 @@ struct Choice {
 // The first refusal that applies, or the lowest usable slot.
 fn choose(nums: &[[u32; 4]], map: &[u64], held: bool, at: Position) -> Choice
     requires { ⌜ (held ≡ true → (length (now map) ≡ 3 + wordsFor (length (now nums))) × (length (now nums) ≤ 4096) × NonePast (now map) (length (now nums))) ⌝ }
-    ensures { λ r. ⌜ (r .answer ≡ answerBy held (positionInDomain at) (lowestUsable (was map) (length (was nums)))) × (r .answer ≡ 0 → lowestUsable (was map) (length (was nums)) ≡ At (r .slot)) ⌝ }
+    ensures { λ r. ⌜ Chose held at (was map) (length (was nums)) (r .answer) (r .slot) ⌝ }
 {
     if !held {
         return Choice { answer: 3, slot: 0 };
@@ -90,7 +87,7 @@ fn occupy(
     obj: u32,
 )
     requires { ⌜ (s < length (now nums)) × (s < length (now reals)) × (s < length (now ints)) ⌝ }
-    ensures { λ _. ⌜ (is nums ≡ set (was nums) s (numsOf (freshRecord (versionAt (was nums) s) at cell obj))) × (is reals ≡ set (was reals) s (realsOf (freshRecord (versionAt (was nums) s) at cell obj))) × (is ints ≡ set (was ints) s (intsOf (freshRecord (versionAt (was nums) s) at cell obj))) ⌝ }
+    ensures { λ _. ⌜ Stored nums reals ints s (freshRecord (versionAt (was nums) s) at cell obj) ⌝ }
 {
     let row = nums[s];
     let r = fresh_record(row[0], at, cell, obj);
