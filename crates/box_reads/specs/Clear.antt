@@ -1,5 +1,6 @@
 -- `clear` of a box grid writes box and data, ascending by slot, then empties the grid: versions rise as with any emptying. Assumes nothing.
-use Prim.Native.Nat.{ℕ, min}
+use Prim.Native.Nat.{ℕ, _≤_, min}
+use mathlib.Core.Path.{_≡_}
 use mathlib.Core.List.{List, [], _∷_, map}
 use lib.Dec.{eqb}
 use lib.Ieee.{Float}
@@ -12,7 +13,7 @@ use Rattle.box_tables.specs.Outcome.{Outcome, outcome}
 use Rattle.replies.specs.declared.Count.{Count}
 use Rattle.replies.specs.Replies.{count}
 use Rattle.box_reads.specs.Live.{liveSlots, listTests}
-use Rattle.slot_walks.specs.Live.{objAt}
+use Rattle.slot_walks.specs.Live.{liveFrom, objAt}
 
 -- every live slot is emptied, and no entry is in use
 unfoldable pub cleared : Tables → Tables
@@ -29,6 +30,11 @@ pub record Written : Type 0 where
 
 abbrev pub wrote : Count → List (List Float) → List ℕ → Written
 wrote c b o = record { returned = c; boxes = b; objs = o }
+
+-- what writing them is asked for: both outputs have a place for each object
+abbrev pub Room : List (List ℕ) → List (List Float) → List (List Float) → List ℕ → Type 0
+Room nums reals boxes objs =
+    (length reals ≡ length nums) × (length nums ≤ 256) × (length (liveFrom 0 nums) ≤ length boxes) × (length (liveFrom 0 nums) ≤ length objs)
 
 abbrev pub clearTests : Tables → List (List Float) → List ℕ → List Refusal
 clearTests t boxes objs = listTests t (min (length boxes) (length objs))

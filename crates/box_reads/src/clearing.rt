@@ -1,7 +1,7 @@
 // `clear`: writes box and data, ascending by slot, then empties the grid. Versions rise as with any emptying.
 ghost use mathlib.Core.Path.{_≡_};
 ghost use mathlib.Core.List.{map};
-ghost use Prim.Native.Nat.{_+_, _≤_, min};
+ghost use Prim.Native.Nat.{_+_, min};
 ghost use lib.ListN.{length};
 ghost use Rattle.basics.specs.Lent.{was, is};
 ghost use Rattle.slots.specs.Map.{wordsFor};
@@ -11,7 +11,7 @@ ghost use Rattle.slot_walks.specs.Cleared.{clearedRows, clearedMap};
 ghost use Rattle.box_tables.specs.Tables.{counting};
 ghost use Rattle.box_tables.specs.Lent.{after, before};
 ghost use Rattle.box_tables.specs.Outcome.{outcome};
-ghost use Rattle.box_reads.specs.Clear.{boxAt, wrote, clearOf};
+ghost use Rattle.box_reads.specs.Clear.{boxAt, wrote, Room, clearOf};
 use crate::list_answer;
 use replies::Count;
 
@@ -27,7 +27,7 @@ fn least(a: usize, b: usize) -> usize
 
 // The box and the data of each live slot, from place 0 of the outputs on.
 fn put_boxes(nums: &[[u32; 4]], reals: &[[f32; 4]], boxes: &mut [[f32; 4]], objs: &mut [u32])
-    requires { ⌜ (length (now reals) ≡ length (now nums)) × (length (now nums) ≤ 256) × (length (liveFrom 0 (now nums)) ≤ length (now boxes)) × (length (liveFrom 0 (now nums)) ≤ length (now objs)) ⌝ }
+    requires { ⌜ Room (now nums) (now reals) (now boxes) (now objs) ⌝ }
     ensures boxes { λ _. ⌜ is boxes ≡ written (map (boxAt (was reals)) (liveFrom 0 (was nums))) (was boxes) ⌝ }
     ensures objs { λ _. ⌜ is objs ≡ written (map (objAt (was nums)) (liveFrom 0 (was nums))) (was objs) ⌝ }
 {
