@@ -1,9 +1,8 @@
 // `maintain` on a table of records, in the form of `record_moves`.
 ghost use mathlib.Core.Path.{_≡_};
-ghost use Rattle.basics.specs.Lent.{was, is};
 ghost use Rattle.point_tables.specs.Lent.{after, before};
 ghost use Rattle.point_tables.specs.Outcome.{outcome};
-ghost use Rattle.records.specs.Seen.{seen};
+ghost use Rattle.records.specs.Seen.{Shows};
 ghost use Rattle.record_upkeep.specs.Calls.{maintainFor, maintainOn};
 use maintain::Maintained;
 use objects::Record;
@@ -42,7 +41,7 @@ pub fn maintain(
     spots: &mut [[f32; 2]],
     cells: &mut [[u64; 2]],
 ) -> Maintained
-    ensures { λ r. ⌜ seen r (is records) (after nums reals ints map pool spots cells) ≡ maintainOn (was records) (before nums reals ints map pool spots cells) ⌝ }
+    ensures { λ r. ⌜ Shows maintainOn r records nums reals ints map pool spots cells ⌝ }
 {
     records::spread(records, nums, reals, ints);
     let n = records.len();

@@ -1,11 +1,16 @@
 -- What is seen of a call on a table of records: the records spread, the core's outcome, the records gathered again. Assumes nothing.
 use Prim.Native.Nat.{ℕ}
+use mathlib.Core.Path.{_≡_}
 use mathlib.Core.List.{List}
+use lib.IntN.{ℤ}
+use lib.Ieee.{Float}
 use lib.Dec.{eqb}
 use lib.ListN.{length}
+use Rattle.basics.specs.Lent.{Lent, was, is}
 use Rattle.basics.specs.Refusals.{pick}
 use Rattle.objects.specs.declared.Record.{Record}
 use Rattle.point_tables.specs.Tables.{Tables, slotsOf}
+use Rattle.point_tables.specs.Lent.{before, after}
 use Rattle.point_tables.specs.Outcome.{Outcome, outcome}
 use Rattle.records.specs.Spread.{besides, recordsIn}
 
@@ -17,6 +22,11 @@ pub record Seen (R : Type 0) : Type 0 where
 
 abbrev pub seen : {R : Type 0} → R → List Record → Tables → Seen R
 seen r rs t = record { result = r; records = rs; after = t }
+
+-- the promise of a call, with the tables behind their references named once: what is seen of it is what `call` shows of records and tables before it
+abbrev pub Shows : {R : Type 0} → (List Record → Tables → Seen R) → R → Lent (List Record)
+    → Lent (List (List ℕ)) → Lent (List (List Float)) → Lent (List (List ℤ)) → Lent (List ℕ) → Lent (List (List ℕ)) → Lent (List (List Float)) → Lent (List (List ℕ)) → Type 0
+Shows call r records a b c d e f g = seen r (is records) (after a b c d e f g) ≡ call (was records) (before a b c d e f g)
 
 -- the outcome of a core call, with the records gathered
 abbrev pub back : {R : Type 0} → List Record → Outcome R → Seen R
