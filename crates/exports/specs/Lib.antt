@@ -1,2 +1,5 @@
--- What the calls take, made of its numbers.
+-- What the calls take, made of its numbers, and what the structs of numbers tell.
 pub mod Made
+pub mod Told
+pub mod PointTold
+pub mod BoxTold

@@ -8,11 +8,12 @@ ghost use Rattle.box_inserts.specs.Insert.{insertOf};
 ghost use Rattle.box_changes.specs.SetAabb.{setAabbOf};
 ghost use Rattle.box_changes.specs.Remove.{removeOf};
 ghost use Rattle.box_reads.specs.Reads.{got, getOf, lenOf, handlesOf, listing};
-ghost use Rattle.box_reads.specs.Clear.{wrote, clearOf};
-ghost use Rattle.box_queries.specs.Queries.{broadOf, queryOf, findings};
+ghost use Rattle.box_reads.specs.Clear.{clearOf};
+ghost use Rattle.box_queries.specs.Queries.{broadOf, queryOf};
 ghost use Rattle.box_queries.specs.Queries as Queries;
-ghost use Rattle.replies.specs.Replies.{reply, count, inserted};
 ghost use Rattle.exports.specs.Made.{handle, aabb};
+ghost use Rattle.exports.specs.Told.{toldInserted, toldReply, toldCount};
+ghost use Rattle.exports.specs.BoxTold.{toldWritten, toldFindings};
 use crate::BoxGot;
 use crate::Count;
 use crate::Inserted;
@@ -48,7 +49,7 @@ pub extern "C" fn chavrupas_boxes_insert(
     high: f32,
     obj: u32,
 ) -> Inserted
-    ensures { λ r. ⌜ outcome (inserted (r .answer) (r .slot) (r .version)) (after nums reals map pool) ≡ insertOf (before nums reals map pool) (aabb left low right high) obj ⌝ }
+    ensures { λ r. ⌜ outcome (toldInserted r) (after nums reals map pool) ≡ insertOf (before nums reals map pool) (aabb left low right high) obj ⌝ }
 {
     let r = boxes::insert(
         nums,
@@ -107,7 +108,7 @@ pub extern "C" fn chavrupas_boxes_remove(
     slot: u32,
     version: u32,
 ) -> Reply
-    ensures { λ r. ⌜ outcome (reply (r .answer) (r .obj)) (after nums reals map pool) ≡ removeOf (before nums reals map pool) (handle slot version) ⌝ }
+    ensures { λ r. ⌜ outcome (toldReply r) (after nums reals map pool) ≡ removeOf (before nums reals map pool) (handle slot version) ⌝ }
 {
     let r = boxes::remove(nums, reals, map, pool, Handle { slot, version });
     Reply {
@@ -126,7 +127,7 @@ pub extern "C" fn chavrupas_boxes_clear(
     boxes: &mut [[f32; 4]],
     objs: &mut [u32],
 ) -> Count
-    ensures { λ r. ⌜ outcome (wrote (count (r .answer) (r .count)) (is boxes) (is objs)) (after nums reals map pool) ≡ clearOf (before nums reals map pool) (was boxes) (was objs) ⌝ }
+    ensures { λ r. ⌜ outcome (toldWritten r boxes objs) (after nums reals map pool) ≡ clearOf (before nums reals map pool) (was boxes) (was objs) ⌝ }
 {
     let r = boxes::clear(nums, reals, map, pool, boxes, objs);
     Count {
@@ -166,7 +167,7 @@ pub extern "C" fn chavrupas_boxes_len(
     map: &[u64],
     pool: &[[u64; 2]],
 ) -> Count
-    ensures { λ r. ⌜ count (r .answer) (r .count) ≡ lenOf (before nums reals map pool) ⌝ }
+    ensures { λ r. ⌜ toldCount r ≡ lenOf (before nums reals map pool) ⌝ }
 {
     let r = boxes::len(nums, reals, map, pool);
     Count {
@@ -184,7 +185,7 @@ pub extern "C" fn chavrupas_boxes_handles(
     pool: &[[u64; 2]],
     out: &mut [[u32; 2]],
 ) -> Count
-    ensures { λ r. ⌜ listing (count (r .answer) (r .count)) (is out) ≡ handlesOf (before nums reals map pool) (was out) ⌝ }
+    ensures { λ r. ⌜ listing (toldCount r) (is out) ≡ handlesOf (before nums reals map pool) (was out) ⌝ }
 {
     let r = boxes::handles(nums, reals, map, pool, out);
     Count {
@@ -206,7 +207,7 @@ pub extern "C" fn chavrupas_boxes_query_broad(
     high: f32,
     found: &mut [[u32; 2]],
 ) -> Count
-    ensures { λ r. ⌜ Queries.handlesOf (count (r .answer) (r .count)) (is found) ≡ broadOf (before nums reals map pool) (aabb left low right high) (was found) ⌝ }
+    ensures { λ r. ⌜ Queries.handlesOf (toldCount r) (is found) ≡ broadOf (before nums reals map pool) (aabb left low right high) (was found) ⌝ }
 {
     let r = boxes::query_broad(
         nums,
@@ -240,7 +241,7 @@ pub extern "C" fn chavrupas_boxes_query(
     boxes: &mut [[f32; 4]],
     objs: &mut [u32],
 ) -> Count
-    ensures { λ r. ⌜ findings (count (r .answer) (r .count)) (is found) (is boxes) (is objs) ≡ queryOf (before nums reals map pool) (aabb left low right high) (was found) (was boxes) (was objs) ⌝ }
+    ensures { λ r. ⌜ toldFindings r found boxes objs ≡ queryOf (before nums reals map pool) (aabb left low right high) (was found) (was boxes) (was objs) ⌝ }
 {
     let r = boxes::query(
         nums,

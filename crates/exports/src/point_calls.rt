@@ -1,19 +1,21 @@
 // The calls of the point grid for C and Rust: each is the call of `points` with its numbers taken apart, and has its promise.
 ghost use mathlib.Core.Path.{_≡_};
 ghost use Rattle.basics.specs.Lent.{was, is};
-ghost use Rattle.point_tables.specs.Lent.{after, before};
-ghost use Rattle.point_tables.specs.Outcome.{outcome};
+ghost use Rattle.point_tables.specs.Lent.{before};
 ghost use Rattle.inserts.specs.New.{newOf};
 ghost use Rattle.inserts.specs.Insert.{insertOf};
 ghost use Rattle.moves.specs.Moves.{setPositionOf, removeOf};
-ghost use Rattle.moves.specs.Batch.{batched, batchOf};
+ghost use Rattle.moves.specs.Batch.{batchOf};
+ghost use Rattle.moves.specs.Gives.{Gives};
 ghost use Rattle.removals.specs.Meaning.RemoveMaintain.{removeMaintainOf};
-ghost use Rattle.removals.specs.Meaning.Clear.{wrote, clearOf};
+ghost use Rattle.removals.specs.Meaning.Clear.{clearOf};
 ghost use Rattle.reads.specs.Meaning.{got, getOf, lenOf, handlesOf, listing};
-ghost use Rattle.queries.specs.Queries.{findings, queryOf, aroundOf, aabbOf};
-ghost use Rattle.maintain.specs.Maintain.{maintainedCounts, maintainOf};
-ghost use Rattle.replies.specs.Replies.{reply, count, inserted};
+ghost use Rattle.queries.specs.Queries.{queryOf, aroundOf, aabbOf};
+ghost use Rattle.maintain.specs.Maintain.{maintainOf};
+ghost use Rattle.replies.specs.Replies.{reply};
 ghost use Rattle.exports.specs.Made.{handle, position};
+ghost use Rattle.exports.specs.Told.{toldInserted, toldReply, toldCount};
+ghost use Rattle.exports.specs.PointTold.{toldBatched, toldMaintained, toldWritten, Finds};
 use crate::BatchReply;
 use crate::Count;
 use crate::Inserted;
@@ -35,7 +37,7 @@ pub extern "C" fn chavrupas_points_new(
     cells: &[[u64; 2]],
     size: u32,
 ) -> u32
-    ensures { λ r. ⌜ outcome r (after nums reals ints map pool spots cells) ≡ newOf (before nums reals ints map pool spots cells) size ⌝ }
+    ensures { λ r. ⌜ Gives (λ t. newOf t size) r nums reals ints map pool spots cells ⌝ }
 {
     points::new(nums, reals, ints, map, pool, spots, cells, size)
 }
@@ -54,7 +56,7 @@ pub extern "C" fn chavrupas_points_insert(
     y: f32,
     obj: u32,
 ) -> Inserted
-    ensures { λ r. ⌜ outcome (inserted (r .answer) (r .slot) (r .version)) (after nums reals ints map pool spots cells) ≡ insertOf (before nums reals ints map pool spots cells) (position x y) obj ⌝ }
+    ensures { λ r. ⌜ Gives (λ t. insertOf t (position x y) obj) (toldInserted r) nums reals ints map pool spots cells ⌝ }
 {
     let r = points::insert(
         nums,
@@ -89,7 +91,7 @@ pub extern "C" fn chavrupas_points_set_position(
     x: f32,
     y: f32,
 ) -> u32
-    ensures { λ r. ⌜ outcome (reply r 0) (after nums reals ints map pool spots cells) ≡ setPositionOf (before nums reals ints map pool spots cells) (handle slot version) (position x y) ⌝ }
+    ensures { λ r. ⌜ Gives (λ t. setPositionOf t (handle slot version) (position x y)) (reply r 0) nums reals ints map pool spots cells ⌝ }
 {
     points::set_position(
         nums,
@@ -117,7 +119,7 @@ pub extern "C" fn chavrupas_points_remove(
     slot: u32,
     version: u32,
 ) -> Reply
-    ensures { λ r. ⌜ outcome (reply (r .answer) (r .obj)) (after nums reals ints map pool spots cells) ≡ removeOf (before nums reals ints map pool spots cells) (handle slot version) ⌝ }
+    ensures { λ r. ⌜ Gives (λ t. removeOf t (handle slot version)) (toldReply r) nums reals ints map pool spots cells ⌝ }
 {
     let r = points::remove(
         nums,
@@ -150,7 +152,7 @@ pub extern "C" fn chavrupas_points_batch(
     positions: &[[f32; 2]],
     out: &mut [[u32; 2]],
 ) -> BatchReply
-    ensures { λ r. ⌜ outcome (batched (r .answer) (r .count) (is out)) (after nums reals ints map pool spots cells) ≡ batchOf (before nums reals ints map pool spots cells) (was kinds) (was handles) (was positions) (was out) ⌝ }
+    ensures { λ r. ⌜ Gives (λ t. batchOf t (was kinds) (was handles) (was positions) (was out)) (toldBatched r out) nums reals ints map pool spots cells ⌝ }
 {
     let r = points::batch(
         nums,
@@ -182,7 +184,7 @@ pub extern "C" fn chavrupas_points_maintain(
     spots: &mut [[f32; 2]],
     cells: &mut [[u64; 2]],
 ) -> Maintained
-    ensures { λ r. ⌜ outcome (maintainedCounts (r .answer) (r .moved) (r .removed)) (after nums reals ints map pool spots cells) ≡ maintainOf (before nums reals ints map pool spots cells) ⌝ }
+    ensures { λ r. ⌜ Gives maintainOf (toldMaintained r) nums reals ints map pool spots cells ⌝ }
 {
     let r = points::maintain(nums, reals, ints, map, pool, spots, cells);
     Maintained {
@@ -205,7 +207,7 @@ pub extern "C" fn chavrupas_points_remove_maintain(
     slot: u32,
     version: u32,
 ) -> Reply
-    ensures { λ r. ⌜ outcome (reply (r .answer) (r .obj)) (after nums reals ints map pool spots cells) ≡ removeMaintainOf (before nums reals ints map pool spots cells) (handle slot version) ⌝ }
+    ensures { λ r. ⌜ Gives (λ t. removeMaintainOf t (handle slot version)) (toldReply r) nums reals ints map pool spots cells ⌝ }
 {
     let r = points::remove_maintain(
         nums,
@@ -236,7 +238,7 @@ pub extern "C" fn chavrupas_points_clear(
     places: &mut [[f32; 2]],
     objs: &mut [u32],
 ) -> Count
-    ensures { λ r. ⌜ outcome (wrote (count (r .answer) (r .count)) (is places) (is objs)) (after nums reals ints map pool spots cells) ≡ clearOf (before nums reals ints map pool spots cells) (was places) (was objs) ⌝ }
+    ensures { λ r. ⌜ Gives (λ t. clearOf t (was places) (was objs)) (toldWritten r places objs) nums reals ints map pool spots cells ⌝ }
 {
     let r = points::clear(nums, reals, ints, map, pool, spots, cells, places, objs);
     Count {
@@ -289,7 +291,7 @@ pub extern "C" fn chavrupas_points_len(
     spots: &[[f32; 2]],
     cells: &[[u64; 2]],
 ) -> Count
-    ensures { λ r. ⌜ count (r .answer) (r .count) ≡ lenOf (before nums reals ints map pool spots cells) ⌝ }
+    ensures { λ r. ⌜ toldCount r ≡ lenOf (before nums reals ints map pool spots cells) ⌝ }
 {
     let r = points::len(nums, reals, ints, map, pool, spots, cells);
     Count {
@@ -310,7 +312,7 @@ pub extern "C" fn chavrupas_points_handles(
     cells: &[[u64; 2]],
     out: &mut [[u32; 2]],
 ) -> Count
-    ensures { λ r. ⌜ listing (count (r .answer) (r .count)) (is out) ≡ handlesOf (before nums reals ints map pool spots cells) (was out) ⌝ }
+    ensures { λ r. ⌜ listing (toldCount r) (is out) ≡ handlesOf (before nums reals ints map pool spots cells) (was out) ⌝ }
 {
     let r = points::handles(nums, reals, ints, map, pool, spots, cells, out);
     Count {
@@ -336,7 +338,7 @@ pub extern "C" fn chavrupas_points_query(
     found: &mut [[u32; 2]],
     places: &mut [[f32; 2]],
 ) -> Count
-    ensures { λ r. ⌜ findings (count (r .answer) (r .count)) (is found) (is places) ≡ queryOf (before nums reals ints map pool spots cells) (position left low) (position right high) (was found) (was places) ⌝ }
+    ensures { λ r. ⌜ Finds (λ t. queryOf t (position left low) (position right high)) r found places nums reals ints map pool spots cells ⌝ }
 {
     let r = points::query(
         nums,
@@ -373,7 +375,7 @@ pub extern "C" fn chavrupas_points_query_around(
     found: &mut [[u32; 2]],
     places: &mut [[f32; 2]],
 ) -> Count
-    ensures { λ r. ⌜ findings (count (r .answer) (r .count)) (is found) (is places) ≡ aroundOf (before nums reals ints map pool spots cells) (position x y) radius (was found) (was places) ⌝ }
+    ensures { λ r. ⌜ Finds (λ t. aroundOf t (position x y) radius) r found places nums reals ints map pool spots cells ⌝ }
 {
     let r = points::query_around(
         nums,
@@ -411,7 +413,7 @@ pub extern "C" fn chavrupas_points_query_aabb(
     found: &mut [[u32; 2]],
     places: &mut [[f32; 2]],
 ) -> Count
-    ensures { λ r. ⌜ findings (count (r .answer) (r .count)) (is found) (is places) ≡ aabbOf (before nums reals ints map pool spots cells) (position left low) (position right high) (was found) (was places) ⌝ }
+    ensures { λ r. ⌜ Finds (λ t. aabbOf t (position left low) (position right high)) r found places nums reals ints map pool spots cells ⌝ }
 {
     let r = points::query_aabb(
         nums,
