@@ -1,11 +1,10 @@
 // `set_position` and `remove` on a table of records: the records are spread into the columns, which are lent as scratch, the core's call is
 // made, and the records are gathered again. A record table of another length than the columns gets 3. Answers and their order are the core's.
 ghost use mathlib.Core.Path.{_≡_};
-ghost use Rattle.basics.specs.Lent.{was, is};
 ghost use Rattle.point_tables.specs.Lent.{after, before};
 ghost use Rattle.point_tables.specs.Outcome.{outcome};
 ghost use Rattle.replies.specs.Replies.{reply};
-ghost use Rattle.records.specs.Seen.{seen};
+ghost use Rattle.records.specs.Seen.{Shows};
 ghost use Rattle.record_moves.specs.Calls.{setPositionFor, setPositionOn, removeFor, removeOn};
 use geometry::Position;
 use objects::Record;
@@ -46,7 +45,7 @@ pub fn set_position(
     h: Handle,
     at: Position,
 ) -> u32
-    ensures { λ r. ⌜ seen (reply r 0) (is records) (after nums reals ints map pool spots cells) ≡ setPositionOn (was records) (before nums reals ints map pool spots cells) h at ⌝ }
+    ensures { λ r. ⌜ Shows (λ rs t. setPositionOn rs t h at) (reply r 0) records nums reals ints map pool spots cells ⌝ }
 {
     records::spread(records, nums, reals, ints);
     let n = records.len();
@@ -86,7 +85,7 @@ pub fn remove(
     cells: &mut [[u64; 2]],
     h: Handle,
 ) -> Reply
-    ensures { λ r. ⌜ seen r (is records) (after nums reals ints map pool spots cells) ≡ removeOn (was records) (before nums reals ints map pool spots cells) h ⌝ }
+    ensures { λ r. ⌜ Shows (λ rs t. removeOn rs t h) r records nums reals ints map pool spots cells ⌝ }
 {
     records::spread(records, nums, reals, ints);
     let n = records.len();
