@@ -1,10 +1,9 @@
 // `query_around` on a table of records, in the form of `record_reads`.
 ghost use mathlib.Core.Path.{_≡_};
 ghost use Rattle.basics.specs.Lent.{was, is};
-ghost use Rattle.point_tables.specs.Lent.{after, before};
-ghost use Rattle.point_tables.specs.Outcome.{outcome};
+ghost use Rattle.point_tables.specs.Lent.{before};
 ghost use Rattle.queries.specs.Queries.{findings};
-ghost use Rattle.record_queries.specs.Calls.{aroundFor, aroundOn};
+ghost use Rattle.record_queries.specs.Calls.{aroundFor, aroundOn, Finds};
 use geometry::Position;
 use objects::Record;
 use replies::Count;
@@ -62,7 +61,7 @@ pub fn query_around(
     found: &mut [[u32; 2]],
     places: &mut [[f32; 2]],
 ) -> Count
-    ensures { λ r. ⌜ outcome (findings r (is found) (is places)) (after nums reals ints map pool spots cells) ≡ aroundOn (was records) (before nums reals ints map pool spots cells) centre radius (was found) (was places) ⌝ }
+    ensures { λ r. ⌜ Finds (λ rs t. aroundOn rs t centre radius) r found places records nums reals ints map pool spots cells ⌝ }
 {
     records::spread(records, nums, reals, ints);
     let n = records.len();
