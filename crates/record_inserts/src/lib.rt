@@ -1,9 +1,8 @@
 // `insert` on a table of records, in the form of `record_moves`.
 ghost use mathlib.Core.Path.{_≡_};
-ghost use Rattle.basics.specs.Lent.{was, is};
 ghost use Rattle.point_tables.specs.Lent.{after, before};
 ghost use Rattle.point_tables.specs.Outcome.{outcome};
-ghost use Rattle.records.specs.Seen.{seen};
+ghost use Rattle.records.specs.Seen.{Shows};
 ghost use Rattle.record_inserts.specs.Calls.{insertFor, insertOn};
 use geometry::Position;
 use objects::Record;
@@ -50,7 +49,7 @@ pub fn insert(
     at: Position,
     obj: u32,
 ) -> Inserted
-    ensures { λ r. ⌜ seen r (is records) (after nums reals ints map pool spots cells) ≡ insertOn (was records) (before nums reals ints map pool spots cells) at obj ⌝ }
+    ensures { λ r. ⌜ Shows (λ rs t. insertOn rs t at obj) r records nums reals ints map pool spots cells ⌝ }
 {
     records::spread(records, nums, reals, ints);
     let n = records.len();
