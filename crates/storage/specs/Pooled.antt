@@ -3,6 +3,7 @@ use Prim.Native.Nat.{ℕ}
 use mathlib.Core.Path.{_≡_}
 use mathlib.Core.List.{List, map}
 use lib.Ieee.{Float}
+use lib.ListN.{length}
 use Rattle.storage.specs.Keyed.{written, onList, append1, takeOut}
 use Rattle.storage.specs.Entries.{Entry, entry, isItem, rowOf, spotOf, entryKey, entriesOf}
 
@@ -18,3 +19,8 @@ entriesWithout used key item pool spots = onList entryKey key (takeOut (λ e. is
 pub record Columns (new : List Entry) (pool : List (List ℕ)) (spots : List (List Float)) (pool′ : List (List ℕ)) (spots′ : List (List Float)) : Type 0 where
   pub in-rows : pool′ ≡ written (map rowOf new) pool
   pub in-spots : spots′ ≡ written (map spotOf new) spots
+
+-- what taking an entry out leaves: r entries, and both columns hold them
+abbrev pub TakenOut : ℕ → ℕ → ℕ → List (List ℕ) → List (List Float) → List (List ℕ) → List (List Float) → ℕ → Type 0
+TakenOut used key item pool spots pool′ spots′ r =
+    (r ≡ length (entriesWithout used key item pool spots)) × Columns (entriesWithout used key item pool spots) pool spots pool′ spots′

@@ -7,3 +7,7 @@ use Rattle.cells.specs.Key.{columnOf, lineOf}
 
 unfoldable pub inWindow : ℕ → ℕ → ℕ → ℕ → ℕ → Bool
 inWindow x0 y0 x1 y1 key = (leb x0 (columnOf key) && leb (columnOf key) x1) && (leb y0 (lineOf key) && leb (lineOf key) y1)
+
+-- the same for the range from the key `low` of its lower left cell to the key `high` of its upper right one
+abbrev pub inRange : ℕ → ℕ → ℕ → Bool
+inRange low high key = inWindow (columnOf low) (lineOf low) (columnOf high) (lineOf high) key

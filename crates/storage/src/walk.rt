@@ -8,7 +8,7 @@ ghost use Rattle.basics.specs.Lent.{was};
 ghost use Rattle.storage.specs.Keyed.{Sorted};
 ghost use Rattle.storage.specs.Entries.{rowKey};
 ghost use Rattle.storage.specs.Packed.{first};
-ghost use Rattle.storage.specs.Window.{inWindow};
+ghost use Rattle.storage.specs.Window.{inRange};
 ghost use Rattle.storage.specs.Run.{NextKey, FirstIn, RunEnd, NextRun, ListEnd};
 use crate::Run;
 use crate::find::key_at;
@@ -57,7 +57,7 @@ fn first_in(pool: &[[u64; 2]], used: usize, i: usize, low: u64, high: u64) -> us
 
 // The end of the entries from `from` on that are in the row of cells of that entry, and in the range.
 fn run_end(pool: &[[u64; 2]], used: usize, from: usize, low: u64, high: u64) -> usize
-    requires { ⌜ (from < used) × (used ≤ length (now pool)) × Sorted rowKey (take used (now pool)) × (inWindow (columnOf low) (lineOf low) (columnOf high) (lineOf high) (first (now pool) from) ≡ true) ⌝ }
+    requires { ⌜ (from < used) × (used ≤ length (now pool)) × Sorted rowKey (take used (now pool)) × (inRange low high (first (now pool) from) ≡ true) ⌝ }
     ensures { λ r. ⌜ RunEnd (was pool) used from (columnOf low) (lineOf low) (columnOf high) (lineOf high) r ⌝ }
 {
     let last = key_at(pool, from) / 4294967296 * 4294967296 + high % 4294967296;
