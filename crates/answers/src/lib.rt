@@ -11,6 +11,7 @@ ghost use Rattle.answers.specs.Answer.{answerOf};
 use lines::Line;
 use lines::Request;
 use printing::Said;
+use slots::Row;
 
 // The first refusal of two, if there is one.
 fn done_both(a: u32, b: u32) -> Said
@@ -24,7 +25,7 @@ fn done_both(a: u32, b: u32) -> Said
 
 // Both grids built anew.
 pub fn cell(
-    nums: &mut [[u32; 4]],
+    nums: &mut [Row],
     reals: &[[f32; 4]],
     ints: &[[i32; 4]],
     map: &mut [u64],
@@ -46,7 +47,7 @@ pub fn cell(
 
 // One request. The findings of a query are in its outputs.
 pub fn answer(
-    nums: &mut [[u32; 4]],
+    nums: &mut [Row],
     reals: &mut [[f32; 4]],
     ints: &mut [[i32; 4]],
     map: &mut [u64],

@@ -3,17 +3,19 @@ ghost use mathlib.Core.Path.{_≡_};
 ghost use mathlib.Core.List.{_∷_, _++_};
 ghost use Prim.Native.Nat.{_+_, _≤_};
 ghost use lib.ListN.{length, take, drop};
+ghost use Rattle.basics.specs.Limits.{mostSlots};
 ghost use Rattle.basics.specs.Lent.{was, is};
 ghost use Rattle.slots.specs.Map.{wordsFor};
 ghost use Rattle.blank.specs.Blank.{freeWord, freeWords, blankNums, blankMap};
+use slots::Row;
 
 // Every slot is free at version 1.
-pub fn free_slots(nums: &mut [[u32; 4]])
+pub fn free_slots(nums: &mut [Row])
     ensures { λ _. ⌜ is nums ≡ blankNums (length (was nums)) ⌝ }
 {
     let mut i = 0;
     while i < nums.len() {
-        nums[i] = [1, 0, 0, 0];
+        nums[i] = [1, slots::FREE, 0, 0];
         i += 1;
     }
 }
@@ -30,7 +32,7 @@ fn free_word(n: usize) -> u64
 
 // The words of n slots, behind the head words.
 fn free_words(map: &mut [u64], n: usize)
-    requires { ⌜ (length (now map) ≡ 3 + wordsFor n) × (n ≤ 4096) ⌝ }
+    requires { ⌜ (length (now map) ≡ 3 + wordsFor n) × (n ≤ mostSlots) ⌝ }
     ensures { λ _. ⌜ is map ≡ take 3 (was map) ++ freeWords (wordsFor n) n ⌝ }
 {
     let words = slots::words_for(n);
@@ -53,7 +55,7 @@ fn new_head(map: &mut [u64], size: u32)
 
 // The map of n slots that are all free.
 pub fn new_map(map: &mut [u64], n: usize, size: u32)
-    requires { ⌜ (length (now map) ≡ 3 + wordsFor n) × (n ≤ 4096) ⌝ }
+    requires { ⌜ (length (now map) ≡ 3 + wordsFor n) × (n ≤ mostSlots) ⌝ }
     ensures { λ _. ⌜ is map ≡ blankMap n size ⌝ }
 {
     free_words(map, n);

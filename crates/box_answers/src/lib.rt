@@ -10,9 +10,10 @@ use lines::BoxChange;
 use lines::Spot;
 use printing::Said;
 use slots::Handle;
+use slots::Row;
 
 fn bin(
-    nums: &mut [[u32; 4]],
+    nums: &mut [Row],
     reals: &mut [[f32; 4]],
     map: &mut [u64],
     pool: &mut [[u64; 2]],
@@ -30,7 +31,7 @@ fn bin(
 }
 
 fn bset(
-    nums: &[[u32; 4]],
+    nums: &[Row],
     reals: &mut [[f32; 4]],
     map: &mut [u64],
     pool: &mut [[u64; 2]],
@@ -47,7 +48,7 @@ fn bset(
 }
 
 fn brem(
-    nums: &mut [[u32; 4]],
+    nums: &mut [Row],
     reals: &[[f32; 4]],
     map: &mut [u64],
     pool: &mut [[u64; 2]],
@@ -61,7 +62,7 @@ fn brem(
 
 // A line that changes the boxes, with what its record says.
 pub fn change_boxes(
-    nums: &mut [[u32; 4]],
+    nums: &mut [Row],
     reals: &mut [[f32; 4]],
     map: &mut [u64],
     pool: &mut [[u64; 2]],
@@ -83,7 +84,7 @@ pub fn change_boxes(
 
 // The line that searches the boxes. The findings are in the outputs; the trace does not tell their data.
 pub fn search_boxes(
-    nums: &[[u32; 4]],
+    nums: &[Row],
     reals: &[[f32; 4]],
     map: &[u64],
     pool: &[[u64; 2]],

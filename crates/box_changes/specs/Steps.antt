@@ -6,6 +6,7 @@ use mathlib.Core.List.{List}
 use lib.Dec.{T, eqb}
 use lib.Ieee.{Float}
 use lib.ListN.{length, getD, take}
+use Rattle.basics.specs.Limits.{mostBoxes, mostEntries, mostCells}
 use Rattle.basics.specs.Says.{said}
 use Rattle.basics.specs.Refusals.{pick}
 use Rattle.geometry.specs.declared.Aabb.{Aabb}
@@ -17,7 +18,7 @@ use Rattle.slots.specs.Slot.{live, phaseAt}
 use Rattle.storage.specs.Keyed.{Sorted, written}
 use Rattle.storage.specs.Entries.{rowKey}
 use Rattle.coverage.specs.Coverage.{entered, left, Stands}
-use Rattle.box_tables.specs.Tables.{Tables, sizeOf, usedOf, slotsOf, counting, aabbAt, aabbOn, covers, mostCells, itemOf}
+use Rattle.box_tables.specs.Tables.{Tables, sizeOf, usedOf, slotsOf, counting, aabbAt, aabbOn, covers, itemOf}
 use Rattle.box_tables.specs.Holds.{Holds}
 use Rattle.box_tables.specs.declared.Span.{Span}
 use Rattle.box_tables.specs.Way.{spanOf}
@@ -65,10 +66,10 @@ module _ (s : ℕ) (p q : Span) (map : List ℕ) (pool : List (List ℕ)) where
   relistedPool = pick (stayIn p q) pool shiftedPool
 
 pub record Shifting (map : List ℕ) (pool : List (List ℕ)) (s : ℕ) (p q : Span) : Type 0 where
-  pub small : s < 256
+  pub small : s < mostBoxes
   pub heads : 3 ≤ length map
   pub used-most : getD map 1 0 ≤ length pool
-  pub pool-most : length pool ≤ 8192
+  pub pool-most : length pool ≤ mostEntries
   pub sorted : Sorted rowKey (take (getD map 1 0) pool)
   pub old-low : Near (p .low)
   pub old-high : Near (p .high)

@@ -11,6 +11,7 @@ ghost use Rattle.box_changes.specs.Steps.{stayIn, shiftedMap, shiftedPoo
 use box_tables::Span;
 use geometry::Aabb;
 use slots::Handle;
+use slots::Row;
 
 // The answer, and where it is 0 the old and the new range of cells.
 struct Change {
@@ -33,7 +34,7 @@ fn refusal(answer: u32) -> Change
 
 // The first refusal that applies, or 0 and both ranges. The box's old entries make room for its new ones.
 fn judge(
-    nums: &[[u32; 4]],
+    nums: &[Row],
     reals: &[[f32; 4]],
     map: &[u64],
     pool: &[[u64; 2]],
@@ -53,7 +54,7 @@ fn judge(
     }
     let new = box_tables::span_of(map[0], b);
     let n = new.cells;
-    if n > 4096 {
+    if n > basics::MOST_CELLS {
         return refusal(7);
     }
     let there = box_tables::load_box(reals, basics::wide(h.slot));
@@ -127,7 +128,7 @@ fn place(
 }
 
 pub fn set_aabb(
-    nums: &[[u32; 4]],
+    nums: &[Row],
     reals: &mut [[f32; 4]],
     map: &mut [u64],
     pool: &mut [[u64; 2]],

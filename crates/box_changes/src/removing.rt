@@ -13,9 +13,10 @@ ghost use Rattle.box_changes.specs.Remove.{takenOut, removeOf};
 ghost use Rattle.box_changes.specs.Steps.{Object};
 use replies::Reply;
 use slots::Handle;
+use slots::Row;
 
 // The answer: the first refusal that applies, or 0.
-fn answer(nums: &[[u32; 4]], held: bool, h: Handle) -> u32
+fn answer(nums: &[Row], held: bool, h: Handle) -> u32
     ensures { λ r. ⌜ r ≡ firstOf (unless held 3 ∷ unless (good (was nums) (h .slot) (h .version)) 5 ∷ []) ⌝ }
 {
     if !held {
@@ -28,7 +29,7 @@ fn answer(nums: &[[u32; 4]], held: bool, h: Handle) -> u32
 }
 
 // Slot s is emptied, and the head word of the map has the count.
-fn empty(nums: &mut [[u32; 4]], map: &mut [u64], s: usize, used: usize)
+fn empty(nums: &mut [Row], map: &mut [u64], s: usize, used: usize)
     requires { ⌜ (s < length (now nums)) × (3 + s / 64 < length (now map)) ⌝ }
     ensures nums { λ _. ⌜ is nums ≡ emptiedNums (was nums) s ⌝ }
     ensures map { λ _. ⌜ is map ≡ counting (emptiedMap (was nums) (was map) s) used ⌝ }
@@ -39,7 +40,7 @@ fn empty(nums: &mut [[u32; 4]], map: &mut [u64], s: usize, used: usize)
 
 // The object of slot s goes. Returns its data.
 fn take_out(
-    nums: &mut [[u32; 4]],
+    nums: &mut [Row],
     reals: &[[f32; 4]],
     map: &mut [u64],
     pool: &mut [[u64; 2]],
@@ -62,7 +63,7 @@ fn take_out(
 }
 
 pub fn remove(
-    nums: &mut [[u32; 4]],
+    nums: &mut [Row],
     reals: &[[f32; 4]],
     map: &mut [u64],
     pool: &mut [[u64; 2]],

@@ -24,8 +24,8 @@ use Rattle.box_tables.specs.declared.Span.{Span}
 use Rattle.replies.specs.declared.Inserted.{Inserted}
 use Rattle.replies.specs.Replies.{inserted}
 use Rattle.box_inserts.specs.declared.inserting.Choice.{Choice}
-use Rattle.box_inserts.specs.Insert.{usableSlot, put, fewCells, hasRoom, insertAnswer, insertOf}
-use Rattle.box_inserts.specs.Fresh.{answerBy, Ready, Fresh}
+use Rattle.box_inserts.specs.Insert.{usableSlot, put, fewCells, hasRoom, insertAnswer, insertOf, answerBy}
+use Rattle.box_inserts.specs.Fresh.{Ready, Fresh}
 use Rattle.box_inserts.proofs.laws.InsertLaws.{few-says, room-says, insert-done}
 
 -- ---- the choice, test by test

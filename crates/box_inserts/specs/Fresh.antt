@@ -4,22 +4,22 @@ use mathlib.Core.Path.{_≡_}
 use mathlib.Core.List.{List}
 use lib.Dec.{T}
 use lib.ListN.{length, getD}
+use Rattle.basics.specs.Limits.{mostBoxes, mostEntries, mostCells}
 use Rattle.geometry.specs.declared.Aabb.{Aabb}
 use Rattle.geometry.specs.Domain.{aabbInDomain}
 use Rattle.cells.specs.Size.{SizeInDomain}
 use Rattle.slots.specs.Map.{head, wordsFor, NonePast}
 use Rattle.slots.specs.Slot.{free, phaseAt}
-use Rattle.box_tables.specs.Tables.{Tables, sizeOf, usedOf, slotsOf, covers, mostCells}
+use Rattle.box_tables.specs.Tables.{Tables, sizeOf, usedOf, slotsOf, covers}
 use Rattle.box_tables.specs.Holds.{Holds}
-pub use Rattle.box_inserts.specs.Insert.{answerBy}
 
 -- what the choice of a slot reads of tables that hold a grid
 pub record Ready (nums : List (List ℕ)) (map : List ℕ) : Type 0 where
-  pub most : length nums ≤ 256
+  pub most : length nums ≤ mostBoxes
   pub of-map : length map ≡ head + wordsFor (length nums)
   pub none-past : NonePast map (length nums)
   pub size : SizeInDomain (getD map 0 0)
-  pub used : getD map 1 0 ≤ 8192
+  pub used : getD map 1 0 ≤ mostEntries
 
 -- tables that hold a grid, a slot that is free, and a box that there is room for
 pub record Fresh (t : Tables) (s : ℕ) (b : Aabb) : Type 0 where

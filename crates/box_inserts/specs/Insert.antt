@@ -5,6 +5,7 @@ use mathlib.Core.Bool.{Bool}
 use lib.Dec.{leb}
 use lib.Ieee.{Float}
 use lib.ListN.{length, set}
+use Rattle.basics.specs.Limits.{mostCells}
 use Rattle.basics.specs.Refusals.{Refusal, unless, firstOf, byTests}
 use Rattle.geometry.specs.Domain.{aabbInDomain}
 use Rattle.geometry.specs.declared.Aabb.{Aabb}
@@ -13,7 +14,7 @@ use Rattle.slots.specs.Map.{taken, lowestUsable, isSome, slotIn}
 use Rattle.slots.specs.Slot.{live, versionAt}
 use Rattle.storage.specs.Keyed.{written}
 use Rattle.coverage.specs.Coverage.{entered}
-use Rattle.box_tables.specs.Tables.{Tables, tables, sizeOf, usedOf, counting, slotsOf, entriesIn, lowCell, highCell, covers, mostCells, itemFor, cornersOf}
+use Rattle.box_tables.specs.Tables.{Tables, tables, sizeOf, usedOf, counting, slotsOf, entriesIn, lowCell, highCell, covers, itemFor, cornersOf}
 use Rattle.box_tables.specs.Decide.{holds}
 use Rattle.box_tables.specs.Outcome.{Outcome, outcome}
 use Rattle.replies.specs.declared.Inserted.{Inserted}

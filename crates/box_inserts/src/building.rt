@@ -3,9 +3,10 @@ ghost use mathlib.Core.Path.{_≡_};
 ghost use Rattle.box_tables.specs.Lent.{after, before};
 ghost use Rattle.box_tables.specs.Outcome.{outcome};
 ghost use Rattle.box_inserts.specs.New.{newAnswer, newOf};
+use slots::Row;
 
 // The answer: the first refusal that applies, or 0.
-fn answer(nums: &[[u32; 4]], reals: &[[f32; 4]], map: &[u64], pool: &[[u64; 2]], size: u32) -> u32
+fn answer(nums: &[Row], reals: &[[f32; 4]], map: &[u64], pool: &[[u64; 2]], size: u32) -> u32
     ensures { λ r. ⌜ r ≡ newAnswer (before nums reals map pool) size ⌝ }
 {
     if !box_tables::lengths_ok(nums.len(), reals.len(), map.len(), pool.len()) {
@@ -19,7 +20,7 @@ fn answer(nums: &[[u32; 4]], reals: &[[f32; 4]], map: &[u64], pool: &[[u64; 2]],
 
 // A grid of cells of `size` with no object, in tables of the right lengths, whatever they held.
 pub fn new(
-    nums: &mut [[u32; 4]],
+    nums: &mut [Row],
     reals: &[[f32; 4]],
     map: &mut [u64],
     pool: &[[u64; 2]],

@@ -5,6 +5,7 @@ ghost use mathlib.Core.List.{[], _∷_};
 ghost use Prim.Native.Nat.{_+_, _/_, _≤_, _<_};
 ghost use lib.Dec.{leb};
 ghost use lib.ListN.{length, getD, set};
+ghost use Rattle.basics.specs.Limits.{mostBoxes};
 ghost use Rattle.basics.specs.Lent.{was, is};
 ghost use Rattle.basics.specs.Refusals.{orElse};
 ghost use Rattle.geometry.specs.Domain.{aabbInDomain};
@@ -16,14 +17,15 @@ ghost use Rattle.box_tables.specs.Lent.{after, before, lent};
 ghost use Rattle.box_tables.specs.Outcome.{outcome};
 ghost use Rattle.box_tables.specs.Way.{spanOf};
 ghost use Rattle.box_inserts.specs.Insert as Insert;
-ghost use Rattle.box_inserts.specs.Insert.{fewCells, insertOf};
-ghost use Rattle.box_inserts.specs.Fresh.{answerBy, Ready, Fresh};
+ghost use Rattle.box_inserts.specs.Insert.{fewCells, insertOf, answerBy};
+ghost use Rattle.box_inserts.specs.Fresh.{Ready, Fresh};
 ghost use Rattle.replies.specs.Replies.{inserted};
 use box_tables::Span;
 use cells::Cell;
 use geometry::Aabb;
 use replies::Inserted;
 use slots::Handle;
+use slots::Row;
 use slots::Usable;
 
 // The answer, and where it is 0 the slot and the range of cells.
@@ -76,7 +78,7 @@ fn slot_for(u: Usable, fits: bool, p: Span) -> Choice
 }
 
 // The first refusal that applies, or the lowest usable slot. The pool has `room` entries.
-fn choose(nums: &[[u32; 4]], map: &[u64], room: usize, held: bool, b: Aabb) -> Choice
+fn choose(nums: &[Row], map: &[u64], room: usize, held: bool, b: Aabb) -> Choice
     requires { ⌜ (held ≡ true → Ready (now nums) (now map)) ⌝ }
     ensures { λ r. ⌜ (r .answer ≡ answerBy held (aabbInDomain b) (fewCells (getD (was map) 0 0) b) (lowestUsable (was map) (length (was nums))) (leb (getD (was map) 1 0 + covers (getD (was map) 0 0) b) room)) × (r .answer ≡ 0 → (lowestUsable (was map) (length (was nums)) ≡ At (r .slot)) × (r .span ≡ spanOf (getD (was map) 0 0) b)) ⌝ }
 {
@@ -88,7 +90,7 @@ fn choose(nums: &[[u32; 4]], map: &[u64], room: usize, held: bool, b: Aabb) -> C
     }
     let p = box_tables::span_of(map[0], b);
     let n = p.cells;
-    if n > 4096 {
+    if n > basics::MOST_CELLS {
         return refusal(7);
     }
     let u = slots::lowest(map, nums.len());
@@ -97,8 +99,8 @@ fn choose(nums: &[[u32; 4]], map: &[u64], room: usize, held: bool, b: Aabb) -> C
 }
 
 // The object is in slot s, at the version that the slot has.
-fn accepted(nums: &[[u32; 4]], s: usize) -> Inserted
-    requires { ⌜ (s < length (now nums)) × (length (now nums) ≤ 256) ⌝ }
+fn accepted(nums: &[Row], s: usize) -> Inserted
+    requires { ⌜ (s < length (now nums)) × (length (now nums) ≤ mostBoxes) ⌝ }
     ensures { λ r. ⌜ r ≡ inserted 0 s (versionAt (was nums) s) ⌝ }
 {
     let row = nums[s];
@@ -113,12 +115,12 @@ fn accepted(nums: &[[u32; 4]], s: usize) -> Inserted
 }
 
 // Slot s takes the object: its version stays.
-fn occupy(nums: &mut [[u32; 4]], s: usize, obj: u32)
+fn occupy(nums: &mut [Row], s: usize, obj: u32)
     requires { ⌜ s < length (now nums) ⌝ }
     ensures { λ _. ⌜ is nums ≡ set (was nums) s (versionAt (was nums) s ∷ live ∷ obj ∷ 0 ∷ []) ⌝ }
 {
     let row = nums[s];
-    nums[s] = [row[0], 1, obj, 0];
+    nums[s] = [row[0], slots::LIVE, obj, 0];
 }
 
 // The row of slot s has the corners of b.
@@ -142,7 +144,7 @@ fn count(map: &mut [u64], s: usize, used: usize)
 
 // Slot s, which is free, takes box b, and the lists of the cells of p, which it covers, its entries.
 fn put(
-    nums: &mut [[u32; 4]],
+    nums: &mut [Row],
     reals: &mut [[f32; 4]],
     map: &mut [u64],
     pool: &mut [[u64; 2]],
@@ -166,7 +168,7 @@ fn put(
 }
 
 pub fn insert(
-    nums: &mut [[u32; 4]],
+    nums: &mut [Row],
     reals: &mut [[f32; 4]],
     map: &mut [u64],
     pool: &mut [[u64; 2]],

@@ -2,6 +2,7 @@
 use Prim.Native.Nat.{ℕ, _/_, _<_}
 use mathlib.Core.List.{List, map}
 use lib.Seq.{slice}
+use Rattle.basics.specs.Limits.{mostBoxes}
 use Rattle.cells.specs.Key.{columnOf, lineOf}
 use Rattle.storage.specs.Keyed.{filter}
 use Rattle.storage.specs.Entries.{rowKey}
@@ -11,7 +12,7 @@ use Rattle.box_tables.specs.Tables.{slotOf}
 
 -- the entries before place `to` name slots below 256
 abbrev pub Slots : List (List ℕ) → ℕ → Type 0
-Slots pool to = (j : ℕ) → j < to → second pool j / 2 < 256
+Slots pool to = (j : ℕ) → j < to → second pool j / 2 < mostBoxes
 
 -- the slots of the places from `from` on, up to `to`
 abbrev pub slotsIn : List (List ℕ) → ℕ → ℕ → List ℕ

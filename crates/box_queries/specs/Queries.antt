@@ -5,6 +5,7 @@ use mathlib.Core.List.{List, [], _∷_, map}
 use lib.Dec.{eqb, leb}
 use lib.Ieee.{Float}
 use lib.ListN.{length}
+use Rattle.basics.specs.Limits.{mostCells}
 use Rattle.basics.specs.Refusals.{Refusal, unless, firstOf, pick, byTests}
 use Rattle.geometry.specs.declared.Aabb.{Aabb}
 use Rattle.geometry.specs.Domain.{aabbInDomain}
@@ -13,7 +14,7 @@ use Rattle.slots.specs.Slot.{versionAt}
 use Rattle.storage.specs.Keyed.{filter, written}
 use Rattle.storage.specs.Entries.{rowKey}
 use Rattle.storage.specs.Walk.{walked}
-use Rattle.box_tables.specs.Tables.{Tables, sizeOf, entriesIn, aabbAt, aabbOn, objOn, lowCell, highCell, covers, mostCells, slotOf, cornersOf}
+use Rattle.box_tables.specs.Tables.{Tables, sizeOf, entriesIn, aabbAt, aabbOn, objOn, lowCell, highCell, covers, slotOf, cornersOf}
 use Rattle.box_tables.specs.Decide.{holds}
 use Rattle.replies.specs.declared.Count.{Count}
 use Rattle.box_queries.specs.Firsts.{firsts}

@@ -3,6 +3,7 @@ ghost use mathlib.Core.Path.{_≡_};
 ghost use mathlib.Core.List.{map};
 ghost use Prim.Native.Nat.{_+_, _≤_};
 ghost use lib.ListN.{length, take};
+ghost use Rattle.basics.specs.Limits.{mostBoxes};
 ghost use Rattle.basics.specs.Lent.{was, is};
 ghost use Rattle.storage.specs.Keyed.{Sorted};
 ghost use Rattle.storage.specs.Entries.{rowKey};
@@ -18,10 +19,10 @@ fn gather_run(
     from: usize,
     to: usize,
     n: usize,
-    marks: &mut [bool; 256],
-    found: &mut [u32; 256],
+    marks: &mut [bool; basics::MOST_BOXES],
+    found: &mut [u32; basics::MOST_BOXES],
 ) -> usize
-    requires { ⌜ (from ≤ to) × (to ≤ length (now pool)) × Slots (now pool) to × (n + unmarked (now marks) ≤ 256) × (length (now marks) ≡ 256) × (length (now found) ≡ 256) ⌝ }
+    requires { ⌜ (from ≤ to) × (to ≤ length (now pool)) × Slots (now pool) to × (n + unmarked (now marks) ≤ mostBoxes) × (length (now marks) ≡ mostBoxes) × (length (now found) ≡ mostBoxes) ⌝ }
     ensures { λ r. ⌜ Collected (was marks) (was found) n (slotsIn (was pool) from to) (is marks) (is found) r ⌝ }
 {
     let mut k = n;
@@ -40,11 +41,17 @@ fn gather_run(
 }
 
 // One walk of the range from the key `low` to the key `high`: the slots that are met, each at its first place. Returns how many there are.
-pub fn gather(pool: &[[u64; 2]], used: usize, low: u64, high: u64, found: &mut [u32; 256]) -> usize
-    requires { ⌜ (used ≤ length (now pool)) × Sorted rowKey (take used (now pool)) × Slots (now pool) used × (length (now found) ≡ 256) ⌝ }
-    ensures { λ r. ⌜ (r ≤ 256) × (take r (is found) ≡ firsts (map slotOf (inside low high (take used (was pool))))) × (length (is found) ≡ 256) ⌝ }
+pub fn gather(
+    pool: &[[u64; 2]],
+    used: usize,
+    low: u64,
+    high: u64,
+    found: &mut [u32; basics::MOST_BOXES],
+) -> usize
+    requires { ⌜ (used ≤ length (now pool)) × Sorted rowKey (take used (now pool)) × Slots (now pool) used × (length (now found) ≡ mostBoxes) ⌝ }
+    ensures { λ r. ⌜ (r ≤ mostBoxes) × (take r (is found) ≡ firsts (map slotOf (inside low high (take used (was pool))))) × (length (is found) ≡ mostBoxes) ⌝ }
 {
-    let mut marks: [bool; 256] = [false; 256];
+    let mut marks: [bool; basics::MOST_BOXES] = [false; basics::MOST_BOXES];
     let mut n = 0;
     let mut i = 0;
     while i < used {

@@ -2,6 +2,7 @@
 ghost use mathlib.Core.Path.{_≡_};
 ghost use Prim.Native.Nat.{_≤_};
 ghost use lib.ListN.{length, take};
+ghost use Rattle.basics.specs.Limits.{mostBoxes};
 ghost use Rattle.basics.specs.Lent.{was, is};
 ghost use Rattle.geometry.specs.Intersects.{intersects};
 ghost use Rattle.storage.specs.Keyed.{filter};
@@ -10,9 +11,9 @@ ghost use Rattle.box_queries.specs.Put.{Found};
 use geometry::Aabb;
 
 // Of the first n slots of `found` those whose box q intersects go to the front, in the same order. Returns how many they are.
-pub fn keep(reals: &[[f32; 4]], q: Aabb, n: usize, found: &mut [u32; 256]) -> usize
+pub fn keep(reals: &[[f32; 4]], q: Aabb, n: usize, found: &mut [u32; basics::MOST_BOXES]) -> usize
     requires { ⌜ Found (length (now reals)) (now found) n ⌝ }
-    ensures { λ r. ⌜ (r ≤ n) × (take r (is found) ≡ filter (λ s. intersects q (aabbAt (was reals) s)) (take n (was found))) × (length (is found) ≡ 256) ⌝ }
+    ensures { λ r. ⌜ (r ≤ n) × (take r (is found) ≡ filter (λ s. intersects q (aabbAt (was reals) s)) (take n (was found))) × (length (is found) ≡ mostBoxes) ⌝ }
 {
     let mut k = 0;
     let mut j = 0;

@@ -2,6 +2,7 @@
 ghost use mathlib.Core.Path.{_≡_};
 ghost use Prim.Native.Nat.{min};
 ghost use lib.ListN.{length};
+ghost use Rattle.basics.specs.Limits.{mostBoxes};
 ghost use Rattle.basics.specs.Lent.{was, is};
 ghost use Rattle.box_tables.specs.Lent.{before};
 ghost use Rattle.box_queries.specs.Queries.{handlesOf, broadOf, findings, queryOf};
@@ -20,17 +21,18 @@ use keep::keep;
 use put::put_findings;
 use put::put_handles;
 use replies::Count;
+use slots::Row;
 
 // The slots of the boxes in the cells of q, each once, in the first places of `found`, and how many they are; or the refusal.
 fn look(
-    nums: &[[u32; 4]],
+    nums: &[Row],
     reals: &[[f32; 4]],
     map: &[u64],
     pool: &[[u64; 2]],
     q: Aabb,
-    found: &mut [u32; 256],
+    found: &mut [u32; basics::MOST_BOXES],
 ) -> Count
-    requires { ⌜ length (now found) ≡ 256 ⌝ }
+    requires { ⌜ length (now found) ≡ mostBoxes ⌝ }
     ensures { λ r. ⌜ Looked (before nums reals map pool) q r (is found) ⌝ }
 {
     if !box_tables::check(nums, reals, map, pool) {
@@ -41,7 +43,7 @@ fn look(
     }
     let size = map[0];
     let span = span_of(size, q);
-    if 4096 < span.cells {
+    if basics::MOST_CELLS < span.cells {
         return replies::refused(7);
     }
     let used = basics::index_of(map[1]);
@@ -56,7 +58,7 @@ fn look(
 
 // The boxes in the cells of q.
 pub fn query_broad(
-    nums: &[[u32; 4]],
+    nums: &[Row],
     reals: &[[f32; 4]],
     map: &[u64],
     pool: &[[u64; 2]],
@@ -65,7 +67,7 @@ pub fn query_broad(
 ) -> Count
     ensures { λ r. ⌜ handlesOf r (is handles) ≡ broadOf (before nums reals map pool) q (was handles) ⌝ }
 {
-    let mut found: [u32; 256] = [0; 256];
+    let mut found: [u32; basics::MOST_BOXES] = [0; basics::MOST_BOXES];
     let seen = look(nums, reals, map, pool, q, &mut found);
     if seen.answer != 0 {
         return seen;
@@ -89,7 +91,7 @@ fn lesser(a: usize, b: usize) -> usize
 
 // Those of them that q intersects: handle, box and data of each.
 pub fn query(
-    nums: &[[u32; 4]],
+    nums: &[Row],
     reals: &[[f32; 4]],
     map: &[u64],
     pool: &[[u64; 2]],
@@ -100,7 +102,7 @@ pub fn query(
 ) -> Count
     ensures { λ r. ⌜ findings r (is handles) (is boxes) (is objs) ≡ queryOf (before nums reals map pool) q (was handles) (was boxes) (was objs) ⌝ }
 {
-    let mut found: [u32; 256] = [0; 256];
+    let mut found: [u32; basics::MOST_BOXES] = [0; basics::MOST_BOXES];
     let seen = look(nums, reals, map, pool, q, &mut found);
     if seen.answer != 0 {
         return seen;

@@ -8,9 +8,15 @@ ghost use Rattle.storage.specs.Keyed.{written};
 ghost use Rattle.box_queries.specs.Queries.{boxRow};
 ghost use Rattle.box_queries.specs.Put.{Found};
 ghost use Rattle.slot_walks.specs.Live.{objAt, handleAt};
+use slots::Row;
 
 // Slot and version.
-pub fn put_handles(nums: &[[u32; 4]], found: &[u32; 256], n: usize, handles: &mut [[u32; 2]])
+pub fn put_handles(
+    nums: &[Row],
+    found: &[u32; basics::MOST_BOXES],
+    n: usize,
+    handles: &mut [[u32; 2]],
+)
     requires { ⌜ Found (length (now nums)) (now found) n × (n ≤ length (now handles)) ⌝ }
     ensures { λ _. ⌜ is handles ≡ written (map (handleAt (was nums)) (take n (was found))) (was handles) ⌝ }
 {
@@ -24,7 +30,12 @@ pub fn put_handles(nums: &[[u32; 4]], found: &[u32; 256], n: usize, handles: &mu
 }
 
 // The four numbers of the box.
-fn put_boxes(reals: &[[f32; 4]], found: &[u32; 256], n: usize, boxes: &mut [[f32; 4]])
+fn put_boxes(
+    reals: &[[f32; 4]],
+    found: &[u32; basics::MOST_BOXES],
+    n: usize,
+    boxes: &mut [[f32; 4]],
+)
     requires { ⌜ Found (length (now reals)) (now found) n × (n ≤ length (now boxes)) ⌝ }
     ensures { λ _. ⌜ is boxes ≡ written (map (boxRow (was reals)) (take n (was found))) (was boxes) ⌝ }
 {
@@ -37,7 +48,7 @@ fn put_boxes(reals: &[[f32; 4]], found: &[u32; 256], n: usize, boxes: &mut [[f32
 }
 
 // The data.
-fn put_objs(nums: &[[u32; 4]], found: &[u32; 256], n: usize, objs: &mut [u32])
+fn put_objs(nums: &[Row], found: &[u32; basics::MOST_BOXES], n: usize, objs: &mut [u32])
     requires { ⌜ Found (length (now nums)) (now found) n × (n ≤ length (now objs)) ⌝ }
     ensures { λ _. ⌜ is objs ≡ written (map (objAt (was nums)) (take n (was found))) (was objs) ⌝ }
 {
@@ -51,9 +62,9 @@ fn put_objs(nums: &[[u32; 4]], found: &[u32; 256], n: usize, objs: &mut [u32])
 
 // Handle, box and data.
 pub fn put_findings(
-    nums: &[[u32; 4]],
+    nums: &[Row],
     reals: &[[f32; 4]],
-    found: &[u32; 256],
+    found: &[u32; basics::MOST_BOXES],
     n: usize,
     handles: &mut [[u32; 2]],
     boxes: &mut [[f32; 4]],

@@ -5,6 +5,7 @@ use mathlib.Core.List.{List, [], _∷_, map}
 use lib.Dec.{eqb}
 use lib.Ieee.{Float}
 use lib.ListN.{length, getD}
+use Rattle.basics.specs.Limits.{mostBoxes}
 use Rattle.basics.specs.Refusals.{Refusal, pick, byTests}
 use Rattle.storage.specs.Keyed.{written}
 use Rattle.slot_walks.specs.Cleared.{clearedRows, clearedMap}
@@ -34,7 +35,7 @@ wrote c b o = record { returned = c; boxes = b; objs = o }
 -- what writing them is asked for: both outputs have a place for each object
 abbrev pub Room : List (List ℕ) → List (List Float) → List (List Float) → List ℕ → Type 0
 Room nums reals boxes objs =
-    (length reals ≡ length nums) × (length nums ≤ 256) × (length (liveFrom 0 nums) ≤ length boxes) × (length (liveFrom 0 nums) ≤ length objs)
+    (length reals ≡ length nums) × (length nums ≤ mostBoxes) × (length (liveFrom 0 nums) ≤ length boxes) × (length (liveFrom 0 nums) ≤ length objs)
 
 abbrev pub clearTests : Tables → List (List Float) → List ℕ → List Refusal
 clearTests t boxes objs = listTests t (min (length boxes) (length objs))

@@ -14,6 +14,7 @@ ghost use Rattle.box_tables.specs.Outcome.{outcome};
 ghost use Rattle.box_reads.specs.Clear.{boxAt, wrote, Room, clearOf};
 use crate::list_answer;
 use replies::Count;
+use slots::Row;
 
 // The smaller of two numbers of places.
 fn least(a: usize, b: usize) -> usize
@@ -26,7 +27,7 @@ fn least(a: usize, b: usize) -> usize
 }
 
 // The box and the data of each live slot, from place 0 of the outputs on.
-fn put_boxes(nums: &[[u32; 4]], reals: &[[f32; 4]], boxes: &mut [[f32; 4]], objs: &mut [u32])
+fn put_boxes(nums: &[Row], reals: &[[f32; 4]], boxes: &mut [[f32; 4]], objs: &mut [u32])
     requires { ⌜ Room (now nums) (now reals) (now boxes) (now objs) ⌝ }
     ensures boxes { λ _. ⌜ is boxes ≡ written (map (boxAt (was reals)) (liveFrom 0 (was nums))) (was boxes) ⌝ }
     ensures objs { λ _. ⌜ is objs ≡ written (map (objAt (was nums)) (liveFrom 0 (was nums))) (was objs) ⌝ }
@@ -46,7 +47,7 @@ fn put_boxes(nums: &[[u32; 4]], reals: &[[f32; 4]], boxes: &mut [[f32; 4]], objs
 }
 
 // Every live slot is emptied, and no entry is in use.
-fn empty_all(nums: &mut [[u32; 4]], map: &mut [u64])
+fn empty_all(nums: &mut [Row], map: &mut [u64])
     requires { ⌜ length (now map) ≡ 3 + wordsFor (length (now nums)) ⌝ }
     ensures nums { λ _. ⌜ is nums ≡ clearedRows (was nums) ⌝ }
     ensures map { λ _. ⌜ is map ≡ counting (clearedMap 0 (was nums) (was map)) 0 ⌝ }
@@ -56,7 +57,7 @@ fn empty_all(nums: &mut [[u32; 4]], map: &mut [u64])
 }
 
 pub fn clear(
-    nums: &mut [[u32; 4]],
+    nums: &mut [Row],
     reals: &[[f32; 4]],
     map: &mut [u64],
     pool: &[[u64; 2]],

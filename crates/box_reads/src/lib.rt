@@ -3,6 +3,7 @@ ghost use mathlib.Core.Path.{_≡_};
 ghost use mathlib.Core.Bool.{true};
 ghost use Prim.Native.Nat.{_≤_};
 ghost use lib.ListN.{length};
+ghost use Rattle.basics.specs.Limits.{mostBoxes};
 ghost use Rattle.basics.specs.Lent.{was, is};
 ghost use Rattle.box_tables.specs.Lent.{before};
 ghost use Rattle.slot_walks.specs.Live.{liveFrom};
@@ -12,6 +13,7 @@ use geometry::Aabb;
 use geometry::Position;
 use replies::Count;
 use slots::Handle;
+use slots::Row;
 ghost use Rattle.geometry.specs.Zero.{zero-aabb};
 
 mod clearing;
@@ -37,7 +39,7 @@ fn no_box(answer: u32) -> Got
     }
 }
 
-pub fn get(nums: &[[u32; 4]], reals: &[[f32; 4]], map: &[u64], pool: &[[u64; 2]], h: Handle) -> Got
+pub fn get(nums: &[Row], reals: &[[f32; 4]], map: &[u64], pool: &[[u64; 2]], h: Handle) -> Got
     ensures { λ r. ⌜ r ≡ getOf (before nums reals map pool) h ⌝ }
 {
     if !box_tables::check(nums, reals, map, pool) {
@@ -59,7 +61,7 @@ pub fn get(nums: &[[u32; 4]], reals: &[[f32; 4]], map: &[u64], pool: &[[u64; 2]]
 }
 
 // The number of objects: they are the live slots.
-pub fn len(nums: &[[u32; 4]], reals: &[[f32; 4]], map: &[u64], pool: &[[u64; 2]]) -> Count
+pub fn len(nums: &[Row], reals: &[[f32; 4]], map: &[u64], pool: &[[u64; 2]]) -> Count
     ensures { λ r. ⌜ r ≡ lenOf (before nums reals map pool) ⌝ }
 {
     if !box_tables::check(nums, reals, map, pool) {
@@ -76,8 +78,8 @@ pub fn len(nums: &[[u32; 4]], reals: &[[f32; 4]], map: &[u64], pool: &[[u64; 2]]
 }
 
 // The answer of a call that writes a row for each object into outputs of so many places, with the number of objects.
-fn list_answer(nums: &[[u32; 4]], held: bool, room: usize) -> Count
-    requires { ⌜ (held ≡ true → length (now nums) ≤ 256) ⌝ }
+fn list_answer(nums: &[Row], held: bool, room: usize) -> Count
+    requires { ⌜ (held ≡ true → length (now nums) ≤ mostBoxes) ⌝ }
     ensures { λ r. ⌜ r ≡ countBy held (length (liveFrom 0 (was nums))) room ⌝ }
 {
     if !held {
@@ -101,7 +103,7 @@ fn list_answer(nums: &[[u32; 4]], held: bool, room: usize) -> Count
 
 // The handles of the objects, ascending by slot.
 pub fn handles(
-    nums: &[[u32; 4]],
+    nums: &[Row],
     reals: &[[f32; 4]],
     map: &[u64],
     pool: &[[u64; 2]],

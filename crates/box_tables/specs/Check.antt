@@ -5,6 +5,7 @@ use mathlib.Core.List.{List, [], _∷_, _++_, map}
 use lib.Dec.{T}
 use lib.Ieee.{Float}
 use lib.ListN.{length, getD, take}
+use Rattle.basics.specs.Limits.{mostBoxes, mostEntries, mostCells}
 use Rattle.geometry.specs.declared.Aabb.{Aabb}
 use Rattle.geometry.specs.Domain.{aabbInDomain}
 use Rattle.cells.specs.Size.{SizeInDomain}
@@ -13,7 +14,7 @@ use Rattle.slots.specs.Slot.{live, versionAt, phaseAt, SlotHolds}
 use Rattle.storage.specs.Keyed.{filter}
 use Rattle.storage.specs.Entries.{rowKey, isItem}
 use Rattle.storage.specs.Packed.{first, second}
-use Rattle.box_tables.specs.Tables.{aabbAt, covers, mostCells}
+use Rattle.box_tables.specs.Tables.{aabbAt, covers}
 use Rattle.box_tables.specs.Way.{jumpIn, itemIn, ToCome, trackOf, OnTrack, keyMost, wayAt}
 
 -- ---- the counts, and the slots
@@ -50,7 +51,7 @@ module _ (nums : List (List ℕ)) (reals : List (List Float)) where
 
   -- lengths that let every slot be read, and a cell size of the domain
   pub record Room (map : List ℕ) : Type 0 where
-    pub most : length nums ≤ 256
+    pub most : length nums ≤ mostBoxes
     pub of-reals : length reals ≡ length nums
     pub of-map : length map ≡ head + wordsFor (length nums)
     pub size : SizeInDomain (getD map 0 0)
@@ -80,7 +81,7 @@ pub record Passes (pool : List (List ℕ)) (nexts stops jumps ends : List ℕ) (
 -- lengths that let every entry be read, and steps that fit
 pub record Ready (pool : List (List ℕ)) (nexts jumps : List ℕ) (used : ℕ) : Type 0 where
   pub in-pool : used ≤ length pool
-  pub most : used ≤ 8192
+  pub most : used ≤ mostEntries
   pub long : length nexts ≡ 512
   pub reach : (i : ℕ) → i < 512 → getD nexts i 0 ≤ keyMost
   pub steps : (i : ℕ) → i < 512 → getD jumps i 0 ≤ 4294967296

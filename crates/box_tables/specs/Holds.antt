@@ -4,12 +4,13 @@ use Prim.Native.Nat.{ℕ, _<_, _≤_}
 use mathlib.Core.Path.{_≡_}
 use lib.Dec.{T}
 use lib.ListN.{length}
+use Rattle.basics.specs.Limits.{mostCells}
 use Rattle.geometry.specs.Domain.{aabbInDomain}
 use Rattle.cells.specs.Size.{SizeInDomain}
 use Rattle.slots.specs.Slot.{live, phaseAt, SlotsHold}
 use Rattle.storage.specs.Packed.{first, second}
 use Rattle.coverage.specs.Coverage.{Stands}
-use Rattle.box_tables.specs.Tables.{Tables, sizeOf, usedOf, slotsOf, entriesIn, aabbOn, lowCell, highCell, covers, mostCells, itemOn, Sized}
+use Rattle.box_tables.specs.Tables.{Tables, sizeOf, usedOf, slotsOf, entriesIn, aabbOn, lowCell, highCell, covers, itemOn, Sized}
 
 -- the cell size is in its limits, and the entries in use are within the pool
 pub record Counted (t : Tables) : Type 0 where

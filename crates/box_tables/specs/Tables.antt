@@ -6,6 +6,7 @@ use mathlib.Core.List.{List, [], _∷_}
 use lib.Dec.{eqb}
 use lib.Ieee.{Float, nan}
 use lib.ListN.{length, getD, set, take}
+use Rattle.basics.specs.Limits.{mostBoxes, mostEntries}
 use Rattle.basics.specs.Refusals.{pick}
 use Rattle.geometry.specs.declared.Aabb.{Aabb}
 use Rattle.cells.specs.declared.Cell.{Cell}
@@ -70,10 +71,6 @@ highCell size b = cellAt size (b .ur)
 abbrev pub covers : ℕ → Aabb → ℕ
 covers size b = cellsIn (lowCell size b) (highCell size b)
 
--- the most cells that one box may cover
-abbrev pub mostCells : ℕ
-mostCells = 4096
-
 -- ---- an item of the pool: the slot of a box, with a mark when it covers one cell only
 abbrev pub itemOf : ℕ → Bool → ℕ
 itemOf s single = s * 2 + pick single 1 0
@@ -90,11 +87,11 @@ slotOf row = rowItem row / 2
 -- ---- the right lengths follow from n, from 1 to 256, and from the pool, from 1 to 8,192
 pub record Lengths (n reals map pool : ℕ) : Type 0 where
   pub some : 1 ≤ n
-  pub most : n ≤ 256
+  pub most : n ≤ mostBoxes
   pub of-reals : reals ≡ n
   pub of-map : map ≡ head + wordsFor n
   pub pool-some : 1 ≤ pool
-  pub pool-most : pool ≤ 8192
+  pub pool-most : pool ≤ mostEntries
 
 abbrev pub Sized : Tables → Type 0
 Sized t = Lengths (slotsOf t) (length (t .reals)) (length (t .map)) (length (t .pool))

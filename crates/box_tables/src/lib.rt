@@ -6,6 +6,7 @@ ghost use Prim.Native.Nat.{ℕ, _+_, _/_, _≤_, _<_};
 ghost use lib.Dec.{T};
 ghost use lib.IntN.{pos};
 ghost use lib.ListN.{length, getD};
+ghost use Rattle.basics.specs.Limits.{mostBoxes, mostCells};
 ghost use Rattle.basics.specs.Lent.{was, is};
 ghost use Rattle.basics.specs.Says.{Says};
 ghost use Rattle.geometry.specs.Domain.{inDomain, aabbInDomain};
@@ -16,13 +17,17 @@ ghost use Rattle.cells.specs.Key.{columnOf};
 ghost use Rattle.slots.specs.Map.{head};
 ghost use Rattle.box_tables.specs.Lent.{before};
 ghost use Rattle.box_tables.specs.Tables as Tables;
-ghost use Rattle.box_tables.specs.Tables.{Lengths, aabbAt, lowCell, highCell, mostCells, itemOf};
+ghost use Rattle.box_tables.specs.Tables.{Lengths, aabbAt, lowCell, highCell, itemOf};
 ghost use Rattle.box_tables.specs.Decide.{holds};
 ghost use Rattle.box_tables.specs.Way.{behind, spanOf, spanBy, Upright, wayOf, wayAt};
 ghost use Rattle.box_tables.specs.Check.{Counts, BoxOk, SlotOk, SlotsOk, Room, Ways, Given, Passes, Ready, Gone, Met};
 use cells::Cell;
 use geometry::Aabb;
 use geometry::Position;
+use slots::Row;
+
+// An item for each slot and mark.
+const ITEMS: usize = 512;
 
 // The range of cells that a box covers: its corner cells, and how many cells there are.
 pub struct Span {
@@ -38,7 +43,7 @@ pub fn lengths_ok(n: usize, reals: usize, map: usize, pool: usize) -> bool
     if n < 1 {
         return false;
     }
-    if 256 < n {
+    if basics::MOST_BOXES < n {
         return false;
     }
     if reals != n {
@@ -50,7 +55,7 @@ pub fn lengths_ok(n: usize, reals: usize, map: usize, pool: usize) -> bool
     if pool < 1 {
         return false;
     }
-    pool <= 8192
+    pool <= basics::MOST_ENTRIES
 }
 
 // The box of slot s.
@@ -91,7 +96,7 @@ pub fn covers(size: u64, b: Aabb) -> u64
 
 // The item of slot s: its mark says whether the box covers one cell only.
 pub fn item_of(s: usize, single: bool) -> u64
-    requires { ⌜ s < 256 ⌝ }
+    requires { ⌜ s < mostBoxes ⌝ }
     ensures { λ r. ⌜ r ≡ itemOf s single ⌝ }
 {
     let i = basics::word_of(s) * 2;
@@ -169,7 +174,7 @@ fn one_cell(size: u64, b: Aabb, c: Cell) -> bool
 
 // The way of a box through its cells: its first key, its last, the step from the end of a row to the next, and the item. The step is 0 if they are too many.
 fn way_of(s: usize, a: Cell, b: Cell) -> [u64; 4]
-    requires { ⌜ (s < 256) × Upright a b ⌝ }
+    requires { ⌜ (s < mostBoxes) × Upright a b ⌝ }
     ensures { λ r. ⌜ Given (cellsIn a b ≤ mostCells) (wayOf s (spanBy a b)) r ⌝ }
 {
     let low = cells::key_of(a);
@@ -177,7 +182,7 @@ fn way_of(s: usize, a: Cell, b: Cell) -> [u64; 4]
     let wide = cells::column_of(high) - cells::column_of(low);
     let tall = cells::row_of(high) - cells::row_of(low);
     let cells = (wide + 1) * (tall + 1);
-    if 4096 < cells {
+    if basics::MOST_CELLS < cells {
         return [0, 0, 0, 0];
     }
     let item = item_of(s, cells == 1);
@@ -186,7 +191,7 @@ fn way_of(s: usize, a: Cell, b: Cell) -> [u64; 4]
 
 // The way of a box of the domain.
 fn wide_way(size: u64, rate: f32, s: usize, b: Aabb) -> [u64; 4]
-    requires { ⌜ (s < 256) × SizeInDomain size × T (aabbInDomain b) × T (inDomain rate) ⌝ }
+    requires { ⌜ (s < mostBoxes) × SizeInDomain size × T (aabbInDomain b) × T (inDomain rate) ⌝ }
     ensures { λ r. ⌜ Given (Tables.covers size b ≤ mostCells) (wayOf s (spanOf size b)) r ⌝ }
 {
     let ll = b.ll;
@@ -202,7 +207,7 @@ fn wide_way(size: u64, rate: f32, s: usize, b: Aabb) -> [u64; 4]
 
 // The way of an occupied slot; its step is 0 if the box is not one of a grid. A box of one cell needs no count.
 fn live_way(reals: &[[f32; 4]], size: u64, rate: f32, s: usize) -> [u64; 4]
-    requires { ⌜ (s < length (now reals)) × (s < 256) × SizeInDomain size × T (inDomain rate) ⌝ }
+    requires { ⌜ (s < length (now reals)) × (s < mostBoxes) × SizeInDomain size × T (inDomain rate) ⌝ }
     ensures { λ r. ⌜ Given (BoxOk size (aabbAt (was reals) s)) (wayOf s (spanOf size (aabbAt (was reals) s))) r ⌝ }
 {
     let b = load_box(reals, s);
@@ -224,14 +229,14 @@ fn live_way(reals: &[[f32; 4]], size: u64, rate: f32, s: usize) -> [u64; 4]
 
 // The way of slot s, on which no key comes if it is not occupied; its step is 0 if the slot does not hold.
 fn slot_way(
-    nums: &[[u32; 4]],
+    nums: &[Row],
     reals: &[[f32; 4]],
     map: &[u64],
     size: u64,
     rate: f32,
     s: usize,
 ) -> [u64; 4]
-    requires { ⌜ (s < length (now nums)) × (s < length (now reals)) × (s < 256) × SizeInDomain size × (head + s / 64 < length (now map)) × T (inDomain rate) ⌝ }
+    requires { ⌜ (s < length (now nums)) × (s < length (now reals)) × (s < mostBoxes) × SizeInDomain size × (head + s / 64 < length (now map)) × T (inDomain rate) ⌝ }
     ensures { λ r. ⌜ Given (SlotOk (was nums) (was reals) (was map) size s) (wayAt (was nums) (was reals) size s) r ⌝ }
 {
     let n = nums[s];
@@ -239,7 +244,7 @@ fn slot_way(
     if !slots::slot_ok(n[0], n[1], mapped) {
         return [0, 0, 0, 0];
     }
-    if n[1] != 1 {
+    if n[1] != slots::LIVE {
         let item = item_of(s, false);
         return [1, 0, 1, item];
     }
@@ -248,13 +253,13 @@ fn slot_way(
 
 // Whether every slot holds; the ways are then those of the slots, each at its item.
 fn slots_ok(
-    nums: &[[u32; 4]],
+    nums: &[Row],
     reals: &[[f32; 4]],
     map: &[u64],
-    nexts: &mut [u64; 512],
-    stops: &mut [u32; 512],
-    jumps: &mut [u64; 512],
-    ends: &mut [u64; 512],
+    nexts: &mut [u64; ITEMS],
+    stops: &mut [u32; ITEMS],
+    jumps: &mut [u64; ITEMS],
+    ends: &mut [u64; ITEMS],
 ) -> bool
     requires { ⌜ Room (now nums) (now reals) (now map) × Ways (now nums) (now reals) (getD (now map) 0 0) (now nexts) (now stops) (now jumps) (now ends) 0 ⌝ }
     ensures says { λ b. ⌜ Says b (SlotsOk (was nums) (was reals) (was map)) ⌝ }
@@ -301,9 +306,9 @@ fn next_on(stop: u32, jump: u64, k: u64) -> u64
 fn pass(
     pool: &[[u64; 2]],
     used: usize,
-    nexts: &mut [u64; 512],
-    stops: &[u32; 512],
-    jumps: &[u64; 512],
+    nexts: &mut [u64; ITEMS],
+    stops: &[u32; ITEMS],
+    jumps: &[u64; ITEMS],
 ) -> usize
     requires { ⌜ Ready (now pool) (now nexts) (now jumps) used ⌝ }
     ensures gone { λ r. ⌜ (r ≡ used → Gone (was pool) (was stops) (was jumps) (was nexts) (is nexts) used) ⌝ }
@@ -318,7 +323,7 @@ fn pass(
         if key < before {
             return j;
         }
-        if 512 <= i {
+        if ITEMS <= i {
             return j;
         }
         if key != nexts[i] {
@@ -332,11 +337,11 @@ fn pass(
 }
 
 // Whether every way is at its end.
-fn all_met(nexts: &[u64; 512], ends: &[u64; 512]) -> bool
+fn all_met(nexts: &[u64; ITEMS], ends: &[u64; ITEMS]) -> bool
     ensures { λ b. ⌜ Says b (Met (was nexts) (was ends) 512) ⌝ }
 {
     let mut i = 0;
-    while i < 512 {
+    while i < ITEMS {
         if nexts[i] != ends[i] {
             return false;
         }
@@ -349,10 +354,10 @@ fn all_met(nexts: &[u64; 512], ends: &[u64; 512]) -> bool
 fn pool_ok(
     pool: &[[u64; 2]],
     used: usize,
-    nexts: &mut [u64; 512],
-    stops: &[u32; 512],
-    jumps: &[u64; 512],
-    ends: &[u64; 512],
+    nexts: &mut [u64; ITEMS],
+    stops: &[u32; ITEMS],
+    jumps: &[u64; ITEMS],
+    ends: &[u64; ITEMS],
 ) -> bool
     requires { ⌜ Ready (now pool) (now nexts) (now jumps) used ⌝ }
     ensures { λ b. ⌜ Says b (Passes (was pool) (was nexts) (was stops) (was jumps) (was ends) used) ⌝ }
@@ -364,7 +369,7 @@ fn pool_ok(
 }
 
 // Whether the tables hold a grid.
-pub fn check(nums: &[[u32; 4]], reals: &[[f32; 4]], map: &[u64], pool: &[[u64; 2]]) -> bool
+pub fn check(nums: &[Row], reals: &[[f32; 4]], map: &[u64], pool: &[[u64; 2]]) -> bool
     ensures { λ b. ⌜ b ≡ holds (before nums reals map pool) ⌝ }
 {
     if !lengths_ok(nums.len(), reals.len(), map.len(), pool.len()) {
@@ -374,10 +379,10 @@ pub fn check(nums: &[[u32; 4]], reals: &[[f32; 4]], map: &[u64], pool: &[[u64; 2
     if !counts_ok(map[0], used, pool.len()) {
         return false;
     }
-    let mut nexts = [0u64; 512];
-    let mut stops = [0u32; 512];
-    let mut jumps = [1u64; 512];
-    let mut ends = [0u64; 512];
+    let mut nexts = [0u64; ITEMS];
+    let mut stops = [0u32; ITEMS];
+    let mut jumps = [1u64; ITEMS];
+    let mut ends = [0u64; ITEMS];
     if !slots_ok(
         nums,
         reals,

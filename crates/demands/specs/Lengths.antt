@@ -7,6 +7,7 @@ use mathlib.Core.Bool.{false}
 use lib.IntN.{pos}
 use lib.Ieee.{Float, fin}
 use lib.ListN.{replicate, length-replicate}
+use Rattle.basics.specs.Limits.{mostBoxes, mostEntries, mostSlots}
 use Rattle.cells.specs.Size.{SizeInDomain}
 use Rattle.slots.specs.Map.{head, wordsFor}
 use Rattle.blank.proofs.laws.BlankLaws.{size-says}
@@ -32,7 +33,7 @@ pointTables n =
     Points.tables (replicate n (four 0)) (replicate n (four zero)) (replicate n (four (pos 0))) (replicate (head + wordsFor n) 0)
     (replicate n (two 0)) (replicate n (two zero)) (replicate n (two 0))
 
-point-sized : (n : ℕ) → 1 ≤ n → n ≤ 4096 → Points.Sized (pointTables n)
+point-sized : (n : ℕ) → 1 ≤ n → n ≤ mostSlots → Points.Sized (pointTables n)
 point-sized n some most =
     rw (length-replicate {A = List ℕ} n (four 0))
     (record {
@@ -46,7 +47,7 @@ point-sized n some most =
       of-cells = length-replicate n _;
     })
 
-pub point-lengths : (n size : ℕ) → 1 ≤ n → n ≤ 4096 → SizeInDomain size → PointNew.newOf (pointTables n) size .result ≡ 0
+pub point-lengths : (n size : ℕ) → 1 ≤ n → n ≤ mostSlots → SizeInDomain size → PointNew.newOf (pointTables n) size .result ≡ 0
 unfolding PointNew.newOf PointNew.newAnswer
 point-lengths n size some most d = rw (PointDecide.sized-says (pointTables n) .no (point-sized n some most), size-says size .no d)
 
@@ -55,7 +56,7 @@ abbrev pub boxTables : ℕ → ℕ → Boxes.Tables
 boxTables n pool =
     Boxes.tables (replicate n (four 0)) (replicate n (four zero)) (replicate (head + wordsFor n) 0) (replicate pool (two 0))
 
-box-sized : (n pool : ℕ) → 1 ≤ n → n ≤ 256 → 1 ≤ pool → pool ≤ 8192 → Boxes.Sized (boxTables n pool)
+box-sized : (n pool : ℕ) → 1 ≤ n → n ≤ mostBoxes → 1 ≤ pool → pool ≤ mostEntries → Boxes.Sized (boxTables n pool)
 box-sized n pool some most more few =
     rw (length-replicate {A = List ℕ} n (four 0), length-replicate {A = List ℕ} pool (two 0))
     (record {
@@ -67,6 +68,6 @@ box-sized n pool some most more few =
       pool-most = few;
     })
 
-pub box-lengths : (n pool size : ℕ) → 1 ≤ n → n ≤ 256 → 1 ≤ pool → pool ≤ 8192 → SizeInDomain size → BoxNew.newOf (boxTables n pool) size .result ≡ 0
+pub box-lengths : (n pool size : ℕ) → 1 ≤ n → n ≤ mostBoxes → 1 ≤ pool → pool ≤ mostEntries → SizeInDomain size → BoxNew.newOf (boxTables n pool) size .result ≡ 0
 unfolding BoxNew.newOf BoxNew.newAnswer
 box-lengths n pool size some most more few d = rw (BoxDecide.sized-says (boxTables n pool) .no (box-sized n pool some most more few), size-says size .no d)

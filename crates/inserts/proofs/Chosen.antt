@@ -18,8 +18,8 @@ use Rattle.point_tables.specs.Tables.{Tables, slotsOf}
 use Rattle.point_tables.specs.Decide.{holds, holds-says}
 use Rattle.point_tables.specs.Outcome.{outcome}
 use Rattle.replies.specs.declared.Inserted.{Inserted}
-use Rattle.inserts.specs.Insert.{usableSlot, put, insertAnswer, insertOf}
-use Rattle.inserts.specs.Fresh.{Fresh, Chose, answerBy}
+use Rattle.inserts.specs.Insert.{usableSlot, put, insertAnswer, insertOf, answerBy}
+use Rattle.inserts.specs.Fresh.{Fresh, Chose}
 use Rattle.inserts.proofs.laws.InsertLaws.{insert-done}
 use Rattle.replies.specs.Replies.{inserted}
 

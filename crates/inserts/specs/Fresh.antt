@@ -19,7 +19,6 @@ use Rattle.objects.specs.Columns.{numsOf, realsOf, intsOf}
 use Rattle.objects.specs.Occupied.{InDomain}
 use Rattle.point_tables.specs.Tables.{Tables, slotsOf}
 use Rattle.point_tables.specs.Holds.{Holds}
-pub use Rattle.inserts.specs.Insert.{answerBy}
 
 -- tables that hold a grid, a position of the domain, and a slot that is free
 pub record Fresh (t : Tables) (s : ℕ) (p : Position) : Type 0 where

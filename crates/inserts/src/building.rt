@@ -3,10 +3,11 @@ ghost use mathlib.Core.Path.{_≡_};
 ghost use Rattle.point_tables.specs.Lent.{after, before};
 ghost use Rattle.point_tables.specs.Outcome.{outcome};
 ghost use Rattle.inserts.specs.New.{newAnswer, newOf};
+use slots::Row;
 
 // The answer: the first refusal that applies, or 0.
 fn answer(
-    nums: &[[u32; 4]],
+    nums: &[Row],
     reals: &[[f32; 4]],
     ints: &[[i32; 4]],
     map: &[u64],
@@ -36,7 +37,7 @@ fn answer(
 
 // A grid of cells of `size` with no object, in tables of the right lengths, whatever they held.
 pub fn new(
-    nums: &mut [[u32; 4]],
+    nums: &mut [Row],
     reals: &[[f32; 4]],
     ints: &[[i32; 4]],
     map: &mut [u64],

@@ -3,6 +3,7 @@ ghost use mathlib.Core.Path.{_≡_};
 ghost use mathlib.Core.Bool.{true};
 ghost use Prim.Native.Nat.{_+_, _/_, _≤_, _<_};
 ghost use lib.ListN.{length};
+ghost use Rattle.basics.specs.Limits.{mostSlots};
 ghost use Rattle.basics.specs.Lent.{was, is};
 ghost use Rattle.slots.specs.Map.{wordsFor, taken, NonePast};
 ghost use Rattle.slots.specs.Slot.{versionAt};
@@ -20,6 +21,7 @@ use objects::Record;
 use objects::State;
 use replies::Inserted;
 use slots::Handle;
+use slots::Row;
 use slots::Usable;
 
 // The answer, and where it is 0 the slot.
@@ -29,8 +31,8 @@ struct Choice {
 }
 
 // The first refusal that applies, or the lowest usable slot.
-fn choose(nums: &[[u32; 4]], map: &[u64], held: bool, at: Position) -> Choice
-    requires { ⌜ (held ≡ true → (length (now map) ≡ 3 + wordsFor (length (now nums))) × (length (now nums) ≤ 4096) × NonePast (now map) (length (now nums))) ⌝ }
+fn choose(nums: &[Row], map: &[u64], held: bool, at: Position) -> Choice
+    requires { ⌜ (held ≡ true → (length (now map) ≡ 3 + wordsFor (length (now nums))) × (length (now nums) ≤ mostSlots) × NonePast (now map) (length (now nums))) ⌝ }
     ensures { λ r. ⌜ Chose held at (was map) (length (was nums)) (r .answer) (r .slot) ⌝ }
 {
     if !held {
@@ -47,8 +49,8 @@ fn choose(nums: &[[u32; 4]], map: &[u64], held: bool, at: Position) -> Choice
 }
 
 // The object is in slot s, at the version that the slot has.
-fn accepted(nums: &[[u32; 4]], s: usize) -> Inserted
-    requires { ⌜ (s < length (now nums)) × (length (now nums) ≤ 4096) ⌝ }
+fn accepted(nums: &[Row], s: usize) -> Inserted
+    requires { ⌜ (s < length (now nums)) × (length (now nums) ≤ mostSlots) ⌝ }
     ensures { λ r. ⌜ r ≡ inserted 0 s (versionAt (was nums) s) ⌝ }
 {
     let row = nums[s];
@@ -68,7 +70,7 @@ fn fresh_record(version: u32, at: Position, cell: Cell, obj: u32) -> Record
 {
     Record {
         version,
-        phase: 1,
+        phase: slots::LIVE,
         obj,
         position: at,
         cell,
@@ -78,7 +80,7 @@ fn fresh_record(version: u32, at: Position, cell: Cell, obj: u32) -> Record
 
 // Slot s takes the object: its version stays.
 fn occupy(
-    nums: &mut [[u32; 4]],
+    nums: &mut [Row],
     reals: &mut [[f32; 4]],
     ints: &mut [[i32; 4]],
     s: usize,
@@ -106,7 +108,7 @@ fn count(map: &mut [u64], s: usize, used: usize, rows: usize)
 
 // Slot s, which is free, takes the object, and its cell's list the entry.
 fn put(
-    nums: &mut [[u32; 4]],
+    nums: &mut [Row],
     reals: &mut [[f32; 4]],
     ints: &mut [[i32; 4]],
     map: &mut [u64],
@@ -137,7 +139,7 @@ fn put(
 }
 
 pub fn insert(
-    nums: &mut [[u32; 4]],
+    nums: &mut [Row],
     reals: &mut [[f32; 4]],
     ints: &mut [[i32; 4]],
     map: &mut [u64],

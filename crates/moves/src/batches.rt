@@ -20,6 +20,7 @@ use crate::call::unmarked;
 use crate::marks::mark_all;
 use geometry::Position;
 use slots::Handle;
+use slots::Row;
 
 fn batch_answer(held: bool, kinds: usize, handles: usize, positions: usize, out: usize) -> u32
     ensures { λ r. ⌜ r ≡ firstOf (unless ((eqb handles kinds && eqb positions kinds) && held) 3 ∷ unless (leb kinds out) 9 ∷ []) ⌝ }
@@ -41,7 +42,7 @@ fn batch_answer(held: bool, kinds: usize, handles: usize, positions: usize, out:
 
 // The calls one after the other.
 fn run(
-    nums: &mut [[u32; 4]],
+    nums: &mut [Row],
     reals: &mut [[f32; 4]],
     ints: &mut [[i32; 4]],
     map: &[u64],
@@ -80,7 +81,7 @@ fn run(
 
 // As `run`, for many calls: the marks come last.
 fn run_many(
-    nums: &mut [[u32; 4]],
+    nums: &mut [Row],
     reals: &mut [[f32; 4]],
     ints: &mut [[i32; 4]],
     map: &[u64],
@@ -124,7 +125,7 @@ fn run_many(
 
 // As `set_position` and `remove` one after the other, but with one check for all.
 pub fn batch(
-    nums: &mut [[u32; 4]],
+    nums: &mut [Row],
     reals: &mut [[f32; 4]],
     ints: &mut [[i32; 4]],
     map: &[u64],

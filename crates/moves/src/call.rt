@@ -14,14 +14,9 @@ use cells::Cell;
 use geometry::Position;
 use replies::Reply;
 use slots::Handle;
+use slots::Row;
 
-fn set_refusal(
-    nums: &[[u32; 4]],
-    reals: &[[f32; 4]],
-    ints: &[[i32; 4]],
-    h: Handle,
-    at: Position,
-) -> u32
+fn set_refusal(nums: &[Row], reals: &[[f32; 4]], ints: &[[i32; 4]], h: Handle, at: Position) -> u32
     requires { ⌜ (length (now reals) ≡ length (now nums)) × (length (now ints) ≡ length (now nums)) ⌝ }
     ensures { λ r. ⌜ r ≡ setRefusal (was nums) (recordAt (was nums) (was reals) (was ints) (h .slot) .state) h at ⌝ }
 {
@@ -39,7 +34,7 @@ fn set_refusal(
     0
 }
 
-fn remove_refusal(nums: &[[u32; 4]], h: Handle) -> u32
+fn remove_refusal(nums: &[Row], h: Handle) -> u32
     ensures { λ r. ⌜ r ≡ removeRefusal (was nums) h ⌝ }
 {
     if !slots::is_good(nums, h) {
@@ -50,7 +45,7 @@ fn remove_refusal(nums: &[[u32; 4]], h: Handle) -> u32
 
 // The answer: the first refusal that applies, or 0.
 fn refusal(
-    nums: &[[u32; 4]],
+    nums: &[Row],
     reals: &[[f32; 4]],
     ints: &[[i32; 4]],
     kind: u32,
@@ -78,7 +73,7 @@ fn tag_to(d: Cell, c: Cell) -> u32
 
 // The object at slot s has something pending.
 fn pend(
-    nums: &mut [[u32; 4]],
+    nums: &mut [Row],
     reals: &mut [[f32; 4]],
     ints: &mut [[i32; 4]],
     size: u64,
@@ -108,7 +103,7 @@ fn pend(
 
 // The object at slot s has something pending, and its cell is marked dirty.
 fn work(
-    nums: &mut [[u32; 4]],
+    nums: &mut [Row],
     reals: &mut [[f32; 4]],
     ints: &mut [[i32; 4]],
     map: &[u64],
@@ -129,7 +124,7 @@ fn work(
 
 // One deferred call, but for the mark of the object's cell.
 pub fn unmarked(
-    nums: &mut [[u32; 4]],
+    nums: &mut [Row],
     reals: &mut [[f32; 4]],
     ints: &mut [[i32; 4]],
     size: u64,
@@ -150,7 +145,7 @@ pub fn unmarked(
 }
 
 pub fn deferred(
-    nums: &mut [[u32; 4]],
+    nums: &mut [Row],
     reals: &mut [[f32; 4]],
     ints: &mut [[i32; 4]],
     map: &[u64],

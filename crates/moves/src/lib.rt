@@ -14,6 +14,7 @@ pub use batches::batch;
 use geometry::Position;
 use replies::Reply;
 use slots::Handle;
+use slots::Row;
 
 // The answer of a batch, and with 0 and 9 the number of its calls.
 pub struct BatchReply {
@@ -23,7 +24,7 @@ pub struct BatchReply {
 
 // The object takes `at` as its new position, pending: a relocation if the cell of `at` is not its recorded cell.
 pub fn set_position(
-    nums: &mut [[u32; 4]],
+    nums: &mut [Row],
     reals: &mut [[f32; 4]],
     ints: &mut [[i32; 4]],
     map: &[u64],
@@ -44,7 +45,7 @@ pub fn set_position(
 
 // The object is marked as removed, and its data returned; a second one before maintain returns it again.
 pub fn remove(
-    nums: &mut [[u32; 4]],
+    nums: &mut [Row],
     reals: &mut [[f32; 4]],
     ints: &mut [[i32; 4]],
     map: &[u64],

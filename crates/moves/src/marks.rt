@@ -4,6 +4,7 @@ ghost use mathlib.Core.List.{[], _∷_};
 ghost use lib.ListN.{length, getD};
 ghost use Rattle.basics.specs.Lent.{was, is};
 ghost use Rattle.moves.specs.Marks.{Walkable, MarkedTo};
+use slots::Row;
 
 // A row with its mark set.
 fn set_mark(row: [u64; 2]) -> [u64; 2]
@@ -13,13 +14,7 @@ fn set_mark(row: [u64; 2]) -> [u64; 2]
 }
 
 // Each cell in which something is pending is marked.
-pub fn mark_all(
-    nums: &[[u32; 4]],
-    pool: &[[u64; 2]],
-    used: usize,
-    cells: &mut [[u64; 2]],
-    rows: usize,
-)
+pub fn mark_all(nums: &[Row], pool: &[[u64; 2]], used: usize, cells: &mut [[u64; 2]], rows: usize)
     requires { ⌜ Walkable (now nums) (now pool) used (now cells) rows ⌝ }
     ensures { λ _. ⌜ MarkedTo (was nums) (was pool) used (was cells) rows (is cells) used ⌝ }
 {

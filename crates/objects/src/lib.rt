@@ -23,6 +23,7 @@ pub use entries::entry_row;
 pub use entries::entry_spot;
 pub use entries::spot_at;
 use geometry::Position;
+use slots::Row;
 pub use spans::span_at;
 
 // What maintain has still to do to an object.
@@ -97,7 +98,7 @@ pub fn target_of(s: State, c: Cell) -> Cell
     }
 }
 
-pub fn load(nums: &[[u32; 4]], reals: &[[f32; 4]], ints: &[[i32; 4]], i: usize) -> Record
+pub fn load(nums: &[Row], reals: &[[f32; 4]], ints: &[[i32; 4]], i: usize) -> Record
     requires { ⌜ (i < length (now nums)) × (i < length (now reals)) × (i < length (now ints)) ⌝ }
     ensures { λ r. ⌜ r ≡ recordAt (was nums) (was reals) (was ints) i ⌝ }
 {
@@ -119,13 +120,7 @@ pub fn load(nums: &[[u32; 4]], reals: &[[f32; 4]], ints: &[[i32; 4]], i: usize) 
     }
 }
 
-pub fn store(
-    nums: &mut [[u32; 4]],
-    reals: &mut [[f32; 4]],
-    ints: &mut [[i32; 4]],
-    i: usize,
-    r: Record,
-)
+pub fn store(nums: &mut [Row], reals: &mut [[f32; 4]], ints: &mut [[i32; 4]], i: usize, r: Record)
     requires { ⌜ (i < length (now nums)) × (i < length (now reals)) × (i < length (now ints)) ⌝ }
     ensures { λ _. ⌜ (is nums ≡ set (was nums) i (numsOf r)) × (is reals ≡ set (was reals) i (realsOf r)) × (is ints ≡ set (was ints) i (intsOf r)) ⌝ }
 {

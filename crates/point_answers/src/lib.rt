@@ -14,9 +14,10 @@ use lines::Spot;
 use printing::Said;
 use replies::Count;
 use slots::Handle;
+use slots::Row;
 
 fn ins(
-    nums: &mut [[u32; 4]],
+    nums: &mut [Row],
     reals: &mut [[f32; 4]],
     ints: &mut [[i32; 4]],
     map: &mut [u64],
@@ -36,7 +37,7 @@ fn ins(
 }
 
 fn pos(
-    nums: &mut [[u32; 4]],
+    nums: &mut [Row],
     reals: &mut [[f32; 4]],
     ints: &mut [[i32; 4]],
     map: &[u64],
@@ -55,7 +56,7 @@ fn pos(
 }
 
 fn rem(
-    nums: &mut [[u32; 4]],
+    nums: &mut [Row],
     reals: &mut [[f32; 4]],
     ints: &mut [[i32; 4]],
     map: &[u64],
@@ -71,7 +72,7 @@ fn rem(
 }
 
 fn now(
-    nums: &mut [[u32; 4]],
+    nums: &mut [Row],
     reals: &[[f32; 4]],
     ints: &[[i32; 4]],
     map: &mut [u64],
@@ -87,7 +88,7 @@ fn now(
 }
 
 fn mnt(
-    nums: &mut [[u32; 4]],
+    nums: &mut [Row],
     reals: &mut [[f32; 4]],
     ints: &mut [[i32; 4]],
     map: &mut [u64],
@@ -103,7 +104,7 @@ fn mnt(
 
 // A line that changes the points, with what its record says.
 pub fn change_points(
-    nums: &mut [[u32; 4]],
+    nums: &mut [Row],
     reals: &mut [[f32; 4]],
     ints: &mut [[i32; 4]],
     map: &mut [u64],
@@ -129,7 +130,7 @@ pub fn change_points(
 
 // Each line that searches the points is a query of the grid.
 fn find(
-    nums: &[[u32; 4]],
+    nums: &[Row],
     reals: &[[f32; 4]],
     ints: &[[i32; 4]],
     map: &[u64],
@@ -196,7 +197,7 @@ fn find(
 
 // A line that searches the points, with what its record says. The findings are in the outputs.
 pub fn search_points(
-    nums: &[[u32; 4]],
+    nums: &[Row],
     reals: &[[f32; 4]],
     ints: &[[i32; 4]],
     map: &[u64],

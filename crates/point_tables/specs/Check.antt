@@ -4,6 +4,7 @@ use mathlib.Core.Path.{_≡_}
 use mathlib.Core.Bool.{Bool, true, false}
 use mathlib.Core.List.{List}
 use lib.ListN.{length, getD}
+use Rattle.basics.specs.Limits.{mostSlots}
 use Rattle.basics.specs.Counting.{countBelow}
 use Rattle.cells.specs.Size.{SizeInDomain}
 use Rattle.slots.specs.Map.{head, wordsFor, usable, NonePast}
@@ -33,7 +34,7 @@ module _ (nums : List (List ℕ)) (map : List ℕ) where
 
   -- lengths that let every slot be read
   pub record Room : Type 0 where
-    pub most : length nums ≤ 4096
+    pub most : length nums ≤ mostSlots
     pub of-map : length map ≡ head + wordsFor (length nums)
 
 -- `used` slots are marked, and each of these is occupied, at a version that is not 0

@@ -5,6 +5,7 @@ use mathlib.Core.List.{List}
 use lib.IntN.{ℤ}
 use lib.Ieee.{Float}
 use lib.ListN.{length, getD, set, take}
+use Rattle.basics.specs.Limits.{mostSlots}
 use Rattle.objects.specs.declared.Record.{Record}
 use Rattle.objects.specs.Columns.{recordAt}
 use Rattle.slots.specs.Map.{head, wordsFor}
@@ -59,7 +60,7 @@ cellRows t = take (rowsOf t) (t .cells)
 -- ---- the right lengths follow from n alone, n from 1 to 4,096
 pub record Lengths (n reals ints map pool spots cells : ℕ) : Type 0 where
   pub some : 1 ≤ n
-  pub most : n ≤ 4096
+  pub most : n ≤ mostSlots
   pub of-reals : reals ≡ n
   pub of-ints : ints ≡ n
   pub of-map : map ≡ head + wordsFor n

@@ -3,6 +3,7 @@ ghost use mathlib.Core.Path.{_≡_};
 ghost use mathlib.Core.Bool.{true, false};
 ghost use Prim.Native.Nat.{ℕ, _+_, _/_, _≤_, _<_};
 ghost use lib.ListN.{length, getD};
+ghost use Rattle.basics.specs.Limits.{mostSlots};
 ghost use Rattle.basics.specs.Lent.{was};
 ghost use Rattle.basics.specs.Says.{Says};
 ghost use Rattle.slots.specs.Map.{usable};
@@ -10,6 +11,7 @@ ghost use Rattle.point_tables.specs.Lent.{before};
 ghost use Rattle.point_tables.specs.Tables.{Lengths};
 ghost use Rattle.point_tables.specs.Decide.{holds};
 ghost use Rattle.point_tables.specs.Check.{Counts, SlotOk, EachOk, SlotsOk, Room, FreeAt, Listed};
+use slots::Row;
 
 // Whether the tables have the lengths of n slots.
 pub fn lengths_ok(
@@ -26,7 +28,7 @@ pub fn lengths_ok(
     if n < 1 {
         return false;
     }
-    if 4096 < n {
+    if basics::MOST_SLOTS < n {
         return false;
     }
     if reals != n {
@@ -61,7 +63,7 @@ fn counts_ok(n: usize, size: u64, used: usize, rows: usize) -> bool
 }
 
 // Whether a slot holds, which an entry names if it is listed; and an occupied one is listed.
-fn slot_ok(nums: &[[u32; 4]], map: &[u64], s: usize, listed: bool) -> bool
+fn slot_ok(nums: &[Row], map: &[u64], s: usize, listed: bool) -> bool
     requires { ⌜ (s < length (now nums)) × (3 + s / 64 < length (now map)) ⌝ }
     ensures { λ b. ⌜ Says b (SlotOk (was nums) (was map) s listed) ⌝ }
 {
@@ -70,14 +72,14 @@ fn slot_ok(nums: &[[u32; 4]], map: &[u64], s: usize, listed: bool) -> bool
     if !slots::slot_ok(n[0], n[1], mapped) {
         return false;
     }
-    if n[1] != 1 {
+    if n[1] != slots::LIVE {
         return true;
     }
     listed
 }
 
 // Whether each slot holds, and each occupied one is marked as named by an entry.
-fn each_ok(nums: &[[u32; 4]], map: &[u64], marks: &[bool; 4096]) -> bool
+fn each_ok(nums: &[Row], map: &[u64], marks: &[bool; basics::MOST_SLOTS]) -> bool
     requires { ⌜ Room (now nums) (now map) ⌝ }
     ensures { λ b. ⌜ Says b (EachOk (was nums) (was map) (was marks)) ⌝ }
 {
@@ -93,7 +95,7 @@ fn each_ok(nums: &[[u32; 4]], map: &[u64], marks: &[bool; 4096]) -> bool
 }
 
 // Whether slot s is free, if the map has it.
-fn free_at(nums: &[[u32; 4]], map: &[u64], s: usize) -> bool
+fn free_at(nums: &[Row], map: &[u64], s: usize) -> bool
     requires { ⌜ (s < length (now nums)) × (3 + s / 64 < length (now map)) ⌝ }
     ensures { λ b. ⌜ Says b (FreeAt (was nums) (was map) s) ⌝ }
 {
@@ -104,12 +106,12 @@ fn free_at(nums: &[[u32; 4]], map: &[u64], s: usize) -> bool
     if n[0] == 0 {
         return false;
     }
-    n[1] == 0
+    n[1] == slots::FREE
 }
 
 // The next slot that the map may have: a word with no bit is passed at once.
 fn next_after(map: &[u64], s: usize) -> usize
-    requires { ⌜ (s < 4096) × (3 + s / 64 < length (now map)) ⌝ }
+    requires { ⌜ (s < mostSlots) × (3 + s / 64 < length (now map)) ⌝ }
     ensures { λ r. ⌜ (s < r) × ((k : ℕ) → s < k → k < r → usable (was map) k ≡ 0) ⌝ }
 {
     if map[3 + s / 64] == 0 {
@@ -119,7 +121,7 @@ fn next_after(map: &[u64], s: usize) -> usize
 }
 
 // Whether each slot that the map has is free.
-fn free_ok(nums: &[[u32; 4]], map: &[u64]) -> bool
+fn free_ok(nums: &[Row], map: &[u64]) -> bool
     requires { ⌜ Room (now nums) (now map) ⌝ }
     ensures { λ b. ⌜ Says b ((s : ℕ) → s < length (was nums) → FreeAt (was nums) (was map) s) ⌝ }
 {
@@ -134,7 +136,7 @@ fn free_ok(nums: &[[u32; 4]], map: &[u64]) -> bool
 }
 
 // Whether every slot holds, and every occupied one is marked; `used` slots are. Where these and the slots that the map has are all, it is enough that the latter are free.
-fn slots_ok(nums: &[[u32; 4]], map: &[u64], used: usize, marks: &[bool; 4096]) -> bool
+fn slots_ok(nums: &[Row], map: &[u64], used: usize, marks: &[bool; basics::MOST_SLOTS]) -> bool
     requires { ⌜ Room (now nums) (now map) × Listed (now nums) (now marks) used ⌝ }
     ensures { λ b. ⌜ Says b (SlotsOk (was nums) (was map) (was marks)) ⌝ }
 {
@@ -150,7 +152,7 @@ fn slots_ok(nums: &[[u32; 4]], map: &[u64], used: usize, marks: &[bool; 4096]) -
 
 // Whether the tables hold a grid.
 pub fn check(
-    nums: &[[u32; 4]],
+    nums: &[Row],
     reals: &[[f32; 4]],
     ints: &[[i32; 4]],
     map: &[u64],
@@ -177,7 +179,7 @@ pub fn check(
     if !counts_ok(nums.len(), size, used, rows) {
         return false;
     }
-    let mut marks = [false; 4096];
+    let mut marks = [false; basics::MOST_SLOTS];
     if !pool_pass::pool_ok(
         nums,
         reals,

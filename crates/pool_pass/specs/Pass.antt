@@ -6,6 +6,7 @@ use mathlib.Core.List.{List, []}
 use lib.IntN.{ℤ}
 use lib.Ieee.{Float, isNan}
 use lib.ListN.{length, getD}
+use Rattle.basics.specs.Limits.{mostSlots}
 use Rattle.cells.specs.declared.Cell.{Cell}
 use Rattle.cells.specs.Size.{SizeInDomain}
 use Rattle.cells.specs.Key.{keyOf, cellOfKey}
@@ -88,7 +89,7 @@ module _ (nums : List (List ℕ)) (reals : List (List Float)) (ints : List (List
 
   -- lengths that let every entry and every row be read, and a cell size of the domain
   pub record Room (used rows : ℕ) : Type 0 where
-    pub most : length nums ≤ 4096
+    pub most : length nums ≤ mostSlots
     pub of-reals : length reals ≡ length nums
     pub of-ints : length ints ≡ length nums
     pub in-pool : used ≤ length pool

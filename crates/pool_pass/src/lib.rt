@@ -4,6 +4,7 @@ ghost use mathlib.Core.Path.{_≡_};
 ghost use mathlib.Core.Bool.{true, false};
 ghost use Prim.Native.Nat.{ℕ, _≤_, _<_};
 ghost use lib.ListN.{length, getD, replicate};
+ghost use Rattle.basics.specs.Limits.{mostSlots};
 ghost use Rattle.basics.specs.Lent.{was, is};
 ghost use Rattle.basics.specs.Says.{Says};
 ghost use Rattle.cells.specs.Size.{SizeInDomain};
@@ -15,10 +16,11 @@ use cells::Cell;
 use cells::Span;
 use geometry::Position;
 use objects::Entry;
+use slots::Row;
 
 // Whether an entry is that of its slot, and the slot's record holds, in the list of cell c with this mark.
 fn entry_ok(
-    nums: &[[u32; 4]],
+    nums: &[Row],
     reals: &[[f32; 4]],
     ints: &[[i32; 4]],
     size: u64,
@@ -39,7 +41,7 @@ fn entry_ok(
         return false;
     }
     let n = nums[s];
-    if n[1] != 1 {
+    if n[1] != slots::LIVE {
         return false;
     }
     if n[0] == 0 {
@@ -66,7 +68,7 @@ fn entry_ok(
 
 // The end of the run of entries from entry `from` on that are right in the list of this key and mark; the marks are set for the slots that they name.
 fn run_end(
-    nums: &[[u32; 4]],
+    nums: &[Row],
     reals: &[[f32; 4]],
     ints: &[[i32; 4]],
     pool: &[[u64; 2]],
@@ -78,14 +80,14 @@ fn run_end(
     y: Span,
     mark: u64,
     from: usize,
-    marks: &mut [bool; 4096],
+    marks: &mut [bool; basics::MOST_SLOTS],
     known: &mut [u64; 128],
     ends: &mut [[f32; 2]; 128],
 ) -> usize
     requires cell { ⌜ (c ≡ cellOfKey key) × Spans size (c .y) (y .lo) (y .hi) × Kept size (now known) (now ends) ⌝ }
-    requires { ⌜ (length (now nums) ≤ 4096) × (length (now reals) ≡ length (now nums)) × (length (now ints) ≡ length (now nums)) × (used ≤ length (now pool)) × (used ≤ length (now spots)) × SizeInDomain size × (from ≤ used) × Named (now pool) (now marks) from × (length (now marks) ≡ 4096) ⌝ }
+    requires { ⌜ (length (now nums) ≤ mostSlots) × (length (now reals) ≡ length (now nums)) × (length (now ints) ≡ length (now nums)) × (used ≤ length (now pool)) × (used ≤ length (now spots)) × SizeInDomain size × (from ≤ used) × Named (now pool) (now marks) from × (length (now marks) ≡ mostSlots) ⌝ }
     ensures run { λ e. ⌜ Run (was nums) (was reals) (was ints) (was pool) (was spots) size used key mark from e ⌝ }
-    ensures named { λ e. ⌜ Named (was pool) (is marks) e × (length (is marks) ≡ 4096) ⌝ }
+    ensures named { λ e. ⌜ Named (was pool) (is marks) e × (length (is marks) ≡ mostSlots) ⌝ }
     ensures kept { λ e. ⌜ Kept size (is known) (is ends) ⌝ }
 {
     let x = objects::span_at(size, cells::column_of(key), known, ends);
@@ -123,7 +125,7 @@ fn follows(last: u64, row: [u64; 2]) -> bool
 // Most rows have the line of the row before, so the ends of its span are kept; the spans of columns come again, and are in `known` and `ends`.
 // At first the key is 0, that of no object, and each span is empty.
 pub fn pool_ok(
-    nums: &[[u32; 4]],
+    nums: &[Row],
     reals: &[[f32; 4]],
     ints: &[[i32; 4]],
     pool: &[[u64; 2]],
@@ -132,9 +134,9 @@ pub fn pool_ok(
     used: usize,
     rows: usize,
     size: u64,
-    marks: &mut [bool; 4096],
+    marks: &mut [bool; basics::MOST_SLOTS],
 ) -> bool
-    requires { ⌜ Room (now nums) (now reals) (now ints) (now pool) (now spots) (now cells) size used rows × (now marks ≡ replicate 4096 false) ⌝ }
+    requires { ⌜ Room (now nums) (now reals) (now ints) (now pool) (now spots) (now cells) size used rows × (now marks ≡ replicate mostSlots false) ⌝ }
     ensures says { λ b. ⌜ Says b (Passes (was nums) (was reals) (was ints) (was pool) (was spots) (was cells) size used rows) ⌝ }
     ensures named { λ b. ⌜ (b ≡ true → Named (was pool) (is marks) used) ⌝ }
 {

@@ -5,6 +5,7 @@ use mathlib.Core.List.{List, [], _∷_, map}
 use lib.Dec.{leb}
 use lib.Ieee.{Float}
 use lib.ListN.{length, take}
+use Rattle.basics.specs.Limits.{mostSlots}
 use Rattle.basics.specs.Refusals.{pick}
 use Rattle.slots.specs.Slot.{versionAt}
 use Rattle.storage.specs.Keyed.{Sorted, written}
@@ -45,7 +46,7 @@ filled nums pool spots js handles places =
 
 -- what a search asks of the columns: the first `used` rows of the pool are sorted, with a spot beside each
 pub record Stocked (pool : List (List ℕ)) (spots : List (List Float)) (used : ℕ) : Type 0 where
-  pub most : used ≤ 4096
+  pub most : used ≤ mostSlots
   pub in-pool : used ≤ length pool
   pub in-spots : used ≤ length spots
   pub sorted : Sorted rowKey (take used pool)

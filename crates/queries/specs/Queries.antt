@@ -6,6 +6,7 @@ use mathlib.Core.List.{List, [], _∷_, map}
 use lib.Dec.{eqb, leb}
 use lib.Ieee.{Float}
 use lib.ListN.{length}
+use Rattle.basics.specs.Limits.{mostCells}
 use Rattle.basics.specs.Refusals.{Refusal, unless, firstOf, pick, byTests}
 use Rattle.geometry.specs.declared.Position.{Position}
 use Rattle.geometry.specs.Domain.{positionInDomain, radiusInDomain}
@@ -24,10 +25,6 @@ use Rattle.queries.specs.declared.Test.{Test}
 use Rattle.queries.specs.declared.Test.the-variants.{Any, Circle, Rectangle}
 use Rattle.replies.specs.declared.Count.{Count}
 use Rattle.replies.specs.Replies.{count}
-
--- the most cells that a range of a query may have
-abbrev pub mostCells : ℕ
-mostCells = 4096
 
 abbrev pub passes : Test → Position → Bool
 passes Any p = true

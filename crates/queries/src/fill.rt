@@ -3,6 +3,7 @@ ghost use mathlib.Core.Path.{_≡_};
 ghost use mathlib.Core.List.{_++_, map};
 ghost use Prim.Native.Nat.{ℕ, _+_, _-_, _≤_, _<_};
 ghost use lib.ListN.{length, getD, set, take};
+ghost use Rattle.basics.specs.Limits.{mostSlots};
 ghost use Rattle.basics.specs.Lent.{was, is};
 ghost use Rattle.cells.specs.Numbers.{Near};
 ghost use Rattle.storage.specs.Keyed.{written};
@@ -20,10 +21,11 @@ use cells::Cell;
 use objects::Entry;
 use replies::Count;
 use slots::Handle;
+use slots::Row;
 
 // What is reported of an entry: the handle of its slot, and its position.
-fn finding_of(nums: &[[u32; 4]], e: Entry) -> Finding
-    requires { ⌜ (e .slot < length (now nums)) × (length (now nums) ≤ 4096) ⌝ }
+fn finding_of(nums: &[Row], e: Entry) -> Finding
+    requires { ⌜ (e .slot < length (now nums)) × (length (now nums) ≤ mostSlots) ⌝ }
     ensures { λ r. ⌜ r ≡ findingOf (was nums) e ⌝ }
 {
     let s = e.slot;
@@ -51,7 +53,7 @@ fn put_finding(handles: &mut [[u32; 2]], places: &mut [[f32; 2]], k: usize, f: F
 
 // Writes what is reported of the entries at the first r places found, from place 0 of the outputs on.
 fn put_findings(
-    nums: &[[u32; 4]],
+    nums: &[Row],
     pool: &[[u64; 2]],
     spots: &[[f32; 2]],
     found: &[u32],
@@ -59,7 +61,7 @@ fn put_findings(
     handles: &mut [[u32; 2]],
     places: &mut [[f32; 2]],
 )
-    requires { ⌜ (r ≤ length (now found)) × (r ≤ length (now handles)) × (r ≤ length (now places)) × (length (now nums) ≤ 4096) × ((k : ℕ) → k < r → Findable (now nums) (now pool) (now spots) (getD (now found) k 0)) ⌝ }
+    requires { ⌜ (r ≤ length (now found)) × (r ≤ length (now handles)) × (r ≤ length (now places)) × (length (now nums) ≤ mostSlots) × ((k : ℕ) → k < r → Findable (now nums) (now pool) (now spots) (getD (now found) k 0)) ⌝ }
     ensures { λ _. ⌜ (is handles ≡ written (map (handleAt (was nums) (was pool) (was spots)) (take r (was found))) (was handles)) × (is places ≡ written (map (placeAt (was nums) (was pool) (was spots)) (take r (was found))) (was places)) ⌝ }
 {
     let mut k = 0;
@@ -74,7 +76,7 @@ fn put_findings(
 
 // Writes the findings of the first r places found, unless an output is too short: nothing is written before that is known.
 fn report(
-    nums: &[[u32; 4]],
+    nums: &[Row],
     pool: &[[u64; 2]],
     spots: &[[f32; 2]],
     found: &[u32],
@@ -82,7 +84,7 @@ fn report(
     handles: &mut [[u32; 2]],
     places: &mut [[f32; 2]],
 ) -> Count
-    requires { ⌜ (r ≤ length (now found)) × (r ≤ 4096) × (length (now nums) ≤ 4096) × ((k : ℕ) → k < r → Findable (now nums) (now pool) (now spots) (getD (now found) k 0)) ⌝ }
+    requires { ⌜ (r ≤ length (now found)) × (r ≤ mostSlots) × (length (now nums) ≤ mostSlots) × ((k : ℕ) → k < r → Findable (now nums) (now pool) (now spots) (getD (now found) k 0)) ⌝ }
     ensures { λ c. ⌜ findings c (is handles) (is places) ≡ filled (was nums) (was pool) (was spots) (take r (was found)) (was handles) (was places) ⌝ }
 {
     let number = r as u32;
@@ -107,7 +109,7 @@ fn report(
 
 // The first n places of the small array go to the large one, so that none is looked for twice.
 fn copy(few: &[u32], n: usize, all: &mut [u32])
-    requires { ⌜ (n ≤ length (now few)) × (n ≤ length (now all)) × (length (now all) ≤ 4096) ⌝ }
+    requires { ⌜ (n ≤ length (now few)) × (n ≤ length (now all)) × (length (now all) ≤ mostSlots) ⌝ }
     ensures { λ _. ⌜ (is all ≡ written (take n (was few)) (was all)) × (length (is all) ≡ length (was all)) ⌝ }
 {
     let mut k = 0;
@@ -119,7 +121,7 @@ fn copy(few: &[u32], n: usize, all: &mut [u32])
 
 // More places than `few` has room for: the collecting goes on in an array that holds them all.
 fn fill_many(
-    nums: &[[u32; 4]],
+    nums: &[Row],
     pool: &[[u64; 2]],
     spots: &[[f32; 2]],
     used: usize,
@@ -131,10 +133,10 @@ fn fill_many(
     handles: &mut [[u32; 2]],
     places: &mut [[f32; 2]],
 ) -> Count
-    requires { ⌜ Stocked (now pool) (now spots) used × Near a × Near b × (length (now nums) ≤ 4096) × ((j : ℕ) → j < used → Findable (now nums) (now pool) (now spots) j) × (part .place ≤ used) × Begun a b test (now pool) (now spots) (part .number) (part .place) (now few) ⌝ }
+    requires { ⌜ Stocked (now pool) (now spots) used × Near a × Near b × (length (now nums) ≤ mostSlots) × ((j : ℕ) → j < used → Findable (now nums) (now pool) (now spots) j) × (part .place ≤ used) × Begun a b test (now pool) (now spots) (part .number) (part .place) (now few) ⌝ }
     ensures { λ r. ⌜ findings r (is handles) (is places) ≡ filled (was nums) (was pool) (was spots) (placesOf a b test (was pool) (was spots) used) (was handles) (was places) ⌝ }
 {
-    let mut all: [u32; 4096] = [0; 4096];
+    let mut all: [u32; basics::MOST_SLOTS] = [0; basics::MOST_SLOTS];
     copy(few, part.number, &mut all);
     let whole = gather(pool, spots, used, a, b, test, part, &mut all);
     report(nums, pool, spots, &all, whole.number, handles, places)
@@ -142,7 +144,7 @@ fn fill_many(
 
 // An output has not room for all entries in use: the places are collected in one pass, in a small array as long as they fit, before any is written.
 fn fill_few(
-    nums: &[[u32; 4]],
+    nums: &[Row],
     pool: &[[u64; 2]],
     spots: &[[f32; 2]],
     used: usize,
@@ -152,7 +154,7 @@ fn fill_few(
     handles: &mut [[u32; 2]],
     places: &mut [[f32; 2]],
 ) -> Count
-    requires { ⌜ Stocked (now pool) (now spots) used × Near a × Near b × (length (now nums) ≤ 4096) × ((j : ℕ) → j < used → Findable (now nums) (now pool) (now spots) j) ⌝ }
+    requires { ⌜ Stocked (now pool) (now spots) used × Near a × Near b × (length (now nums) ≤ mostSlots) × ((j : ℕ) → j < used → Findable (now nums) (now pool) (now spots) j) ⌝ }
     ensures { λ r. ⌜ findings r (is handles) (is places) ≡ filled (was nums) (was pool) (was spots) (placesOf a b test (was pool) (was spots) used) (was handles) (was places) ⌝ }
 {
     let mut few: [u32; 256] = [0; 256];
@@ -181,7 +183,7 @@ fn fill_few(
 
 // Writes what is reported of the entries of a stretch whose positions pass, from place n of the outputs on. Returns the place behind them.
 fn put_run(
-    nums: &[[u32; 4]],
+    nums: &[Row],
     pool: &[[u64; 2]],
     spots: &[[f32; 2]],
     from: usize,
@@ -191,7 +193,7 @@ fn put_run(
     handles: &mut [[u32; 2]],
     places: &mut [[f32; 2]],
 ) -> usize
-    requires { ⌜ (n ≤ from) × (from ≤ to) × (to ≤ 4096) × (to ≤ length (now handles)) × (to ≤ length (now places)) × (length (now nums) ≤ 4096) × ((j : ℕ) → j < to → Findable (now nums) (now pool) (now spots) j) ⌝ }
+    requires { ⌜ (n ≤ from) × (from ≤ to) × (to ≤ mostSlots) × (to ≤ length (now handles)) × (to ≤ length (now places)) × (length (now nums) ≤ mostSlots) × ((j : ℕ) → j < to → Findable (now nums) (now pool) (now spots) j) ⌝ }
     ensures { λ r. ⌜ (r ≡ n + length (placesIn (spotPasses test (was spots)) from (to - from))) × (is handles ≡ written (take n (was handles) ++ map (handleAt (was nums) (was pool) (was spots)) (placesIn (spotPasses test (was spots)) from (to - from))) (was handles)) × (is places ≡ written (take n (was places) ++ map (placeAt (was nums) (was pool) (was spots)) (placesIn (spotPasses test (was spots)) from (to - from))) (was places)) ⌝ }
 {
     let mut k = n;
@@ -211,7 +213,7 @@ fn put_run(
 
 // The same of the whole range, from place 0 on.
 fn put_range(
-    nums: &[[u32; 4]],
+    nums: &[Row],
     pool: &[[u64; 2]],
     spots: &[[f32; 2]],
     used: usize,
@@ -221,7 +223,7 @@ fn put_range(
     handles: &mut [[u32; 2]],
     places: &mut [[f32; 2]],
 ) -> usize
-    requires { ⌜ Stocked (now pool) (now spots) used × Near a × Near b × (length (now nums) ≤ 4096) × ((j : ℕ) → j < used → Findable (now nums) (now pool) (now spots) j) × (used ≤ length (now handles)) × (used ≤ length (now places)) ⌝ }
+    requires { ⌜ Stocked (now pool) (now spots) used × Near a × Near b × (length (now nums) ≤ mostSlots) × ((j : ℕ) → j < used → Findable (now nums) (now pool) (now spots) j) × (used ≤ length (now handles)) × (used ≤ length (now places)) ⌝ }
     ensures { λ r. ⌜ (r ≡ length (placesOf a b test (was pool) (was spots) used)) × (is handles ≡ written (map (handleAt (was nums) (was pool) (was spots)) (placesOf a b test (was pool) (was spots) used)) (was handles)) × (is places ≡ written (map (placeAt (was nums) (was pool) (was spots)) (placesOf a b test (was pool) (was spots) used)) (was places)) ⌝ }
 {
     let low = cells::key_of(a);
@@ -248,7 +250,7 @@ fn put_range(
 
 // What a search writes and returns. Outputs with room for all entries in use are never too short: what is found is written as it is met.
 pub fn fill(
-    nums: &[[u32; 4]],
+    nums: &[Row],
     pool: &[[u64; 2]],
     spots: &[[f32; 2]],
     used: usize,
@@ -258,7 +260,7 @@ pub fn fill(
     handles: &mut [[u32; 2]],
     places: &mut [[f32; 2]],
 ) -> Count
-    requires { ⌜ Stocked (now pool) (now spots) used × Near a × Near b × (length (now nums) ≤ 4096) × ((j : ℕ) → j < used → Findable (now nums) (now pool) (now spots) j) ⌝ }
+    requires { ⌜ Stocked (now pool) (now spots) used × Near a × Near b × (length (now nums) ≤ mostSlots) × ((j : ℕ) → j < used → Findable (now nums) (now pool) (now spots) j) ⌝ }
     ensures { λ r. ⌜ findings r (is handles) (is places) ≡ filled (was nums) (was pool) (was spots) (placesOf a b test (was pool) (was spots) used) (was handles) (was places) ⌝ }
 {
     if lesser(handles.len(), places.len()) < used {

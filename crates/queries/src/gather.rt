@@ -3,6 +3,7 @@ ghost use mathlib.Core.Path.{_≡_};
 ghost use mathlib.Core.List.{_++_};
 ghost use Prim.Native.Nat.{_+_, _-_, _≤_, min};
 ghost use lib.ListN.{length, take};
+ghost use Rattle.basics.specs.Limits.{mostSlots};
 ghost use Rattle.basics.specs.Lent.{was, is};
 ghost use Rattle.cells.specs.Numbers.{Near};
 ghost use Rattle.storage.specs.Keyed.{written};
@@ -34,7 +35,7 @@ fn gather_run(
     n: usize,
     places: &mut [u32],
 ) -> usize
-    requires { ⌜ (from ≤ to) × (to ≤ length (now spots)) × (to ≤ 4096) × (n + (to - from) ≤ length (now places)) × (length (now places) ≤ 4096) ⌝ }
+    requires { ⌜ (from ≤ to) × (to ≤ length (now spots)) × (to ≤ mostSlots) × (n + (to - from) ≤ length (now places)) × (length (now places) ≤ mostSlots) ⌝ }
     ensures { λ r. ⌜ (r ≡ n + length (placesIn (spotPasses test (was spots)) from (to - from))) × (is places ≡ written (take n (was places) ++ placesIn (spotPasses test (was spots)) from (to - from)) (was places)) ⌝ }
 {
     let mut k = n;
@@ -68,7 +69,7 @@ fn gather_part(
     n: usize,
     places: &mut [u32],
 ) -> Part
-    requires { ⌜ (from ≤ to) × (to ≤ length (now spots)) × (to ≤ 4096) × (n ≤ length (now places)) × (length (now places) ≤ 4096) ⌝ }
+    requires { ⌜ (from ≤ to) × (to ≤ length (now spots)) × (to ≤ mostSlots) × (n ≤ length (now places)) × (length (now places) ≤ mostSlots) ⌝ }
     ensures { λ r. ⌜ Gathered (spotPasses test (was spots)) from to n (was places) (r .number) (r .place) (is places) ⌝ }
 {
     let mut k = n;
@@ -102,7 +103,7 @@ pub fn gather(
     start: Part,
     places: &mut [u32],
 ) -> Part
-    requires { ⌜ Stocked (now pool) (now spots) used × Near a × Near b × (start .place ≤ used) × Begun a b test (now pool) (now spots) (start .number) (start .place) (now places) × (length (now places) ≤ 4096) ⌝ }
+    requires { ⌜ Stocked (now pool) (now spots) used × Near a × Near b × (start .place ≤ used) × Begun a b test (now pool) (now spots) (start .number) (start .place) (now places) × (length (now places) ≤ mostSlots) ⌝ }
     ensures { λ r. ⌜ Begun a b test (was pool) (was spots) (r .number) (r .place) (is places) × (r .place ≤ used) × (used ≤ length (was places) → r .place ≡ used) ⌝ }
 {
     let low = cells::key_of(a);

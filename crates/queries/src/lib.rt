@@ -19,6 +19,7 @@ use geometry::radius_in_domain;
 use geometry::upper_corner;
 use replies::Count;
 use slots::Handle;
+use slots::Row;
 
 // What a found position must pass, besides standing in the range: nothing, a circle of a centre and a radius, or a rectangle of two corners.
 pub enum Test {
@@ -41,7 +42,7 @@ pub struct Part {
 
 // What the three queries are: the range from the cell of `ll` to that of `ur`, and a test. `ok` says whether the numbers that were given are in the domain.
 fn search(
-    nums: &[[u32; 4]],
+    nums: &[Row],
     reals: &[[f32; 4]],
     ints: &[[i32; 4]],
     map: &[u64],
@@ -67,7 +68,7 @@ fn search(
     let size = map[0];
     let a = cell_at(size, ll);
     let b = cell_at(size, ur);
-    if 4096 < cells_in(a, b) {
+    if basics::MOST_CELLS < cells_in(a, b) {
         return replies::refused(7);
     }
     let used = basics::index_of(map[1]);
@@ -76,7 +77,7 @@ fn search(
 
 // All entries of the range. The corners are not swapped: a reversed range is empty.
 pub fn query(
-    nums: &[[u32; 4]],
+    nums: &[Row],
     reals: &[[f32; 4]],
     ints: &[[i32; 4]],
     map: &[u64],
@@ -110,7 +111,7 @@ pub fn query(
 
 // The entries nearer to the centre than the radius. The corners of the range may leave the domain.
 pub fn query_around(
-    nums: &[[u32; 4]],
+    nums: &[Row],
     reals: &[[f32; 4]],
     ints: &[[i32; 4]],
     map: &[u64],
@@ -152,7 +153,7 @@ pub fn query_around(
 
 // The entries of the rectangle that has a and b as opposite corners, edges included.
 pub fn query_aabb(
-    nums: &[[u32; 4]],
+    nums: &[Row],
     reals: &[[f32; 4]],
     ints: &[[i32; 4]],
     map: &[u64],

@@ -6,6 +6,7 @@ ghost use Rattle.reads.specs.Meaning.{getOf, lenOf, handlesOf, listing};
 use geometry::Position;
 use replies::Count;
 use slots::Handle;
+use slots::Row;
 
 // The recorded position and the data of an object beside the answer.
 pub struct Got {
@@ -15,7 +16,7 @@ pub struct Got {
 }
 
 pub fn get(
-    nums: &[[u32; 4]],
+    nums: &[Row],
     reals: &[[f32; 4]],
     ints: &[[i32; 4]],
     map: &[u64],
@@ -52,7 +53,7 @@ pub fn get(
 
 // The number of objects: each has one entry, so the entries in use are as many.
 pub fn len(
-    nums: &[[u32; 4]],
+    nums: &[Row],
     reals: &[[f32; 4]],
     ints: &[[i32; 4]],
     map: &[u64],
@@ -77,7 +78,7 @@ pub fn len(
 
 // The handles of the objects, ascending by slot.
 pub fn handles(
-    nums: &[[u32; 4]],
+    nums: &[Row],
     reals: &[[f32; 4]],
     ints: &[[i32; 4]],
     map: &[u64],

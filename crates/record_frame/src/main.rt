@@ -12,11 +12,12 @@ use objects::Record;
 use objects::State;
 use reads::Got;
 use slots::Handle;
+use slots::Row;
 
 // ---- a call on a table that is handed over by value
 fn maintain_in2(
     t: [Record; 2],
-    nums: &mut [[u32; 4]],
+    nums: &mut [Row],
     reals: &mut [[f32; 4]],
     ints: &mut [[i32; 4]],
     map: &mut [u64],
@@ -33,7 +34,7 @@ fn maintain_in2(
 
 fn get_in2(
     t: [Record; 2],
-    nums: &mut [[u32; 4]],
+    nums: &mut [Row],
     reals: &mut [[f32; 4]],
     ints: &mut [[i32; 4]],
     map: &mut [u64],
@@ -96,7 +97,7 @@ fn table(version: u32, target: Cell) -> [Record; 2] {
     let state = State::Relocate(Position { x: 16.0, y: 0.0 }, target);
     let moving = Record {
         version,
-        phase: 1,
+        phase: slots::LIVE,
         obj: 7,
         position: origin,
         cell: home,
@@ -104,7 +105,7 @@ fn table(version: u32, target: Cell) -> [Record; 2] {
     };
     let nothing = Record {
         version: 1,
-        phase: 0,
+        phase: slots::FREE,
         obj: 0,
         position: origin,
         cell: home,

@@ -8,11 +8,12 @@ use geometry::Position;
 use objects::Record;
 use replies::Inserted;
 use slots::Handle;
+use slots::Row;
 
 // The core's, with 3 where the columns have not n rows.
 pub fn insert_for(
     n: usize,
-    nums: &mut [[u32; 4]],
+    nums: &mut [Row],
     reals: &mut [[f32; 4]],
     ints: &mut [[i32; 4]],
     map: &mut [u64],
@@ -39,7 +40,7 @@ pub fn insert_for(
 // A new object at a position. 3, 6, 4.
 pub fn insert(
     records: &mut [Record],
-    nums: &mut [[u32; 4]],
+    nums: &mut [Row],
     reals: &mut [[f32; 4]],
     ints: &mut [[i32; 4]],
     map: &mut [u64],

@@ -10,11 +10,12 @@ use geometry::Position;
 use objects::Record;
 use replies::Reply;
 use slots::Handle;
+use slots::Row;
 
 // The core's, with 3 where the columns have not n rows.
 pub fn set_position_for(
     n: usize,
-    nums: &mut [[u32; 4]],
+    nums: &mut [Row],
     reals: &mut [[f32; 4]],
     ints: &mut [[i32; 4]],
     map: &[u64],
@@ -35,7 +36,7 @@ pub fn set_position_for(
 // Where the object shall be after the next maintain. 3, 6, 5, 1.
 pub fn set_position(
     records: &mut [Record],
-    nums: &mut [[u32; 4]],
+    nums: &mut [Row],
     reals: &mut [[f32; 4]],
     ints: &mut [[i32; 4]],
     map: &[u64],
@@ -56,7 +57,7 @@ pub fn set_position(
 
 pub fn remove_for(
     n: usize,
-    nums: &mut [[u32; 4]],
+    nums: &mut [Row],
     reals: &mut [[f32; 4]],
     ints: &mut [[i32; 4]],
     map: &[u64],
@@ -76,7 +77,7 @@ pub fn remove_for(
 // Marks the object; gives the data. 3, 5.
 pub fn remove(
     records: &mut [Record],
-    nums: &mut [[u32; 4]],
+    nums: &mut [Row],
     reals: &mut [[f32; 4]],
     ints: &mut [[i32; 4]],
     map: &[u64],

@@ -7,11 +7,12 @@ ghost use Rattle.record_queries.specs.Calls.{aroundFor, aroundOn, Finds}
 use geometry::Position;
 use objects::Record;
 use replies::Count;
+use slots::Row;
 
 // The core's, with 3 where the columns have not n rows.
 pub fn query_around_for(
     n: usize,
-    nums: &[[u32; 4]],
+    nums: &[Row],
     reals: &[[f32; 4]],
     ints: &[[i32; 4]],
     map: &[u64],
@@ -49,7 +50,7 @@ pub fn query_around_for(
 // The entries strictly inside a circle. 3, 6, 7, 9 with the number found.
 pub fn query_around(
     records: &[Record],
-    nums: &mut [[u32; 4]],
+    nums: &mut [Row],
     reals: &mut [[f32; 4]],
     ints: &mut [[i32; 4]],
     map: &[u64],

@@ -9,11 +9,12 @@ use objects::Record;
 use reads::Got;
 use replies::Count;
 use slots::Handle;
+use slots::Row;
 
 // The core's, with 3 where the columns have not n rows.
 pub fn get_for(
     n: usize,
-    nums: &[[u32; 4]],
+    nums: &[Row],
     reals: &[[f32; 4]],
     ints: &[[i32; 4]],
     map: &[u64],
@@ -37,7 +38,7 @@ pub fn get_for(
 // The recorded position and the data. 3, 5.
 pub fn get(
     records: &[Record],
-    nums: &mut [[u32; 4]],
+    nums: &mut [Row],
     reals: &mut [[f32; 4]],
     ints: &mut [[i32; 4]],
     map: &[u64],
@@ -56,7 +57,7 @@ pub fn get(
 
 pub fn len_for(
     n: usize,
-    nums: &[[u32; 4]],
+    nums: &[Row],
     reals: &[[f32; 4]],
     ints: &[[i32; 4]],
     map: &[u64],
@@ -78,7 +79,7 @@ pub fn len_for(
 // The number of objects; removed ones count until maintain. 3.
 pub fn len(
     records: &[Record],
-    nums: &mut [[u32; 4]],
+    nums: &mut [Row],
     reals: &mut [[f32; 4]],
     ints: &mut [[i32; 4]],
     map: &[u64],

@@ -6,11 +6,12 @@ ghost use Rattle.records.specs.Seen.{Shows};
 ghost use Rattle.record_upkeep.specs.Calls.{maintainFor, maintainOn};
 use maintain::Maintained;
 use objects::Record;
+use slots::Row;
 
 // The core's, with 3 where the columns have not n rows.
 pub fn maintain_for(
     n: usize,
-    nums: &mut [[u32; 4]],
+    nums: &mut [Row],
     reals: &mut [[f32; 4]],
     ints: &mut [[i32; 4]],
     map: &mut [u64],
@@ -33,7 +34,7 @@ pub fn maintain_for(
 // Applies what is pending. 3.
 pub fn maintain(
     records: &mut [Record],
-    nums: &mut [[u32; 4]],
+    nums: &mut [Row],
     reals: &mut [[f32; 4]],
     ints: &mut [[i32; 4]],
     map: &mut [u64],

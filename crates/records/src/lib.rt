@@ -7,6 +7,7 @@ ghost use Rattle.basics.specs.Lent.{was, is};
 ghost use Rattle.objects.specs.Columns.{numsOf, realsOf, intsOf};
 ghost use Rattle.records.specs.Spread.{noRecord, laid, gathered, rowOr};
 use objects::Record;
+use slots::Row;
 
 // ---- one record
 pub fn record_at(records: &[Record], i: usize) -> Record
@@ -24,7 +25,7 @@ pub fn put_record(records: &mut [Record], i: usize, r: Record)
 }
 
 // ---- the rows of a record
-pub fn put_nums(nums: &mut [[u32; 4]], i: usize, r: Record)
+pub fn put_nums(nums: &mut [Row], i: usize, r: Record)
     ensures { λ _. ⌜ is nums ≡ set (was nums) i (numsOf r) ⌝ }
 {
     if i < nums.len() {
@@ -57,13 +58,7 @@ pub fn put_ints(ints: &mut [[i32; 4]], i: usize, r: Record)
 }
 
 // The record of row i of the columns; r where a column has no such row.
-pub fn row_or(
-    nums: &[[u32; 4]],
-    reals: &[[f32; 4]],
-    ints: &[[i32; 4]],
-    i: usize,
-    r: Record,
-) -> Record
+pub fn row_or(nums: &[Row], reals: &[[f32; 4]], ints: &[[i32; 4]], i: usize, r: Record) -> Record
     ensures { λ q. ⌜ q ≡ rowOr (was nums) (was reals) (was ints) i r ⌝ }
 {
     if i < nums.len() {
@@ -77,12 +72,7 @@ pub fn row_or(
 }
 
 // ---- all records
-pub fn spread(
-    records: &[Record],
-    nums: &mut [[u32; 4]],
-    reals: &mut [[f32; 4]],
-    ints: &mut [[i32; 4]],
-)
+pub fn spread(records: &[Record], nums: &mut [Row], reals: &mut [[f32; 4]], ints: &mut [[i32; 4]])
     ensures { λ _. ⌜ (is nums ≡ laid numsOf (was records) (was nums))
         × (is reals ≡ laid realsOf (was records) (was reals))
         × (is ints ≡ laid intsOf (was records) (was ints)) ⌝ }
@@ -97,7 +87,7 @@ pub fn spread(
     }
 }
 
-pub fn gather(records: &mut [Record], nums: &[[u32; 4]], reals: &[[f32; 4]], ints: &[[i32; 4]])
+pub fn gather(records: &mut [Record], nums: &[Row], reals: &[[f32; 4]], ints: &[[i32; 4]])
     ensures { λ _. ⌜ is records ≡ gathered (was nums) (was reals) (was ints) (was records) ⌝ }
 {
     let mut i = 0;

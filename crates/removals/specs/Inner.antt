@@ -6,6 +6,7 @@ use mathlib.Core.List.{List, [], _∷_, map}
 use lib.Dec.{leb}
 use lib.Ieee.{Float, nan}
 use lib.ListN.{length, getD, take}
+use Rattle.basics.specs.Limits.{mostSlots}
 use Rattle.basics.specs.Refusals.{pick}
 use Rattle.storage.specs.Keyed.{under, written}
 use Rattle.storage.specs.Entries.{rowKey}
@@ -49,7 +50,7 @@ objsOf nums slots = map (objAt nums) slots
 -- what writing them is asked for: both outputs have a place for each object
 abbrev pub Room : List (List ℕ) → List (List Float) → List (List Float) → List ℕ → Type 0
 Room nums reals places objs =
-    (length reals ≡ length nums) × (length nums ≤ 4096) × (length (liveFrom 0 nums) ≤ length places) × (length (liveFrom 0 nums) ≤ length objs)
+    (length reals ≡ length nums) × (length nums ≤ mostSlots) × (length (liveFrom 0 nums) ≤ length places) × (length (liveFrom 0 nums) ≤ length objs)
 
 -- ---- the rows of the cells, by whether the list of k is empty
 abbrev pub rowsBy : Bool → ℕ → List (List ℕ) → List (List ℕ)

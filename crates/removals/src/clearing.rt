@@ -3,6 +3,7 @@ ghost use mathlib.Core.Path.{_≡_};
 ghost use mathlib.Core.Bool.{true};
 ghost use Prim.Native.Nat.{_+_, _≤_, _<_};
 ghost use lib.ListN.{length, getD};
+ghost use Rattle.basics.specs.Limits.{mostSlots};
 ghost use Rattle.basics.specs.Lent.{was, is};
 ghost use Rattle.slots.specs.Map.{wordsFor};
 ghost use Rattle.storage.specs.Keyed.{written};
@@ -13,6 +14,7 @@ ghost use Rattle.slot_walks.specs.Cleared.{clearedRows, clearedMap};
 ghost use Rattle.removals.specs.Meaning.Clear.{seen, clearInto};
 ghost use Rattle.removals.specs.Inner.{roomAnswer, countBy, placesOf, objsOf, Room};
 use replies::Count;
+use slots::Row;
 
 // 9 if one of the outputs has fewer than n places, else 0.
 fn short_of(n: usize, places: usize, objs: usize) -> u32
@@ -29,7 +31,7 @@ fn short_of(n: usize, places: usize, objs: usize) -> u32
 
 // The answer, with the number of objects: each has one entry, so the entries in use are as many.
 fn answer(map: &[u64], held: bool, places: usize, objs: usize) -> Count
-    requires { ⌜ (held ≡ true → (1 < length (now map)) × (getD (now map) 1 0 ≤ 4096)) ⌝ }
+    requires { ⌜ (held ≡ true → (1 < length (now map)) × (getD (now map) 1 0 ≤ mostSlots)) ⌝ }
     ensures { λ r. ⌜ r ≡ countBy held (getD (was map) 1 0) places objs ⌝ }
 {
     if !held {
@@ -47,7 +49,7 @@ fn answer(map: &[u64], held: bool, places: usize, objs: usize) -> Count
 }
 
 // The recorded position and the data of each live slot, from place 0 of the outputs on.
-fn put_objects(nums: &[[u32; 4]], reals: &[[f32; 4]], places: &mut [[f32; 2]], objs: &mut [u32])
+fn put_objects(nums: &[Row], reals: &[[f32; 4]], places: &mut [[f32; 2]], objs: &mut [u32])
     requires { ⌜ Room (now nums) (now reals) (now places) (now objs) ⌝ }
     ensures places { λ _. ⌜ is places ≡ written (placesOf (was reals) (liveFrom 0 (was nums))) (was places) ⌝ }
     ensures objs { λ _. ⌜ is objs ≡ written (objsOf (was nums) (liveFrom 0 (was nums))) (was objs) ⌝ }
@@ -67,7 +69,7 @@ fn put_objects(nums: &[[u32; 4]], reals: &[[f32; 4]], places: &mut [[f32; 2]], o
 }
 
 // No entry and no row of a cell is in use.
-fn empty_all(nums: &mut [[u32; 4]], map: &mut [u64])
+fn empty_all(nums: &mut [Row], map: &mut [u64])
     requires { ⌜ length (now map) ≡ 3 + wordsFor (length (now nums)) ⌝ }
     ensures nums { λ _. ⌜ is nums ≡ clearedRows (was nums) ⌝ }
     ensures map { λ _. ⌜ is map ≡ counting (clearedMap 0 (was nums) (was map)) 0 0 ⌝ }
@@ -78,7 +80,7 @@ fn empty_all(nums: &mut [[u32; 4]], map: &mut [u64])
 }
 
 pub fn clear(
-    nums: &mut [[u32; 4]],
+    nums: &mut [Row],
     reals: &[[f32; 4]],
     ints: &[[i32; 4]],
     map: &mut [u64],

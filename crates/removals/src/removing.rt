@@ -16,9 +16,10 @@ ghost use Rattle.removals.specs.Meaning.RemoveMaintain.{removeMaintainOf
 ghost use Rattle.removals.specs.Inner.{Object, takenFrom, rowsLeft, RowsInUse};
 use replies::Reply;
 use slots::Handle;
+use slots::Row;
 
 // The answer: the first refusal that applies, or 0. The object's state is not looked at.
-fn answer(nums: &[[u32; 4]], held: bool, h: Handle) -> u32
+fn answer(nums: &[Row], held: bool, h: Handle) -> u32
     ensures { λ r. ⌜ r ≡ firstOf (unless held 3 ∷ unless (good (was nums) (h .slot) (h .version)) 5 ∷ []) ⌝ }
 {
     if !held {
@@ -49,7 +50,7 @@ fn drop_empty(
 }
 
 // Slot s is emptied, and the head words of the map have the counts.
-fn empty(nums: &mut [[u32; 4]], map: &mut [u64], s: usize, used: usize, rows: usize)
+fn empty(nums: &mut [Row], map: &mut [u64], s: usize, used: usize, rows: usize)
     requires { ⌜ (s < length (now nums)) × (3 + s / 64 < length (now map)) ⌝ }
     ensures nums { λ _. ⌜ is nums ≡ emptiedNums (was nums) s ⌝ }
     ensures map { λ _. ⌜ is map ≡ counting (emptiedMap (was nums) (was map) s) used rows ⌝ }
@@ -61,7 +62,7 @@ fn empty(nums: &mut [[u32; 4]], map: &mut [u64], s: usize, used: usize, rows: us
 
 // The object of slot s goes. Returns its data.
 fn take_out(
-    nums: &mut [[u32; 4]],
+    nums: &mut [Row],
     reals: &[[f32; 4]],
     ints: &[[i32; 4]],
     map: &mut [u64],
@@ -85,7 +86,7 @@ fn take_out(
 }
 
 pub fn remove_maintain(
-    nums: &mut [[u32; 4]],
+    nums: &mut [Row],
     reals: &[[f32; 4]],
     ints: &[[i32; 4]],
     map: &mut [u64],

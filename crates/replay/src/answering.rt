@@ -10,10 +10,11 @@ ghost use Rattle.printing.specs.Said.{longest};
 ghost use Rattle.replay.specs.Replay.{grids, replayed, replayOf};
 ghost use Rattle.answers.specs.Cell.{built, cellOf};
 use printing::Said;
+use slots::Row;
 
 // Both grids are built with cells of 16.
 pub fn start(
-    nums: &mut [[u32; 4]],
+    nums: &mut [Row],
     reals: &[[f32; 4]],
     ints: &[[i32; 4]],
     map: &mut [u64],
@@ -45,7 +46,7 @@ pub fn start(
 
 // The record that is the first `len` bytes of the line, answered from place `at` on: where the next answer goes.
 pub fn answer_record(
-    nums: &mut [[u32; 4]],
+    nums: &mut [Row],
     reals: &mut [[f32; 4]],
     ints: &mut [[i32; 4]],
     map: &mut [u64],

@@ -3,11 +3,13 @@ ghost use mathlib.Core.Path.{_≡_};
 ghost use mathlib.Core.List.{[], _∷_};
 ghost use Prim.Native.Nat.{_+_, _≤_, _<_};
 ghost use lib.ListN.{length, set};
+ghost use Rattle.basics.specs.Limits.{mostSlots};
 ghost use Rattle.basics.specs.Lent.{was, is};
 ghost use Rattle.cells.specs.Key.{keyOf};
 ghost use Rattle.settle.specs.Pass.{lentRecords, recordsBefore, recordsAfter, Slotted, Ready, Room, Placed, turned, turnedRows, Put, Passed};
 ghost use Rattle.settle.specs.Counts.{counts, numbered, movedIn, removedIn, oneMoved, oneRemoved};
 use cells::Cell;
+use slots::Row;
 
 // How many objects had either new-position state, and how many were removed.
 pub struct Counts {
@@ -16,7 +18,7 @@ pub struct Counts {
 }
 
 // The object of slot s stands at its pending position in cell c, and nothing is pending for it. By columns, since no record need be made.
-fn place(nums: &mut [[u32; 4]], reals: &mut [[f32; 4]], ints: &mut [[i32; 4]], s: usize, c: Cell)
+fn place(nums: &mut [Row], reals: &mut [[f32; 4]], ints: &mut [[i32; 4]], s: usize, c: Cell)
     requires { ⌜ (s < length (now nums)) × (s < length (now reals)) × (s < length (now ints)) ⌝ }
     ensures { λ _. ⌜ Placed (was nums) (was reals) (was ints) s c (is nums) (is reals) (is ints) ⌝ }
 {
@@ -40,7 +42,7 @@ fn put_row(pool: &mut [[u64; 2]], at: usize, c: Cell, s: usize) -> usize
 
 // Slot s, if it is live, is settled by its tag, and the row of a relocated object is put at a place of the pool. Returns the rows put.
 fn turn(
-    nums: &mut [[u32; 4]],
+    nums: &mut [Row],
     reals: &mut [[f32; 4]],
     ints: &mut [[i32; 4]],
     map: &mut [u64],
@@ -53,7 +55,7 @@ fn turn(
     ensures rows { λ r. ⌜ Put (turnedRows (recordsBefore nums reals ints map) s) at (was pool) (is pool) r ⌝ }
 {
     let n = nums[s];
-    if n[1] != 1 {
+    if n[1] != slots::LIVE {
         return 0;
     }
     let tag = n[3];
@@ -77,7 +79,7 @@ fn turn(
 // Every live slot is settled, in ascending order, and the rows of relocated objects are put into the pool from place w on.
 // Returns how many there are.
 pub fn settle_slots(
-    nums: &mut [[u32; 4]],
+    nums: &mut [Row],
     reals: &mut [[f32; 4]],
     ints: &mut [[i32; 4]],
     map: &mut [u64],
@@ -98,10 +100,10 @@ pub fn settle_slots(
 }
 
 // 1 for a live row with either new-position state, else 0.
-fn one_moved(row: [u32; 4]) -> u32
+fn one_moved(row: Row) -> u32
     ensures { λ r. ⌜ r ≡ oneMoved row ⌝ }
 {
-    if row[1] != 1 {
+    if row[1] != slots::LIVE {
         return 0;
     }
     if row[3] == 1 {
@@ -114,10 +116,10 @@ fn one_moved(row: [u32; 4]) -> u32
 }
 
 // 1 for a live row whose object is removed, else 0.
-fn one_removed(row: [u32; 4]) -> u32
+fn one_removed(row: Row) -> u32
     ensures { λ r. ⌜ r ≡ oneRemoved row ⌝ }
 {
-    if row[1] != 1 {
+    if row[1] != slots::LIVE {
         return 0;
     }
     if row[3] < 3 {
@@ -127,8 +129,8 @@ fn one_removed(row: [u32; 4]) -> u32
 }
 
 // The two counts of `maintain`, from the states before it.
-pub fn count_moves(nums: &[[u32; 4]]) -> Counts
-    requires { ⌜ length (now nums) ≤ 4096 ⌝ }
+pub fn count_moves(nums: &[Row]) -> Counts
+    requires { ⌜ length (now nums) ≤ mostSlots ⌝ }
     ensures { λ r. ⌜ r ≡ counts (movedIn (numbered (was nums)) (length (was nums))) (removedIn (numbered (was nums)) (length (was nums))) ⌝ }
 {
     let mut moved: u32 = 0;

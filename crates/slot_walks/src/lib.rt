@@ -2,22 +2,24 @@
 ghost use mathlib.Core.Path.{_≡_};
 ghost use Prim.Native.Nat.{_+_, _≤_};
 ghost use lib.ListN.{length};
+ghost use Rattle.basics.specs.Limits.{mostSlots};
 ghost use Rattle.basics.specs.Lent.{was, is};
 ghost use Rattle.slots.specs.Map.{wordsFor};
 ghost use Rattle.storage.specs.Keyed.{written};
 ghost use Rattle.slot_walks.specs.Live.{rowLive, liveFrom, handlesIn};
 ghost use Rattle.slot_walks.specs.Cleared.{clearedRows, clearedMap};
+use slots::Row;
 
 // Whether a slot is live.
-pub fn is_live(row: [u32; 4]) -> bool
+pub fn is_live(row: Row) -> bool
     ensures { λ r. ⌜ r ≡ rowLive row ⌝ }
 {
-    row[1] == 1
+    row[1] == slots::LIVE
 }
 
 // The number of live slots.
-pub fn count_live(nums: &[[u32; 4]]) -> u32
-    requires { ⌜ length (now nums) ≤ 4096 ⌝ }
+pub fn count_live(nums: &[Row]) -> u32
+    requires { ⌜ length (now nums) ≤ mostSlots ⌝ }
     ensures { λ r. ⌜ r ≡ length (liveFrom 0 (was nums)) ⌝ }
 {
     let mut k = 0u32;
@@ -33,8 +35,8 @@ pub fn count_live(nums: &[[u32; 4]]) -> u32
 }
 
 // The handles of the live slots, from place 0 of the output on.
-pub fn put_handles(nums: &[[u32; 4]], out: &mut [[u32; 2]])
-    requires { ⌜ (length (now nums) ≤ 4096) × (length (liveFrom 0 (now nums)) ≤ length (now out)) ⌝ }
+pub fn put_handles(nums: &[Row], out: &mut [[u32; 2]])
+    requires { ⌜ (length (now nums) ≤ mostSlots) × (length (liveFrom 0 (now nums)) ≤ length (now out)) ⌝ }
     ensures { λ _. ⌜ is out ≡ written (handlesIn (was nums)) (was out) ⌝ }
 {
     let mut k = 0;
@@ -50,7 +52,7 @@ pub fn put_handles(nums: &[[u32; 4]], out: &mut [[u32; 2]])
 }
 
 // Every live slot is emptied.
-pub fn empty_slots(nums: &mut [[u32; 4]], map: &mut [u64])
+pub fn empty_slots(nums: &mut [Row], map: &mut [u64])
     requires { ⌜ length (now map) ≡ 3 + wordsFor (length (now nums)) ⌝ }
     ensures nums { λ _. ⌜ is nums ≡ clearedRows (was nums) ⌝ }
     ensures map { λ _. ⌜ is map ≡ clearedMap 0 (was nums) (was map) ⌝ }

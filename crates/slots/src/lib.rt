@@ -3,11 +3,25 @@ ghost use mathlib.Core.Path.{_≡_};
 ghost use Prim.Native.Nat.{_+_, _*_, _/_, _%_, _^_, _≤_, _<_};
 ghost use lib.Dec.{eqb};
 ghost use lib.ListN.{length};
+ghost use Rattle.basics.specs.Limits.{mostSlots};
 ghost use Rattle.basics.specs.Lent.{was, is};
 ghost use Rattle.basics.specs.Says.{Says};
 ghost use Rattle.basics.specs.Refusals.{pick};
 ghost use Rattle.slots.specs.Map.{wordsFor, usable, taken, givenBack, lowestUsable, usableBelow, NonePast};
 ghost use Rattle.slots.specs.Slot.{lastVersion, good, nextVersion, nextPhase, emptiedRow, emptiedNums, emptiedMap, SlotHolds};
+
+// The row of a slot: version, phase, data, state.
+pub type Row = [u32; 4];
+
+// The phases of a slot.
+pub const FREE: u32 = 0;
+
+pub const LIVE: u32 = 1;
+
+pub const RETIRED: u32 = 2;
+
+// A slot that is emptied at this version is retired.
+pub const LAST_VERSION: u32 = 4294967295;
 
 pub struct Handle {
     pub slot: u32,
@@ -21,7 +35,7 @@ pub enum Usable {
 }
 
 // Whether the handle's slot is occupied at its version.
-pub fn is_good(nums: &[[u32; 4]], h: Handle) -> bool
+pub fn is_good(nums: &[Row], h: Handle) -> bool
     ensures { λ r. ⌜ r ≡ good (was nums) (h .slot) (h .version) ⌝ }
 {
     let s = basics::wide(h.slot);
@@ -29,7 +43,7 @@ pub fn is_good(nums: &[[u32; 4]], h: Handle) -> bool
         return false;
     }
     let row = nums[s];
-    if row[1] != 1 {
+    if row[1] != LIVE {
         return false;
     }
     row[0] == h.version
@@ -37,7 +51,7 @@ pub fn is_good(nums: &[[u32; 4]], h: Handle) -> bool
 
 // Words of 64 bits for n slots.
 pub fn words_for(n: usize) -> usize
-    requires { ⌜ n ≤ 4096 ⌝ }
+    requires { ⌜ n ≤ mostSlots ⌝ }
     ensures { λ r. ⌜ r ≡ wordsFor n ⌝ }
 {
     (n + 63) / 64
@@ -52,7 +66,7 @@ fn bit_of(s: usize) -> u64
 
 // The lowest usable slot of n: the lowest bit of the first word that has one.
 pub fn lowest(map: &[u64], n: usize) -> Usable
-    requires { ⌜ (length (now map) ≡ 3 + wordsFor n) × (n ≤ 4096) × NonePast (now map) n ⌝ }
+    requires { ⌜ (length (now map) ≡ 3 + wordsFor n) × (n ≤ mostSlots) × NonePast (now map) n ⌝ }
     ensures { λ r. ⌜ r ≡ lowestUsable (was map) n ⌝ }
 {
     let words = words_for(n);
@@ -70,7 +84,7 @@ pub fn lowest(map: &[u64], n: usize) -> Usable
 
 // How many of n slots are usable: the ones of the words.
 pub fn count_usable(map: &[u64], n: usize) -> usize
-    requires { ⌜ (length (now map) ≡ 3 + wordsFor n) × (n ≤ 4096) ⌝ }
+    requires { ⌜ (length (now map) ≡ 3 + wordsFor n) × (n ≤ mostSlots) ⌝ }
     ensures { λ r. ⌜ r ≡ usableBelow (was map) (wordsFor n * 64) ⌝ }
 {
     let words = words_for(n);
@@ -123,7 +137,7 @@ pub fn give_back(map: &mut [u64], s: usize)
 pub fn next_version(v: u32) -> u32
     ensures { λ r. ⌜ r ≡ nextVersion v ⌝ }
 {
-    if v == 4294967295 {
+    if v == LAST_VERSION {
         return v;
     }
     v + 1
@@ -133,10 +147,10 @@ pub fn next_version(v: u32) -> u32
 pub fn next_phase(v: u32) -> u32
     ensures { λ r. ⌜ r ≡ nextPhase v ⌝ }
 {
-    if v == 4294967295 {
-        return 2;
+    if v == LAST_VERSION {
+        return RETIRED;
     }
-    0
+    FREE
 }
 
 // Slot s gives its bit back to the map, unless its version was the last.
@@ -144,13 +158,13 @@ fn release(map: &mut [u64], s: usize, v: u32)
     requires { ⌜ 3 + s / 64 < length (now map) ⌝ }
     ensures { λ _. ⌜ is map ≡ pick (eqb v lastVersion) (was map) (givenBack (was map) s) ⌝ }
 {
-    if v != 4294967295 {
+    if v != LAST_VERSION {
         give_back(map, s);
     }
 }
 
 // The row of a slot that is emptied: the two numbers behind version and phase stay.
-fn emptied_row(row: [u32; 4]) -> [u32; 4]
+fn emptied_row(row: Row) -> Row
     ensures { λ r. ⌜ r ≡ emptiedRow row ⌝ }
 {
     let v = row[0];
@@ -160,7 +174,7 @@ fn emptied_row(row: [u32; 4]) -> [u32; 4]
 }
 
 // Slot s is emptied: its version rises and the map has it again, or it is retired.
-pub fn empty(nums: &mut [[u32; 4]], map: &mut [u64], s: usize)
+pub fn empty(nums: &mut [Row], map: &mut [u64], s: usize)
     requires { ⌜ (s < length (now nums)) × (3 + s / 64 < length (now map)) ⌝ }
     ensures nums { λ _. ⌜ is nums ≡ emptiedNums (was nums) s ⌝ }
     ensures map { λ _. ⌜ is map ≡ emptiedMap (was nums) (was map) s ⌝ }
@@ -177,17 +191,17 @@ pub fn slot_ok(version: u32, phase: u32, mapped: bool) -> bool
     if version == 0 {
         return false;
     }
-    if phase == 0 {
+    if phase == FREE {
         return mapped;
     }
     if mapped {
         return false;
     }
-    if phase == 1 {
+    if phase == LIVE {
         return true;
     }
-    if phase == 2 {
-        if version == 4294967295 {
+    if phase == RETIRED {
+        if version == LAST_VERSION {
             return true;
         }
     }

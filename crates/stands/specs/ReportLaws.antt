@@ -11,6 +11,7 @@ use lib.Ieee.{Float, nan}
 use lib.Ieee.Fits.{and-l, and-r}
 use lib.ListN.{length, getD}
 use borrow.Author.Tests.{eq-eqb, ne-eqb}
+use Rattle.basics.specs.Limits.{mostCells}
 use Rattle.basics.specs.Refusals.{orElse}
 use Rattle.basics.specs.Says.{d-eq, d-lt}
 use Rattle.geometry.specs.declared.Position.{Position}
@@ -33,7 +34,7 @@ use Rattle.moves.specs.Batch.{Call}
 use Rattle.moves.proofs.laws.MovesLaws.{Named, named}
 use Rattle.queries.specs.declared.Test.{Test}
 use Rattle.queries.specs.declared.Test.the-variants.{Circle}
-use Rattle.queries.specs.Queries.{Findings, findings, mostCells, positionOf, found, handleRow, placeRow, searchAnswer, searchOf, aroundOf}
+use Rattle.queries.specs.Queries.{Findings, findings, positionOf, found, handleRow, placeRow, searchAnswer, searchOf, aroundOf}
 use Rattle.queries.proofs.laws.FoundLaws.{Standing}
 use Rattle.queries.proofs.laws.OnceLaws.{Once, standing-good, found-once, found-standing, finds}
 use Rattle.queries.proofs.laws.ScanLaws.{circle-scan}

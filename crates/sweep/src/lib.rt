@@ -11,6 +11,7 @@ ghost use Rattle.maintain.specs.Kept.{kept};
 ghost use Rattle.maintain.specs.Closed.{keptEntries};
 ghost use Rattle.sweep.specs.Tags.{spotBy, fateIn};
 ghost use Rattle.sweep.specs.Laid.{Room, Slotted, Laid, lentList, InUse, keptIf};
+use slots::Row;
 
 // The position of an entry that stays is laid at place w: with tag 1 it is the pending one, which is in its slot's row.
 // By a branch, so that only the position that is laid is read.
@@ -29,7 +30,7 @@ fn lay_spot(reals: &[[f32; 4]], spots: &mut [[f32; 2]], tag: u32, s: usize, at: 
 // Walks the list at the places from..to and lays what it keeps from place `start` on; returns the place behind that.
 // The entry at `at` is looked at, in the place of the one at `i`: if it leaves, the last of the list comes there.
 pub fn walk_run(
-    nums: &[[u32; 4]],
+    nums: &[Row],
     reals: &[[f32; 4]],
     pool: &mut [[u64; 2]],
     spots: &mut [[f32; 2]],
@@ -87,7 +88,7 @@ fn move_run(
 
 // The list at the places from..to: walked if its cell is dirty, else left as it is.
 fn sweep_run(
-    nums: &[[u32; 4]],
+    nums: &[Row],
     reals: &[[f32; 4]],
     pool: &mut [[u64; 2]],
     spots: &mut [[f32; 2]],
@@ -110,7 +111,7 @@ fn sweep_run(
 
 // The lists in the order of the cell table: what they keep is laid from place 0 on. Returns how many entries that is.
 pub fn sweep_lists(
-    nums: &[[u32; 4]],
+    nums: &[Row],
     reals: &[[f32; 4]],
     ints: &[[i32; 4]],
     map: &[u64],

@@ -7,6 +7,7 @@ ghost use Rattle.trace.specs.Ready.{Fits, Ready};
 use libc::STDIN_FILENO;
 use libc::STDOUT_FILENO;
 use printing::LONGEST;
+use slots::Row;
 use splits::Splitter;
 
 // How far the program is: `have` bytes in the block, of which those before `at` are used; `put` bytes of answers that are not written yet;
@@ -196,7 +197,7 @@ fn advance(
 
 // The record has its answer in the output.
 fn answer(
-    nums: &mut [[u32; 4]],
+    nums: &mut [Row],
     reals: &mut [[f32; 4]],
     ints: &mut [[i32; 4]],
     map: &mut [u64],
@@ -246,7 +247,7 @@ fn is_next(turns: u64, ended: bool) -> bool
 
 // Each record has its answer.
 fn serve(
-    nums: &mut [[u32; 4]],
+    nums: &mut [Row],
     reals: &mut [[f32; 4]],
     ints: &mut [[i32; 4]],
     map: &mut [u64],
@@ -286,7 +287,7 @@ fn serve(
 }
 
 fn run(
-    nums: &mut [[u32; 4]],
+    nums: &mut [Row],
     reals: &mut [[f32; 4]],
     ints: &mut [[i32; 4]],
     map: &mut [u64],

@@ -10,6 +10,7 @@ ghost use Rattle.maintain.specs.Maintain.{maintainOf};
 ghost use Prim.Native.Nat.{_<_};
 ghost use lib.ListN.{length, set};
 use maintain::Maintained;
+use slots::Row;
 
 // The numbers of entries and cells in use.
 fn count(map: &mut [u64], used: usize, rows: usize)
@@ -22,7 +23,7 @@ fn count(map: &mut [u64], used: usize, rows: usize)
 
 // What is pending is done.
 fn settle_all(
-    nums: &mut [[u32; 4]],
+    nums: &mut [Row],
     reals: &mut [[f32; 4]],
     ints: &mut [[i32; 4]],
     map: &mut [u64],
@@ -42,7 +43,7 @@ fn settle_all(
 }
 
 pub fn maintain(
-    nums: &mut [[u32; 4]],
+    nums: &mut [Row],
     reals: &mut [[f32; 4]],
     ints: &mut [[i32; 4]],
     map: &mut [u64],

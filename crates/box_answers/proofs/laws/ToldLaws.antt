@@ -9,12 +9,13 @@ use lib.Dec.{eqb, leb}
 use lib.Ieee.{Float}
 use lib.ListN.{length, length-map}
 use borrow.Author.Tests.{eqb-true, leb-true}
+use Rattle.basics.specs.Limits.{mostCells}
 use Rattle.basics.specs.Refusals.{pick}
 use Rattle.geometry.specs.declared.Aabb.{Aabb}
 use Rattle.geometry.specs.Domain.{aabbInDomain}
 use Rattle.storage.specs.Keyed.{written}
 use Rattle.storage.proofs.laws.WrittenLaws.{length-written}
-use Rattle.box_tables.specs.Tables.{Tables, sizeOf, objOn, covers, mostCells}
+use Rattle.box_tables.specs.Tables.{Tables, sizeOf, objOn, covers}
 use Rattle.box_tables.specs.Decide.{holds}
 use Rattle.box_inserts.specs.Insert.{insertOf}
 use Rattle.box_changes.specs.SetAabb.{setAabbOf}

@@ -8,6 +8,7 @@ use native.Mathlib.Omega.{arith}
 use lib.Dec.{T, eqb}
 use lib.ListN.{length, getD, take, drop, length-set}
 use lib.Seq.{getD-set-same, getD-set-other, take-append-seam}
+use Rattle.basics.specs.Limits.{mostCells}
 use Rattle.basics.specs.Says.{d-eq, said-says}
 use Rattle.basics.specs.Refusals.{pick}
 use Rattle.geometry.specs.declared.Aabb.{Aabb}
@@ -22,7 +23,7 @@ use Rattle.storage.specs.FilterLaws.{all-map}
 use Rattle.storage.proofs.laws.WrittenLaws.{length-written}
 use Rattle.coverage.specs.Coverage.{Stands}
 use Rattle.coverage.proofs.laws.EnterLaws.{entered-sorted, entered-length, entered-all, entered-stands, entered-keeps}
-use Rattle.box_tables.specs.Tables.{Tables, sizeOf, usedOf, slotsOf, entriesIn, aabbOn, lowCell, highCell, covers, mostCells, itemOf, itemFor, itemOn, Sized, cornersOf}
+use Rattle.box_tables.specs.Tables.{Tables, sizeOf, usedOf, slotsOf, entriesIn, aabbOn, lowCell, highCell, covers, itemOf, itemFor, itemOn, Sized, cornersOf}
 use Rattle.box_tables.specs.Holds.{Counted, BoxHolds, Holds}
 use Rattle.box_tables.proofs.laws.BoxLaws.{low-near, high-near, item-same}
 use Rattle.box_tables.proofs.laws.HoldsLaws.{Named, StandsOn, entries-sorted, entries-named}

@@ -7,6 +7,7 @@ use native.Mathlib.Omega.{arith}
 use lib.Dec.{T, eqb}
 use lib.ListN.{length}
 use borrow.Author.Tests.{leb-true, le-leb, ne-eqb}
+use Rattle.basics.specs.Limits.{mostCells}
 use Rattle.basics.specs.Says.{Says, says-t, not-said}
 use Rattle.basics.specs.Refusals.{pick}
 use Rattle.geometry.specs.Domain.{aabbInDomain}
@@ -16,13 +17,12 @@ use Rattle.slots.specs.declared.Usable.the-variants.{At, Nothing}
 use Rattle.slots.specs.Map.{slotIn}
 use Rattle.slots.specs.Slot.{live, versionAt}
 use Rattle.slots.proofs.laws.SlotLaws.{lowest-free}
-use Rattle.box_tables.specs.Tables.{Tables, sizeOf, usedOf, covers, mostCells}
+use Rattle.box_tables.specs.Tables.{Tables, sizeOf, usedOf, covers}
 use Rattle.box_tables.specs.Holds.{Holds}
 use Rattle.box_tables.specs.Decide.{holds, holds-says}
 use Rattle.box_tables.specs.Outcome.{Outcome, outcome}
 use Rattle.replies.specs.declared.Inserted.{Inserted}
-use Rattle.box_inserts.specs.Insert.{usableSlot, put, fewCells, hasRoom, insertAnswer, insertOf}
-use Rattle.box_inserts.specs.Fresh.{answerBy}
+use Rattle.box_inserts.specs.Insert.{usableSlot, put, fewCells, hasRoom, insertAnswer, insertOf, answerBy}
 use Rattle.box_inserts.proofs.laws.LiveLaws.{liveCount, live-more}
 use Rattle.box_inserts.proofs.laws.InsertKeeps.{put-keeps}
 use Rattle.replies.specs.Replies.{inserted}

@@ -8,11 +8,12 @@ use lib.Dec.{eqb, leb}
 use lib.Ieee.{Float}
 use lib.ListN.{length}
 use borrow.Author.Tests.{le-leb, lt-leb}
+use Rattle.basics.specs.Limits.{mostCells}
 use Rattle.basics.specs.Refusals.{unless, firstOf, pick}
 use Rattle.geometry.specs.declared.Aabb.{Aabb}
 use Rattle.geometry.specs.Domain.{aabbInDomain}
 use Rattle.storage.specs.Keyed.{written}
-use Rattle.box_tables.specs.Tables.{Tables, sizeOf, covers, mostCells, objOn}
+use Rattle.box_tables.specs.Tables.{Tables, sizeOf, covers, objOn}
 use Rattle.box_tables.specs.Decide.{holds}
 use Rattle.replies.specs.declared.Count.{Count}
 use Rattle.box_queries.specs.Queries.{broad, narrow, boxRow, answerOf, Handles, handlesOf, broadOf, Findings, findings, roomOf, queryOf}

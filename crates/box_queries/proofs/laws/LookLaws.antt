@@ -6,10 +6,11 @@ use mathlib.Core.List.{List, map}
 use native.Mathlib.Omega.{arith}
 use lib.Dec.{T}
 use lib.ListN.{length, take}
+use Rattle.basics.specs.Limits.{mostCells}
 use Rattle.geometry.specs.declared.Aabb.{Aabb}
 use Rattle.geometry.specs.Domain.{aabbInDomain}
 use Rattle.cells.specs.Key.{keyOf}
-use Rattle.box_tables.specs.Tables.{Tables, sizeOf, usedOf, lowCell, highCell, covers, mostCells, slotOf}
+use Rattle.box_tables.specs.Tables.{Tables, sizeOf, usedOf, lowCell, highCell, covers, slotOf}
 use Rattle.box_tables.specs.Decide.{holds, holds-says}
 use Rattle.replies.specs.declared.Count.{Count}
 use Rattle.box_queries.specs.Firsts.{firsts}

@@ -18,8 +18,7 @@ use Rattle.point_tables.specs.Holds.{Holds}
 use Rattle.point_tables.specs.Decide.{holds, holds-says}
 use Rattle.point_tables.specs.Outcome.{Outcome, outcome}
 use Rattle.replies.specs.declared.Inserted.{Inserted}
-use Rattle.inserts.specs.Insert.{usableSlot, put, insertAnswer, insertOf}
-use Rattle.inserts.specs.Fresh.{answerBy}
+use Rattle.inserts.specs.Insert.{usableSlot, put, insertAnswer, insertOf, answerBy}
 use Rattle.inserts.proofs.laws.InsertKeeps.{put-keeps}
 use Rattle.replies.specs.Replies.{inserted}
 

@@ -10,6 +10,7 @@ use lib.Dec.{leb}
 use lib.Ieee.{Float, ofBits, lt, le, eq, fits}
 use lib.ListN.{length}
 use borrow.Author.Tests.{leb-true, leb-false}
+use Rattle.basics.specs.Limits.{mostCells}
 use Rattle.geometry.specs.declared.Position.{Position}
 use Rattle.geometry.specs.Domain.{positionInDomain}
 use Rattle.cells.specs.CellRule.{cellOf, cellAt}
@@ -18,7 +19,7 @@ use Rattle.storage.specs.FilterLaws.{by-test}
 use Rattle.point_tables.specs.Tables.{Tables, sizeOf}
 use Rattle.point_tables.specs.Decide.{holds}
 use Rattle.queries.specs.declared.Test.the-variants.{Any}
-use Rattle.queries.specs.Queries.{Findings, findings, mostCells, found, searchOf, queryOf}
+use Rattle.queries.specs.Queries.{Findings, findings, found, searchOf, queryOf}
 use Rattle.queries.specs.Cases.{origin, square, wider}
 use Rattle.queries.proofs.laws.FindLaws.{search-7, search-9, search-0}
 use Rattle.queries.proofs.laws.CornerLaws.{query-is}

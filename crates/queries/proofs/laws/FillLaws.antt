@@ -8,6 +8,7 @@ use lib.Dec.{leb}
 use lib.Ieee.{Float}
 use lib.ListN.{length, getD, take, drop, length-map, List·getD-append}
 use borrow.Author.Tests.{leb-true, leb-false, le-leb, lt-leb}
+use Rattle.basics.specs.Limits.{mostCells}
 use Rattle.geometry.specs.declared.Position.{Position}
 use Rattle.cells.specs.declared.Cell.{Cell}
 use Rattle.cells.specs.CellRule.{cellAt, Reached}
@@ -18,7 +19,7 @@ use Rattle.point_tables.specs.Tables.{Tables, sizeOf, usedOf}
 use Rattle.point_tables.specs.Holds.{Holds}
 use Rattle.point_tables.specs.Decide.{holds, holds-says}
 use Rattle.queries.specs.declared.Test.{Test}
-use Rattle.queries.specs.Queries.{Findings, findings, mostCells, handleRow, placeRow, found, searchOf}
+use Rattle.queries.specs.Queries.{Findings, findings, handleRow, placeRow, found, searchOf}
 use Rattle.queries.specs.Places.{wantedAt, placesOf}
 use Rattle.queries.proofs.laws.PlacesLaws.{places-inside}
 use Rattle.queries.specs.Fill.{handleAt, placeAt, filled, Stocked, Findable}
