@@ -450,12 +450,12 @@ use denote.Triple.Statement.{Contract, Triple}
 use denote.Triple.Call.{calls-at}
 use denote.Triple.Clauses.{ensured, lasts}
 use denote.Triple.Walked.{says}
-''' + STRUSE + '''use Rattle.objects.specs.Columns.{numsOf, realsOf, intsOf}
-use Rattle.replies.specs.Replies.{reply}
-use Rattle.point_tables.specs.Tables.{tables}
-use Rattle.point_tables.specs.Outcome.{outcome}
-use Rattle.queries.specs.Queries.{findings}
-use Rattle.records.specs.Seen.{seen}
+''' + STRUSE + '''use Rattle.objects.specs.Meaning.Columns.{numsOf, realsOf, intsOf}
+use Rattle.replies.specs.Meaning.Replies.{reply}
+use Rattle.point_tables.specs.Meaning.Tables.{tables}
+use Rattle.point_tables.specs.Meaning.Outcome.{outcome}
+use Rattle.queries.specs.Meaning.Queries.{findings}
+use Rattle.records.specs.Meaning.Seen.{seen}
 '''
 CALLEES = {}
 def callee(*a, **k):
@@ -552,7 +552,7 @@ use denote.Triple.Statement.{Triple}
 use denote.Triple.Table.{entered, cited}
 use denote.Triple.Walked.{says, Stays, stay-none, stay-none-slice, stay-slice, walkOf, goes-none, goes-none-slice, goes-slice, Walks, ends-at, walked, walk-meets}
 use denote.Exit.{yes}
-use Rattle.objects.specs.Columns.{numsOf, realsOf, intsOf}
+use Rattle.objects.specs.Meaning.Columns.{numsOf, realsOf, intsOf}
 """ + STRUSE
 
 
@@ -1049,8 +1049,8 @@ use denote.Signature.Array.{arrayOf}
 use denote.Steps.{only, peeks}
 use denote.Struct.Steps.{spelt}
 use denote.Triple.Walked.{stay-dropped, goes-dropped}
-use Rattle.records.specs.Seen.{Seen, seen}
-use Rattle.point_tables.specs.Outcome.{Outcome}
+use Rattle.records.specs.Meaning.Seen.{Seen, seen}
+use Rattle.point_tables.specs.Meaning.Outcome.{Outcome}
 """
 TWO = """
 -- ---- a table of two records: its type, its machine value, and what the row's laws say of it
@@ -1072,11 +1072,11 @@ room-2 n e = subst (Room R) (sym e) (lit< tt, lit< tt)
 VAL['table'] = ('Q', 'List Record', lambda v: f'(array-vals vals {v})', lambda v: f'Is Q {v} (array-vals vals {v})', lambda v, g: f'owned ! Q (Is Q) (array-makes 𝓤 H A W R (LL.makes RT.the-type RT′.the-plain 𝓤 H A) 2) {v} _ {g}', lambda v: f'mach {v}', lambda v, g: f'(array-lawful 𝓤 H A W R (LL.lawful RT.the-type RT′.the-laws 𝓤 H A W) 2 .typed {v} _ {g} .0)')
 VALS['table'] = 'array-vals vals'; TELLS['table'] = 'tells-array'
 
-EXTRA = '''use Rattle.point_tables.specs.Tables.{tables as tabled}
-use Rattle.point_tables.specs.Outcome.{outcome}
-use Rattle.replies.specs.Replies.{reply}
-use Rattle.queries.specs.Queries.{Findings, findings}
-use Rattle.records.specs.Seen.{back}
+EXTRA = '''use Rattle.point_tables.specs.Meaning.Tables.{tables as tabled}
+use Rattle.point_tables.specs.Meaning.Outcome.{outcome}
+use Rattle.replies.specs.Meaning.Replies.{reply}
+use Rattle.queries.specs.Meaning.Queries.{Findings, findings}
+use Rattle.records.specs.Meaning.Seen.{back}
 '''
 # how a call takes nums, reals, ints, map, pool, spots, cells
 MARKS = ['mut', 'mut', 'mut', 'copy', 'copy', 'copy', 'mut']

@@ -1,3 +1,4 @@
 -- Laws, and what the proofs share.
 pub mod ToldLaws
 pub mod AnswerLaws
+pub mod Cell

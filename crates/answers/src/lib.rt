@@ -1,13 +1,13 @@
 // The two grids of the trace answer a request: a call of one of them, or for `cell` of both.
 ghost use mathlib.Core.Path.{_≡_};
-ghost use Rattle.basics.specs.Lent.{was, is};
-ghost use Rattle.point_tables.specs.Lent as Points;
-ghost use Rattle.box_tables.specs.Lent as Boxes;
-ghost use Rattle.telling.specs.InRange.{InRange};
-ghost use Rattle.telling.specs.Tells.{tells, doneOr};
-ghost use Rattle.answers.specs.State.{state, answered};
-ghost use Rattle.answers.specs.Cell.{built, cellOf};
-ghost use Rattle.answers.specs.Answer.{answerOf};
+ghost use Rattle.basics.specs.Meaning.Lent.{was, is};
+ghost use Rattle.point_tables.specs.Meaning.Lent as Points;
+ghost use Rattle.box_tables.specs.Meaning.Lent as Boxes;
+ghost use Rattle.telling.specs.Inner.InRange.{InRange};
+ghost use Rattle.telling.specs.Meaning.Tells.{tells, doneOr};
+ghost use Rattle.answers.specs.Meaning.State.{state, answered};
+ghost use Rattle.answers.specs.Meaning.Cell.{built, cellOf};
+ghost use Rattle.answers.specs.Meaning.Answer.{answerOf};
 use lines::Line;
 use lines::Request;
 use printing::Said;

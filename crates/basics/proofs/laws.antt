@@ -1,3 +1,5 @@
 -- Laws, and what the proofs share.
 pub mod DecideFloat
 pub mod RefusalLaws
+pub mod Counting
+pub mod Says

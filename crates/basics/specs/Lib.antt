@@ -1,7 +1,3 @@
 -- What every crate above cites: tests that say a fact, the first refusal that applies, the outcome of a call, and the limits of document 01.
-pub mod Says
-pub mod Refusals
-pub mod Counting
-pub mod Lent
-pub mod Limits
-pub mod Outcome
+pub mod Meaning
+pub mod Inner

@@ -3,10 +3,10 @@ ghost use mathlib.Core.Path.{_≡_};
 ghost use mathlib.Core.List.{_∷_, _++_};
 ghost use Prim.Native.Nat.{_+_, _≤_};
 ghost use lib.ListN.{length, take, drop};
-ghost use Rattle.basics.specs.Limits.{mostSlots};
-ghost use Rattle.basics.specs.Lent.{was, is};
-ghost use Rattle.slots.specs.Map.{wordsFor};
-ghost use Rattle.blank.specs.Blank.{freeWord, freeWords, blankNums, blankMap};
+ghost use Rattle.basics.specs.Meaning.Limits.{mostSlots};
+ghost use Rattle.basics.specs.Meaning.Lent.{was, is};
+ghost use Rattle.slots.specs.Meaning.Map.{wordsFor};
+ghost use Rattle.blank.specs.Meaning.Blank.{freeWord, freeWords, blankNums, blankMap};
 use slots::Row;
 
 // Every slot is free at version 1.

@@ -1,3 +1,2 @@
 -- What the box grid of the trace answers to a request.
-pub mod Changes
-pub mod Searches
+pub mod Meaning

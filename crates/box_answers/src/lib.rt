@@ -1,11 +1,11 @@
 // What the box grid of the trace answers to a line: each is one call of the grid.
 ghost use mathlib.Core.Path.{_≡_};
-ghost use Rattle.basics.specs.Lent.{was, is};
-ghost use Rattle.lines.specs.Texts.{SpotInRange};
-ghost use Rattle.box_tables.specs.Lent.{after, before};
-ghost use Rattle.box_tables.specs.Outcome.{outcome};
-ghost use Rattle.box_answers.specs.Changes.{changeOf, insertedOf, placedOf, takenOf};
-ghost use Rattle.box_answers.specs.Searches.{searched, searchOf};
+ghost use Rattle.basics.specs.Meaning.Lent.{was, is};
+ghost use Rattle.lines.specs.Inner.Texts.{SpotInRange};
+ghost use Rattle.box_tables.specs.Meaning.Lent.{after, before};
+ghost use Rattle.box_tables.specs.Meaning.Outcome.{outcome};
+ghost use Rattle.box_answers.specs.Meaning.Changes.{changeOf, insertedOf, placedOf, takenOf};
+ghost use Rattle.box_answers.specs.Meaning.Searches.{searched, searchOf};
 use lines::BoxChange;
 use lines::Spot;
 use printing::Said;

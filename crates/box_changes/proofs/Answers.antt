@@ -6,22 +6,23 @@ use native.Mathlib.Omega.{arith}
 use lib.Dec.{T}
 use lib.ListN.{length}
 use borrow.Author.Tests.{ne-eqb, le-leb, lt-leb}
-use Rattle.basics.specs.Says.{says-t}
-use Rattle.geometry.specs.Domain.{aabbInDomain}
+use Rattle.basics.proofs.laws.Says.{says-t}
+use Rattle.geometry.specs.Meaning.Domain.{aabbInDomain}
 use Rattle.geometry.specs.declared.Aabb.{Aabb}
 use Rattle.slots.specs.declared.Handle.{Handle}
-use Rattle.box_tables.specs.Tables.{Tables, sizeOf, usedOf, aabbOn, covers}
-use Rattle.box_tables.specs.Holds.{Holds}
-use Rattle.box_tables.specs.Decide.{holds, holds-says}
-use Rattle.box_tables.specs.Outcome.{outcome}
+use Rattle.box_tables.specs.Meaning.Tables.{Tables, sizeOf, usedOf, aabbOn, covers}
+use Rattle.box_tables.specs.Meaning.Holds.{Holds}
+use Rattle.box_tables.specs.Meaning.Decide.{holds, holds-says}
+use Rattle.box_tables.specs.Meaning.Outcome.{outcome}
 use Rattle.box_tables.specs.declared.Span.{Span}
-use Rattle.box_inserts.specs.Insert.{fewCells}
+use Rattle.box_inserts.specs.Meaning.Insert.{fewCells}
 use Rattle.box_inserts.proofs.laws.InsertLaws.{few-says}
-use Rattle.box_changes.specs.SetAabb.{placed, hasRoomFor, setAabbAnswer, setAabbOf}
+use Rattle.box_changes.specs.Meaning.SetAabb.{placed, hasRoomFor, setAabbAnswer, setAabbOf}
 use Rattle.box_changes.proofs.laws.RemoveLaws.{isGood, Names, names}
 use Rattle.box_changes.proofs.laws.SetAabbLaws.{answerBy, room-for-says}
 use Rattle.box_changes.specs.declared.placing.Change.{Change}
-use Rattle.box_changes.specs.Steps.{Movable, Judged}
+use Rattle.box_changes.proofs.laws.Steps.{Movable}
+use Rattle.box_changes.specs.Inner.Steps.{Judged}
 
 -- ---- what is told with an answer
 pub refuses : (t : Tables) (h : Handle) (b : Aabb) (k : ℕ) (c : Change) → c .answer ≡ k → 0 < k → k ≡ setAabbAnswer t h b → Judged t h b c

@@ -7,24 +7,29 @@ use native.Mathlib.Omega.{arith}
 use lib.Ieee.{Float}
 use lib.ListN.{length, getD, set, take, drop}
 use lib.Seq.{take-append-seam, length-take-le}
-use Rattle.basics.specs.Says.{Says, apart, says-via, says-same, said-says}
-use Rattle.basics.specs.Refusals.{pick}
+use Rattle.basics.specs.Meaning.Says.{Says}
+use Rattle.basics.proofs.laws.Says.{apart, says-via, says-same, said-says}
+use Rattle.basics.specs.Meaning.Refusals.{pick}
 use Rattle.geometry.specs.declared.Aabb.{Aabb}
 use Rattle.cells.specs.declared.Cell.{Cell}
-use Rattle.cells.specs.Numbers.{Near, cell-ext}
-use Rattle.cells.specs.Range.{cellsIn}
-use Rattle.storage.specs.Keyed.{Sorted, written}
-use Rattle.storage.specs.Entries.{rowKey}
+use Rattle.cells.specs.Inner.Numbers.{Near}
+use Rattle.cells.proofs.laws.Numbers.{cell-ext}
+use Rattle.cells.specs.Meaning.Range.{cellsIn}
+use Rattle.storage.specs.Inner.Keyed.{Sorted}
+use Rattle.storage.specs.Meaning.Keyed.{written}
+use Rattle.storage.specs.Meaning.Entries.{rowKey}
 use Rattle.storage.proofs.laws.WrittenLaws.{length-written}
-use Rattle.coverage.specs.Coverage.{entered, left, Stands}
+use Rattle.coverage.specs.Meaning.Coverage.{entered, left, Stands}
 use Rattle.coverage.proofs.laws.EnterLaws.{entered-length}
 use Rattle.coverage.proofs.laws.LeaveLaws.{left-sorted, left-length}
-use Rattle.box_tables.specs.Tables.{Tables, tables, sizeOf, counting, aabbOn, cornersOf}
+use Rattle.box_tables.specs.Meaning.Tables.{Tables, tables, sizeOf, counting, aabbOn, cornersOf}
 use Rattle.box_tables.proofs.laws.BoxLaws as Box
 use Rattle.box_tables.proofs.laws.HoldsLaws.{entries-sorted, low-near, high-near}
 use Rattle.box_tables.specs.declared.Span.{Span}
-use Rattle.box_changes.specs.SetAabb.{Same, d-stay, cellsStay, recorded, moved, placed}
-use Rattle.box_changes.specs.Steps.{Movable, itemIn, leftIn, shiftedRows, shiftedMap, shiftedPool, stayIn, relistedMap, relistedPool, oldSpan, newSpan, Shifting}
+use Rattle.box_changes.specs.Meaning.SetAabb.{Same, d-stay, cellsStay, recorded, moved, placed}
+use Rattle.box_changes.proofs.laws.Steps.{Movable}
+use Rattle.box_changes.specs.Inner.Steps.{itemIn, leftIn, shiftedRows, shiftedMap, shiftedPool, stayIn, relistedMap, relistedPool, oldSpan}
+use Rattle.box_changes.specs.Inner.Steps.{newSpan, Shifting}
 
 -- ---- both corner cells stay
 same-cells : {r : Bool} {a b : Cell} → Says r (a ≡ b) → Says r (Same a b)

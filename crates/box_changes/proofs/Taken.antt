@@ -7,23 +7,24 @@ use native.Mathlib.Omega.{arith}
 use lib.Dec.{eqb}
 use lib.ListN.{length, take}
 use borrow.Author.Tests.{ne-eqb}
-use Rattle.basics.specs.Refusals.{unless, firstOf, orElse}
-use Rattle.cells.specs.Numbers.{Near}
+use Rattle.basics.specs.Meaning.Refusals.{unless, firstOf, orElse}
+use Rattle.cells.specs.Inner.Numbers.{Near}
 use Rattle.slots.specs.declared.Handle.{Handle}
-use Rattle.slots.specs.Slot.{good, emptiedNums, emptiedMap}
-use Rattle.storage.specs.Keyed.{Sorted, written}
-use Rattle.storage.specs.Entries.{rowKey}
-use Rattle.coverage.specs.Coverage.{left, Stands}
-use Rattle.box_tables.specs.Tables.{Tables, tables, sizeOf, usedOf, counting, aabbOn, objOn, itemOf}
-use Rattle.box_tables.specs.Decide.{holds, holds-says}
+use Rattle.slots.specs.Meaning.Slot.{good, emptiedNums, emptiedMap}
+use Rattle.storage.specs.Inner.Keyed.{Sorted}
+use Rattle.storage.specs.Meaning.Keyed.{written}
+use Rattle.storage.specs.Meaning.Entries.{rowKey}
+use Rattle.coverage.specs.Meaning.Coverage.{left, Stands}
+use Rattle.box_tables.specs.Meaning.Tables.{Tables, tables, sizeOf, usedOf, counting, aabbOn, objOn, itemOf}
+use Rattle.box_tables.specs.Meaning.Decide.{holds, holds-says}
 use Rattle.box_tables.proofs.laws.HoldsLaws.{entries-sorted, low-near, high-near}
-use Rattle.box_tables.specs.Outcome.{Outcome, outcome}
+use Rattle.box_tables.specs.Meaning.Outcome.{Outcome, outcome}
 use Rattle.box_tables.specs.declared.Span.{Span}
-use Rattle.box_tables.specs.Way.{spanOf}
-use Rattle.box_changes.specs.Remove.{entriesWithout, takenOut, removeAnswer, removeOf}
+use Rattle.box_tables.specs.Inner.Way.{spanOf}
+use Rattle.box_changes.specs.Meaning.Remove.{entriesWithout, takenOut, removeAnswer, removeOf}
 use Rattle.box_changes.proofs.laws.RemoveLaws.{names}
-use Rattle.box_changes.specs.Steps.{Object}
-use Rattle.replies.specs.Replies.{reply}
+use Rattle.box_changes.specs.Inner.Steps.{Object}
+use Rattle.replies.specs.Meaning.Replies.{reply}
 
 module _ (t : Tables) (s : ℕ) (o : Object t s) (u : ℕ) (eu : u ≡ usedOf t) (p : Span) (ep : p ≡ spanOf (sizeOf t) (aabbOn t s)) (i : ℕ) (ei : i ≡ itemOf s (eqb (p .cells) 1)) where
   pub leave-asks : (u ≤ length (t .pool)) × Sorted rowKey (take u (t .pool)) × Near (p .low) × Near (p .high) × Stands (p .low) (p .high) i (take u (t .pool))

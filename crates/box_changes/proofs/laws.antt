@@ -4,3 +4,4 @@ pub mod WithoutLaws
 pub mod RemoveLaws
 pub mod RemoveKeeps
 pub mod SetAabbKeeps
+pub mod Steps

@@ -1,4 +1,3 @@
 -- What moving and removing a box answer and leave, and that both keep the tables holding a grid.
-pub mod Remove
-pub mod SetAabb
-pub mod Steps
+pub mod Meaning
+pub mod Inner

@@ -2,12 +2,12 @@
 ghost use mathlib.Core.Path.{_≡_};
 ghost use Prim.Native.Nat.{_<_};
 ghost use lib.ListN.{length, set};
-ghost use Rattle.basics.specs.Lent.{was, is};
-ghost use Rattle.box_tables.specs.Lent.{after, before};
-ghost use Rattle.box_tables.specs.Outcome.{outcome};
-ghost use Rattle.box_tables.specs.Tables.{cornersOf};
-ghost use Rattle.box_changes.specs.SetAabb.{setAabbOf};
-ghost use Rattle.box_changes.specs.Steps.{stayIn, shiftedMap, shiftedPool, relistedMap, relistedPool, Shifting, Judged};
+ghost use Rattle.basics.specs.Meaning.Lent.{was, is};
+ghost use Rattle.box_tables.specs.Meaning.Lent.{after, before};
+ghost use Rattle.box_tables.specs.Meaning.Outcome.{outcome};
+ghost use Rattle.box_tables.specs.Meaning.Tables.{cornersOf};
+ghost use Rattle.box_changes.specs.Meaning.SetAabb.{setAabbOf};
+ghost use Rattle.box_changes.specs.Inner.Steps.{stayIn, shiftedMap, shiftedPool, relistedMap, relistedPool, Shifting, Judged};
 use box_tables::Span;
 use geometry::Aabb;
 use slots::Handle;

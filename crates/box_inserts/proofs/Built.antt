@@ -5,15 +5,16 @@ use mathlib.Core.Bool.{Bool, true, false}
 use mathlib.Core.List.{List}
 use native.Mathlib.Omega.{arith}
 use borrow.Author.Tests.{ne-eqb}
-use Rattle.basics.specs.Says.{Says, says-same}
-use Rattle.basics.specs.Refusals.{orElse}
-use Rattle.cells.specs.Size.{SizeInDomain}
-use Rattle.blank.specs.Blank.{blankNums, blankMap}
+use Rattle.basics.specs.Meaning.Says.{Says}
+use Rattle.basics.proofs.laws.Says.{says-same}
+use Rattle.basics.specs.Meaning.Refusals.{orElse}
+use Rattle.cells.specs.Meaning.Size.{SizeInDomain}
+use Rattle.blank.specs.Meaning.Blank.{blankNums, blankMap}
 use Rattle.blank.proofs.laws.BlankLaws.{size-says}
-use Rattle.box_tables.specs.Tables.{Tables, tables, slotsOf, Sized}
-use Rattle.box_tables.specs.Decide.{sized, sized-says}
-use Rattle.box_tables.specs.Outcome.{outcome}
-use Rattle.box_inserts.specs.New.{built, newAnswer, newOf}
+use Rattle.box_tables.specs.Meaning.Tables.{Tables, tables, slotsOf, Sized}
+use Rattle.box_tables.specs.Meaning.Decide.{sized, sized-says}
+use Rattle.box_tables.specs.Meaning.Outcome.{outcome}
+use Rattle.box_inserts.specs.Meaning.New.{built, newAnswer, newOf}
 
 module _ (t : Tables) (size : ℕ) where
   by-two : (a b : Bool) → Says a (Sized t) → Says b (SizeInDomain size) → orElse a 3 (orElse b 2 0) ≡ newAnswer t size

@@ -7,25 +7,26 @@ use native.Mathlib.Omega.{arith}
 use lib.Dec.{leb}
 use lib.ListN.{getD}
 use borrow.Author.Tests.{ne-eqb, le-leb, lt-leb}
-use Rattle.basics.specs.Says.{says-t}
-use Rattle.basics.specs.Refusals.{orElse}
-use Rattle.geometry.specs.Domain.{aabbInDomain}
+use Rattle.basics.proofs.laws.Says.{says-t}
+use Rattle.basics.specs.Meaning.Refusals.{orElse}
+use Rattle.geometry.specs.Meaning.Domain.{aabbInDomain}
 use Rattle.geometry.specs.declared.Aabb.{Aabb}
 use Rattle.slots.specs.declared.Usable.{Usable}
 use Rattle.slots.specs.declared.Usable.the-variants.{At, Nothing}
-use Rattle.slots.specs.Map.{lowestUsable, isSome}
-use Rattle.slots.specs.Slot.{versionAt}
+use Rattle.slots.specs.Meaning.Map.{lowestUsable, isSome}
+use Rattle.slots.specs.Meaning.Slot.{versionAt}
 use Rattle.slots.proofs.laws.SlotLaws.{lowest-free}
-use Rattle.box_tables.specs.Tables.{Tables, sizeOf, slotsOf, covers}
-use Rattle.box_tables.specs.Decide.{holds, holds-says}
-use Rattle.box_tables.specs.Outcome.{outcome}
-use Rattle.box_tables.specs.Way.{spanOf}
+use Rattle.box_tables.specs.Meaning.Tables.{Tables, sizeOf, slotsOf, covers}
+use Rattle.box_tables.specs.Meaning.Decide.{holds, holds-says}
+use Rattle.box_tables.specs.Meaning.Outcome.{outcome}
+use Rattle.box_tables.specs.Inner.Way.{spanOf}
 use Rattle.box_tables.specs.declared.Span.{Span}
 use Rattle.replies.specs.declared.Inserted.{Inserted}
-use Rattle.replies.specs.Replies.{inserted}
+use Rattle.replies.specs.Meaning.Replies.{inserted}
 use Rattle.box_inserts.specs.declared.inserting.Choice.{Choice}
-use Rattle.box_inserts.specs.Insert.{usableSlot, put, fewCells, hasRoom, insertAnswer, insertOf, answerBy}
-use Rattle.box_inserts.specs.Fresh.{Ready, Fresh}
+use Rattle.box_inserts.specs.Meaning.Insert.{usableSlot, put, fewCells, hasRoom, insertAnswer, insertOf}
+use Rattle.box_inserts.specs.Inner.Insert.{answerBy}
+use Rattle.box_inserts.specs.Inner.Fresh.{Ready, Fresh}
 use Rattle.box_inserts.proofs.laws.InsertLaws.{few-says, room-says, insert-done}
 
 -- ---- the choice, test by test

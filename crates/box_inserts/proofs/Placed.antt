@@ -7,20 +7,21 @@ use lib.Dec.{eqb}
 use lib.Ieee.{Float}
 use lib.ListN.{length, set, take}
 use Rattle.geometry.specs.declared.Aabb.{Aabb}
-use Rattle.cells.specs.Numbers.{Near}
-use Rattle.cells.specs.Range.{cellsIn}
-use Rattle.slots.specs.Map.{taken}
-use Rattle.slots.specs.Slot.{live, versionAt}
-use Rattle.storage.specs.Keyed.{Sorted, written}
-use Rattle.storage.specs.Entries.{rowKey}
-use Rattle.coverage.specs.Coverage.{entered}
-use Rattle.box_tables.specs.Tables.{Tables, tables, sizeOf, usedOf, counting, covers, itemOf, cornersOf}
-use Rattle.box_tables.specs.Way.{spanOf}
+use Rattle.cells.specs.Inner.Numbers.{Near}
+use Rattle.cells.specs.Meaning.Range.{cellsIn}
+use Rattle.slots.specs.Meaning.Map.{taken}
+use Rattle.slots.specs.Meaning.Slot.{live, versionAt}
+use Rattle.storage.specs.Inner.Keyed.{Sorted}
+use Rattle.storage.specs.Meaning.Keyed.{written}
+use Rattle.storage.specs.Meaning.Entries.{rowKey}
+use Rattle.coverage.specs.Meaning.Coverage.{entered}
+use Rattle.box_tables.specs.Meaning.Tables.{Tables, tables, sizeOf, usedOf, counting, covers, itemOf, cornersOf}
+use Rattle.box_tables.specs.Inner.Way.{spanOf}
 use Rattle.box_tables.proofs.laws.BoxLaws.{low-near, high-near}
 use Rattle.box_tables.proofs.laws.HoldsLaws.{entries-sorted}
 use Rattle.box_tables.specs.declared.Span.{Span}
-use Rattle.box_inserts.specs.Insert.{put}
-use Rattle.box_inserts.specs.Fresh.{Fresh}
+use Rattle.box_inserts.specs.Meaning.Insert.{put}
+use Rattle.box_inserts.specs.Inner.Fresh.{Fresh}
 
 module _ (t : Tables) (s : ℕ) (b : Aabb) (f : Fresh t s b) (u : ℕ) (eu : u ≡ usedOf t) (p : Span) (ep : p ≡ spanOf (sizeOf t) b) where
   cells-are : p .cells ≡ covers (sizeOf t) b

@@ -1,4 +1,3 @@
 -- What building and inserting answer and leave, and that both keep the tables holding a grid.
-pub mod New
-pub mod Insert
-pub mod Fresh
+pub mod Meaning
+pub mod Inner

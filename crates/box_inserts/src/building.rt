@@ -1,8 +1,8 @@
 // Building: every slot is free at version 1, and no list has an entry.
 ghost use mathlib.Core.Path.{_≡_};
-ghost use Rattle.box_tables.specs.Lent.{after, before};
-ghost use Rattle.box_tables.specs.Outcome.{outcome};
-ghost use Rattle.box_inserts.specs.New.{newAnswer, newOf};
+ghost use Rattle.box_tables.specs.Meaning.Lent.{after, before};
+ghost use Rattle.box_tables.specs.Meaning.Outcome.{outcome};
+ghost use Rattle.box_inserts.specs.Meaning.New.{newAnswer, newOf};
 use slots::Row;
 
 // The answer: the first refusal that applies, or 0.

@@ -3,15 +3,15 @@ ghost use mathlib.Core.Path.{_≡_};
 ghost use mathlib.Core.List.{map};
 ghost use Prim.Native.Nat.{_+_, _≤_};
 ghost use lib.ListN.{length, take};
-ghost use Rattle.basics.specs.Limits.{mostBoxes};
-ghost use Rattle.basics.specs.Lent.{was, is};
-ghost use Rattle.storage.specs.Keyed.{Sorted};
-ghost use Rattle.storage.specs.Entries.{rowKey};
-ghost use Rattle.box_tables.specs.Tables.{slotOf};
-ghost use Rattle.box_queries.specs.Firsts.{firsts};
-ghost use Rattle.box_queries.specs.Marks.{unmarked};
-ghost use Rattle.box_queries.specs.Gather.{Slots, inside, slotsIn};
-ghost use Rattle.box_queries.specs.Collected.{Collected};
+ghost use Rattle.basics.specs.Meaning.Limits.{mostBoxes};
+ghost use Rattle.basics.specs.Meaning.Lent.{was, is};
+ghost use Rattle.storage.specs.Inner.Keyed.{Sorted};
+ghost use Rattle.storage.specs.Meaning.Entries.{rowKey};
+ghost use Rattle.box_tables.specs.Meaning.Tables.{slotOf};
+ghost use Rattle.box_queries.specs.Meaning.Firsts.{firsts};
+ghost use Rattle.box_queries.specs.Inner.Marks.{unmarked};
+ghost use Rattle.box_queries.specs.Inner.Gather.{Slots, inside, slotsIn};
+ghost use Rattle.box_queries.specs.Inner.Collected.{Collected};
 
 // Collects the slots of a stretch that have no mark behind the first n of `found`, and marks them. Returns how many there are then.
 fn gather_run(

@@ -2,12 +2,12 @@
 ghost use mathlib.Core.Path.{_≡_};
 ghost use Prim.Native.Nat.{_≤_};
 ghost use lib.ListN.{length, take};
-ghost use Rattle.basics.specs.Limits.{mostBoxes};
-ghost use Rattle.basics.specs.Lent.{was, is};
-ghost use Rattle.geometry.specs.Intersects.{intersects};
-ghost use Rattle.storage.specs.Keyed.{filter};
-ghost use Rattle.box_tables.specs.Tables.{aabbAt};
-ghost use Rattle.box_queries.specs.Put.{Found};
+ghost use Rattle.basics.specs.Meaning.Limits.{mostBoxes};
+ghost use Rattle.basics.specs.Meaning.Lent.{was, is};
+ghost use Rattle.geometry.specs.Meaning.Intersects.{intersects};
+ghost use Rattle.storage.specs.Meaning.Keyed.{filter};
+ghost use Rattle.box_tables.specs.Meaning.Tables.{aabbAt};
+ghost use Rattle.box_queries.specs.Inner.Put.{Found};
 use geometry::Aabb;
 
 // Of the first n slots of `found` those whose box q intersects go to the front, in the same order. Returns how many they are.

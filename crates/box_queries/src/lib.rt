@@ -2,11 +2,11 @@
 ghost use mathlib.Core.Path.{_≡_};
 ghost use Prim.Native.Nat.{min};
 ghost use lib.ListN.{length};
-ghost use Rattle.basics.specs.Limits.{mostBoxes};
-ghost use Rattle.basics.specs.Lent.{was, is};
-ghost use Rattle.box_tables.specs.Lent.{before};
-ghost use Rattle.box_queries.specs.Queries.{handlesOf, broadOf, findings, queryOf};
-ghost use Rattle.box_queries.specs.Look.{Looked};
+ghost use Rattle.basics.specs.Meaning.Limits.{mostBoxes};
+ghost use Rattle.basics.specs.Meaning.Lent.{was, is};
+ghost use Rattle.box_tables.specs.Meaning.Lent.{before};
+ghost use Rattle.box_queries.specs.Meaning.Queries.{handlesOf, broadOf, findings, queryOf};
+ghost use Rattle.box_queries.specs.Inner.Look.{Looked};
 
 mod gather;
 mod keep;

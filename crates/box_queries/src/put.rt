@@ -3,11 +3,11 @@ ghost use mathlib.Core.Path.{_≡_};
 ghost use mathlib.Core.List.{map};
 ghost use Prim.Native.Nat.{_≤_};
 ghost use lib.ListN.{length, take};
-ghost use Rattle.basics.specs.Lent.{was, is};
-ghost use Rattle.storage.specs.Keyed.{written};
-ghost use Rattle.box_queries.specs.Queries.{boxRow};
-ghost use Rattle.box_queries.specs.Put.{Found};
-ghost use Rattle.slot_walks.specs.Live.{objAt, handleAt};
+ghost use Rattle.basics.specs.Meaning.Lent.{was, is};
+ghost use Rattle.storage.specs.Meaning.Keyed.{written};
+ghost use Rattle.box_queries.specs.Meaning.Queries.{boxRow};
+ghost use Rattle.box_queries.specs.Inner.Put.{Found};
+ghost use Rattle.slot_walks.specs.Meaning.Live.{objAt, handleAt};
 use slots::Row;
 
 // Slot and version.

@@ -6,17 +6,18 @@ use mathlib.Core.List.{List, map}
 use native.Mathlib.Omega.{arith}
 use lib.Ieee.{Float}
 use lib.ListN.{length}
-use Rattle.storage.specs.Keyed.{written}
-use Rattle.slot_walks.specs.Live.{liveFrom, objAt}
-use Rattle.slot_walks.specs.Cleared.{clearedRows, clearedMap}
-use Rattle.box_tables.specs.Tables.{Tables, tables, counting}
-use Rattle.box_tables.specs.Holds.{Holds}
-use Rattle.box_tables.specs.Decide.{holds, holds-says}
-use Rattle.box_tables.specs.Outcome.{outcome}
+use Rattle.storage.specs.Meaning.Keyed.{written}
+use Rattle.slot_walks.specs.Meaning.Live.{liveFrom, objAt}
+use Rattle.slot_walks.specs.Meaning.Cleared.{clearedRows, clearedMap}
+use Rattle.box_tables.specs.Meaning.Tables.{Tables, tables, counting}
+use Rattle.box_tables.specs.Meaning.Holds.{Holds}
+use Rattle.box_tables.specs.Meaning.Decide.{holds, holds-says}
+use Rattle.box_tables.specs.Meaning.Outcome.{outcome}
 use Rattle.replies.specs.declared.Count.{Count}
-use Rattle.box_reads.specs.Live.{liveSlots, countBy}
+use Rattle.box_reads.specs.Meaning.Live.{liveSlots}
+use Rattle.box_reads.specs.Inner.Live.{countBy}
 use Rattle.box_reads.proofs.laws.LiveLaws.{listAnswer, listCount, list-passed, listed, listed-0, listed-no}
-use Rattle.box_reads.specs.Clear.{boxAt, cleared, wrote, clearOf}
+use Rattle.box_reads.specs.Meaning.Clear.{boxAt, cleared, wrote, clearOf}
 use Rattle.box_reads.proofs.laws.ClearLaws.{clear-0, clear-no}
 
 -- the verdict says that the tables hold a grid

@@ -3,18 +3,18 @@ ghost use mathlib.Core.Path.{_≡_};
 ghost use mathlib.Core.Bool.{true};
 ghost use Prim.Native.Nat.{_≤_};
 ghost use lib.ListN.{length};
-ghost use Rattle.basics.specs.Limits.{mostBoxes};
-ghost use Rattle.basics.specs.Lent.{was, is};
-ghost use Rattle.box_tables.specs.Lent.{before};
-ghost use Rattle.slot_walks.specs.Live.{liveFrom};
-ghost use Rattle.box_reads.specs.Live.{countBy};
-ghost use Rattle.box_reads.specs.Reads.{got, getOf, lenOf, handlesOf, listing};
+ghost use Rattle.basics.specs.Meaning.Limits.{mostBoxes};
+ghost use Rattle.basics.specs.Meaning.Lent.{was, is};
+ghost use Rattle.box_tables.specs.Meaning.Lent.{before};
+ghost use Rattle.slot_walks.specs.Meaning.Live.{liveFrom};
+ghost use Rattle.box_reads.specs.Inner.Live.{countBy};
+ghost use Rattle.box_reads.specs.Meaning.Reads.{got, getOf, lenOf, handlesOf, listing};
 use geometry::Aabb;
 use geometry::Position;
 use replies::Count;
 use slots::Handle;
 use slots::Row;
-ghost use Rattle.geometry.specs.Zero.{zero-aabb};
+ghost use Rattle.geometry.specs.Meaning.Zero.{zero-aabb};
 
 mod clearing;
 

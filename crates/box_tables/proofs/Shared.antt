@@ -9,16 +9,17 @@ use lib.Ieee.{Float}
 use lib.ListN.{replicate, set, length-set, length-replicate, getD-replicate}
 use lib.Seq.{getD-set-same, getD-set-other}
 use borrow.Author.Count.{below-none, below-more}
-use Rattle.basics.specs.Says.{Says, says-same}
+use Rattle.basics.specs.Meaning.Says.{Says}
+use Rattle.basics.proofs.laws.Says.{says-same}
 use Rattle.geometry.specs.declared.Aabb.{Aabb}
-use Rattle.geometry.specs.Domain.{aabbInDomain}
-use Rattle.cells.specs.Key.{columnOf}
+use Rattle.geometry.specs.Meaning.Domain.{aabbInDomain}
+use Rattle.cells.specs.Inner.Key.{columnOf}
 use Rattle.box_tables.specs.declared.Span.{Span}
-use Rattle.box_tables.specs.Tables.{Tables}
-use Rattle.box_tables.specs.Holds.{Holds}
-use Rattle.box_tables.specs.Decide.{holds, holds-says}
-use Rattle.box_tables.specs.Way.{nextIn, lastIn, jumpIn, itemIn, trackOf, wayOf, wayAt}
-use Rattle.box_tables.specs.Check.{BoxOk, rowAt, Long, Ways, Given}
+use Rattle.box_tables.specs.Meaning.Tables.{Tables}
+use Rattle.box_tables.specs.Meaning.Holds.{Holds}
+use Rattle.box_tables.specs.Meaning.Decide.{holds, holds-says}
+use Rattle.box_tables.specs.Inner.Way.{nextIn, lastIn, jumpIn, itemIn, trackOf, wayOf, wayAt}
+use Rattle.box_tables.specs.Inner.Check.{BoxOk, rowAt, Long, Ways, Given}
 use Rattle.box_tables.proofs.laws.WayLaws.{way-slot}
 
 pub jump-some : (s : ℕ) (p : Span) → jumpIn (wayOf s p) ≡ 0 → ⊥

@@ -8,3 +8,4 @@ pub mod HoldsLaws
 pub mod PassLaws
 pub mod CornerLaws
 pub mod NumberLaws
+pub mod Way

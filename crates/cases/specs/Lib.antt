@@ -1,2 +1,2 @@
 -- The worked rows of document 01.
-pub mod Table
+pub mod Inner

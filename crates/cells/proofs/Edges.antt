@@ -11,15 +11,15 @@ use lib.Ieee.{Float, fin, binary32, ofInt, ofBits, neg, lt, le}
 use mir.Syntax.{w32, w64}
 use mir.Val.{Fits, SFits, toZ, ofZ}
 use mir.ValLaws.{toZ-ofZ}
-use Rattle.basics.specs.Says.{Says}
-use Rattle.geometry.specs.Domain.{inDomain}
+use Rattle.basics.specs.Meaning.Says.{Says}
+use Rattle.geometry.specs.Meaning.Domain.{inDomain}
 use Rattle.geometry.proofs.laws.DomainLaws.{domain-fits, domain-finite}
 use Rattle.geometry.proofs.laws.Rounding.{number}
-use Rattle.cells.specs.CellRule.{cellOf}
-use Rattle.cells.specs.Size.{SizeInDomain}
-use Rattle.cells.specs.ReachLaws.{domain-reached}
-use Rattle.cells.specs.EdgeLaws.{over-says, under-says}
-use Rattle.cells.specs.EdgeRule.{near-num, far-num, nought-num, room}
+use Rattle.cells.specs.Meaning.CellRule.{cellOf}
+use Rattle.cells.specs.Meaning.Size.{SizeInDomain}
+use Rattle.cells.proofs.laws.ReachLaws.{domain-reached}
+use Rattle.cells.proofs.laws.EdgeLaws.{over-says, under-says}
+use Rattle.cells.proofs.laws.EdgeRule.{near-num, far-num, nought-num, room}
 use Rattle.cells.proofs.Signs.{is-under, is-over}
 
 -- ---- k edges lie between a cell and zero, and the one next to zero is k sizes away

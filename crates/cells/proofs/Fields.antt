@@ -14,7 +14,7 @@ use lib.Ieee.Exact.{HasValue, odd-sign}
 use lib.Ieee.Nearest.{div-same}
 use lib.Ieee.Compare.{differs-from-itself}
 use borrow.Author.Tests.{lt-ltb, le-ltb, ltb-true, ltb-false, lt-leb, le-leb}
-use Rattle.cells.specs.Cut.{cutFields, cutBits}
+use Rattle.cells.specs.Inner.Cut.{cutFields, cutBits}
 
 -- ---- shifts
 join : (e : ℕ) → e ≤ 150 → e + (150 - e) ≡ 150

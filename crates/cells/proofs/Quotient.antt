@@ -11,9 +11,9 @@ use lib.Ieee.{Float, binary32, ofBits, lt}
 use mir.Syntax.{w32}
 use mir.Val.{SFits, toZ, ofZ}
 use mir.ValLaws.{toZ-ofZ}
-use Rattle.geometry.specs.Domain.{within}
-use Rattle.cells.specs.CellRule.{wholeOf, cellOf}
-use Rattle.cells.specs.CellRuleLaws.{cell-small}
+use Rattle.geometry.specs.Meaning.Domain.{within}
+use Rattle.cells.specs.Meaning.CellRule.{wholeOf, cellOf}
+use Rattle.cells.proofs.laws.CellRuleLaws.{cell-small}
 
 positive : (z : ℤ) → pos 0 <ℤ z → 0 < ofZ w32 z
 positive (pos n) h = ltb→lt 0 n (h .lt)

@@ -11,7 +11,8 @@ use mir.Val.{Fits, SFits, toZ, ofZ, hbits}
 use mir.ValLaws.{toZ-pos, toZ-ofZ}
 use borrow.Author.Tests.{le-ltb, ltb-true}
 use borrow.Author.Needs.{sfits-of}
-use Rattle.cells.specs.Key.{upward, downward}
+use Rattle.cells.specs.Meaning.Key.{upward}
+use Rattle.cells.specs.Inner.Key.{downward}
 use Rattle.cells.proofs.laws.KeyLaws.{upward-lt, downward-small}
 
 -- a signed number is read back from its bits

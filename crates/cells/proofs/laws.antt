@@ -6,3 +6,12 @@ pub mod SpanLaws
 pub mod CellTable
 pub mod StepLaws
 pub mod RangeLaws
+pub mod CellRuleLaws
+pub mod CellSignLaws
+pub mod EdgeLaws
+pub mod EdgeRule
+pub mod Numbers
+pub mod Patterns
+pub mod Range
+pub mod ReachLaws
+pub mod Rising

@@ -5,15 +5,17 @@ ghost use lib.Dec.{T};
 ghost use lib.IntN.{pos};
 ghost use lib.Signed.{mag, _<ℤ_};
 ghost use lib.Ieee.{binary32, ofInt};
-ghost use Rattle.basics.specs.Says.{Says};
-ghost use Rattle.geometry.specs.Domain.{within, inDomain};
-ghost use Rattle.cells.specs.Cut.{cutBits};
-ghost use Rattle.cells.specs.Size.{SizeInDomain};
-ghost use Rattle.cells.specs.CellRule.{wholeOf, cellOf, cellAt, Reached};
-ghost use Rattle.cells.specs.Span.{inSpan, Spans, LastBelow, FirstFrom};
-ghost use Rattle.cells.specs.Numbers.{Near};
-ghost use Rattle.cells.specs.Range.{countFrom, cellsIn};
-ghost use Rattle.cells.specs.Key.{upward, downward, keyOf, columnOf, lineOf, cellOfKey};
+ghost use Rattle.basics.specs.Meaning.Says.{Says};
+ghost use Rattle.geometry.specs.Meaning.Domain.{within, inDomain};
+ghost use Rattle.cells.specs.Inner.Cut.{cutBits};
+ghost use Rattle.cells.specs.Meaning.Size.{SizeInDomain};
+ghost use Rattle.cells.specs.Meaning.CellRule.{wholeOf, cellOf, cellAt};
+ghost use Rattle.cells.specs.Inner.CellRule.{Reached};
+ghost use Rattle.cells.specs.Inner.Span.{inSpan, Spans, LastBelow, FirstFrom};
+ghost use Rattle.cells.specs.Inner.Numbers.{Near};
+ghost use Rattle.cells.specs.Meaning.Range.{countFrom, cellsIn};
+ghost use Rattle.cells.specs.Meaning.Key.{upward, keyOf};
+ghost use Rattle.cells.specs.Inner.Key.{downward, columnOf, lineOf, cellOfKey};
 use geometry::Position;
 
 pub struct Cell {

@@ -1,4 +1,3 @@
 -- A box in the lists of the cells that it covers.
-pub mod Coverage
-pub mod Walk
-pub mod Taken
+pub mod Meaning
+pub mod Inner

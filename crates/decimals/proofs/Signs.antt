@@ -10,10 +10,10 @@ use mir.Syntax.{w32}
 use mir.Val.{Fits, SFits, toZ, ofZ}
 use mir.ValLaws.{toZ-pos, toZ-ofZ}
 use borrow.Author.Tests.{le-ltb, ltb-true}
-use Rattle.basics.specs.Says.{apart}
+use Rattle.basics.proofs.laws.Says.{apart}
 use Rattle.decimals.specs.declared.Number.the-variants.{Read}
 use Rattle.decimals.specs.declared.Count.the-variants.{Counted}
-use Rattle.decimals.specs.Fields.{negative}
+use Rattle.decimals.specs.Meaning.Fields.{negative}
 
 -- ---- -1 - k, of a k below 0
 below : (k : ℤ) → ltZ k (pos 0) ≡ true → negsuc 0 -ℤ k ≡ pos (mag k)

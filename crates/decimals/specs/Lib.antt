@@ -1,4 +1,3 @@
 -- Decimals as bytes: what the text of a number is, how a field is read back, and what writing it at a place of a buffer leaves.
-pub mod Text
-pub mod Fields
-pub mod Written
+pub mod Meaning
+pub mod Inner

@@ -5,10 +5,11 @@ ghost use Prim.Native.Nat.{_+_, _-_, _≤_, _<_};
 ghost use lib.ListN.{length};
 ghost use lib.Seq.{slice};
 ghost use lib.IntN.{natAbs};
-ghost use Rattle.basics.specs.Lent.{was, is};
-ghost use Rattle.decimals.specs.Text.{decimal, signedText};
-ghost use Rattle.decimals.specs.Fields.{digitsFrom, upTo, numberOf, countOf, Short, plain as Fields·plain, negative as Fields·negative};
-ghost use Rattle.decimals.specs.Written.{written, put};
+ghost use Rattle.basics.specs.Meaning.Lent.{was, is};
+ghost use Rattle.decimals.specs.Meaning.Text.{decimal, signedText};
+ghost use Rattle.decimals.specs.Meaning.Fields.{digitsFrom, upTo, numberOf, countOf, plain as Fields·plain, negative as Fields·negative};
+ghost use Rattle.decimals.specs.Inner.Fields.{Short};
+ghost use Rattle.decimals.specs.Meaning.Written.{written, put};
 
 // What a field reads as.
 pub enum Number {

@@ -1,5 +1,2 @@
 -- What the calls take, made of its numbers, and what the structs of numbers tell.
-pub mod Made
-pub mod Told
-pub mod PointTold
-pub mod BoxTold
+pub mod Meaning

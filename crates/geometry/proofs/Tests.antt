@@ -3,7 +3,7 @@ use mathlib.Core.Path.{_≡_, refl}
 use mathlib.Core.Bool.{Bool, true, false, _&&_}
 use lib.IntN.{pos}
 use lib.Ieee.{fin, binary32, ofBits, neg}
-use Rattle.geometry.specs.Domain.{reach}
+use Rattle.geometry.specs.Meaning.Domain.{reach}
 
 pub both : {a b p q : Bool} → a ≡ p → b ≡ q → (a && b) ≡ (p && q)
 both e g = cc

@@ -10,8 +10,8 @@ use lib.Pow.{pow-lt}
 use lib.Ieee.{Float, nan, inf, fin, binary32, up, down, eq, lt, neg, fits}
 use lib.Ieee.Fits.{up-pos}
 use borrow.Author.Tests.{eq-eqb, eqb-true, ltb-true, ltb-false}
-use Rattle.basics.specs.Says.{apart, both-true}
-use Rattle.geometry.specs.Intersects.{absolute}
+use Rattle.basics.proofs.laws.Says.{apart, both-true}
+use Rattle.geometry.specs.Meaning.Intersects.{absolute}
 
 abbrev none : Float
 none = fin false 0 (pos 0)

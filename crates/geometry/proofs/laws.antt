@@ -12,3 +12,4 @@ pub mod CircleLaws
 pub mod Cases
 pub mod WithinLaws
 pub mod RectangleLaws
+pub mod Value

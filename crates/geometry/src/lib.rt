@@ -2,12 +2,12 @@
 ghost use mathlib.Core.Path.{_≡_};
 ghost use mathlib.Core.Bool.{false};
 ghost use lib.Ieee.{isNan};
-ghost use Rattle.basics.specs.Says.{Says};
-ghost use Rattle.geometry.specs.Domain.{inDomain, positionInDomain, radiusInDomain, aabbInDomain};
-ghost use Rattle.geometry.specs.Circle.{inCircle};
-ghost use Rattle.geometry.specs.Rectangle as Rectangle;
-ghost use Rattle.geometry.specs.Rectangle.{lowerCorner, upperCorner, inRectangle};
-ghost use Rattle.geometry.specs.Intersects as Intersects;
+ghost use Rattle.basics.specs.Meaning.Says.{Says};
+ghost use Rattle.geometry.specs.Meaning.Domain.{inDomain, positionInDomain, radiusInDomain, aabbInDomain};
+ghost use Rattle.geometry.specs.Meaning.Circle.{inCircle};
+ghost use Rattle.geometry.specs.Meaning.Rectangle;
+ghost use Rattle.geometry.specs.Meaning.Rectangle.{lowerCorner, upperCorner, inRectangle};
+ghost use Rattle.geometry.specs.Meaning.Intersects;
 
 pub struct Position {
     pub x: f32,

@@ -1,3 +1,2 @@
 -- Histories of the calls that change a point grid, and what holds after any of them.
-pub mod History
-pub mod HistoryLaws
+pub mod Inner

@@ -6,22 +6,24 @@ use mathlib.Core.List.{List}
 use native.Mathlib.Omega.{arith}
 use lib.ListN.{length}
 use borrow.Author.Tests.{ne-eqb}
-use Rattle.basics.specs.Says.{says-t}
-use Rattle.geometry.specs.Domain.{positionInDomain}
+use Rattle.basics.proofs.laws.Says.{says-t}
+use Rattle.geometry.specs.Meaning.Domain.{positionInDomain}
 use Rattle.geometry.specs.declared.Position.{Position}
 use Rattle.slots.specs.declared.Usable.{Usable}
 use Rattle.slots.specs.declared.Usable.the-variants.{At, Nothing}
-use Rattle.slots.specs.Map.{wordsFor, lowestUsable, NonePast}
-use Rattle.slots.specs.Slot.{versionAt}
+use Rattle.slots.specs.Meaning.Map.{wordsFor, lowestUsable}
+use Rattle.slots.specs.Inner.Map.{NonePast}
+use Rattle.slots.specs.Meaning.Slot.{versionAt}
 use Rattle.slots.proofs.laws.SlotLaws.{lowest-free}
-use Rattle.point_tables.specs.Tables.{Tables, slotsOf}
-use Rattle.point_tables.specs.Decide.{holds, holds-says}
-use Rattle.point_tables.specs.Outcome.{outcome}
+use Rattle.point_tables.specs.Meaning.Tables.{Tables, slotsOf}
+use Rattle.point_tables.specs.Meaning.Decide.{holds, holds-says}
+use Rattle.point_tables.specs.Meaning.Outcome.{outcome}
 use Rattle.replies.specs.declared.Inserted.{Inserted}
-use Rattle.inserts.specs.Insert.{usableSlot, put, insertAnswer, insertOf, answerBy}
-use Rattle.inserts.specs.Fresh.{Fresh, Chose}
+use Rattle.inserts.specs.Meaning.Insert.{usableSlot, put, insertAnswer, insertOf}
+use Rattle.inserts.proofs.laws.Insert.{answerBy}
+use Rattle.inserts.specs.Inner.Fresh.{Fresh, Chose}
 use Rattle.inserts.proofs.laws.InsertLaws.{insert-done}
-use Rattle.replies.specs.Replies.{inserted}
+use Rattle.replies.specs.Meaning.Replies.{inserted}
 
 -- ---- the choice, test by test
 module _ (held : Bool) (p : Position) (m : List ℕ) (n : ℕ) where

@@ -8,20 +8,21 @@ use lib.IntN.{ℤ}
 use lib.ListN.{length, set, take}
 use Rattle.geometry.specs.declared.Position.{Position}
 use Rattle.cells.specs.declared.Cell.{Cell}
-use Rattle.cells.specs.CellRule.{cellAt}
-use Rattle.cells.specs.Key.{keyOf}
-use Rattle.slots.specs.Map.{taken}
-use Rattle.slots.specs.Slot.{versionAt}
-use Rattle.storage.specs.Keyed.{Sorted, written}
-use Rattle.storage.specs.Entries.{Entry, rowKey, rowOf, spotOf}
-use Rattle.storage.specs.CellTable.{entered}
-use Rattle.storage.specs.Pooled as Pooled
-use Rattle.storage.specs.Pooled.{Columns}
-use Rattle.objects.specs.Columns.{numsOf, realsOf, intsOf}
-use Rattle.objects.specs.Listed.{entryRow, entrySpot}
-use Rattle.point_tables.specs.Tables.{Tables, tables, sizeOf, usedOf, rowsOf, counting, slotsOf}
-use Rattle.inserts.specs.Insert.{entriesWith, rowsWith, put}
-use Rattle.inserts.specs.Fresh.{Fresh, freshRecord}
+use Rattle.cells.specs.Meaning.CellRule.{cellAt}
+use Rattle.cells.specs.Meaning.Key.{keyOf}
+use Rattle.slots.specs.Meaning.Map.{taken}
+use Rattle.slots.specs.Meaning.Slot.{versionAt}
+use Rattle.storage.specs.Inner.Keyed.{Sorted}
+use Rattle.storage.specs.Meaning.Keyed.{written}
+use Rattle.storage.specs.Meaning.Entries.{Entry, rowKey, rowOf, spotOf}
+use Rattle.storage.specs.Meaning.CellTable.{entered}
+use Rattle.storage.specs.Inner.Pooled
+use Rattle.storage.specs.Inner.Pooled.{Columns}
+use Rattle.objects.specs.Meaning.Columns.{numsOf, realsOf, intsOf}
+use Rattle.objects.specs.Inner.Listed.{entryRow, entrySpot}
+use Rattle.point_tables.specs.Meaning.Tables.{Tables, tables, sizeOf, usedOf, rowsOf, counting, slotsOf}
+use Rattle.inserts.specs.Meaning.Insert.{entriesWith, rowsWith, put}
+use Rattle.inserts.specs.Inner.Fresh.{Fresh, freshRecord}
 use Rattle.inserts.proofs.laws.EnterLaws.{rows-least}
 use Rattle.point_tables.proofs.laws.ListedLaws.{rows-in}
 use Rattle.point_tables.proofs.laws.RoomLaws.{room}

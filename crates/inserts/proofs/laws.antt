@@ -4,3 +4,4 @@ pub mod PutLaws
 pub mod InsertKeeps
 pub mod EnterLaws
 pub mod NewLaws
+pub mod Insert

@@ -5,16 +5,16 @@ use mathlib.Core.Bool.{Bool, true, false}
 use mathlib.Core.List.{List, _∷_}
 use lib.ListN.{length}
 use lib.Seq.{slice}
-use Rattle.basics.specs.Refusals.{pick}
+use Rattle.basics.specs.Meaning.Refusals.{pick}
 use Rattle.decimals.specs.declared.Number.{Number}
 use Rattle.decimals.specs.declared.Count.{Count}
-use Rattle.decimals.specs.Fields.{numberOf, countOf}
+use Rattle.decimals.specs.Meaning.Fields.{numberOf, countOf}
 use Rattle.lines.specs.declared.Asks.{Asks}
 use Rattle.lines.specs.declared.Request.{Request}
-use Rattle.lines.specs.Words.{Row, sameBytes, rowSays}
-use Rattle.lines.specs.Taken.{Taken, taken, missing, Taker, bind, both, made, numberThen, countThen, takeNumber, takeCount, ifAsked}
-use Rattle.lines.specs.Requests.{unreadable, whole}
-use Rattle.lines.specs.Cursor.{endFrom, fieldsFrom}
+use Rattle.lines.specs.Meaning.Words.{Row, sameBytes, rowSays}
+use Rattle.lines.specs.Meaning.Taken.{Taken, taken, missing, Taker, bind, both, made, numberThen, countThen, takeNumber, takeCount, ifAsked}
+use Rattle.lines.specs.Meaning.Requests.{unreadable, whole}
+use Rattle.lines.specs.Inner.Cursor.{endFrom, fieldsFrom}
 use Rattle.lines.proofs.laws.CursorLaws.{field-at, no-field}
 
 -- what is known of a value is known of what it was seen to be

@@ -2,10 +2,10 @@
 ghost use mathlib.Core.Path.{_≡_};
 ghost use Prim.Native.Nat.{_≤_};
 ghost use lib.ListN.{length};
-ghost use Rattle.basics.specs.Lent.{was};
-ghost use Rattle.lines.specs.Taken.{taken};
-ghost use Rattle.lines.specs.Requests.{argumentsOf, unreadable as Requests·unreadable, whole as Requests·whole};
-ghost use Rattle.lines.specs.Cursor.{fieldsFrom};
+ghost use Rattle.basics.specs.Meaning.Lent.{was};
+ghost use Rattle.lines.specs.Meaning.Taken.{taken};
+ghost use Rattle.lines.specs.Meaning.Requests.{argumentsOf, unreadable as Requests·unreadable, whole as Requests·whole};
+ghost use Rattle.lines.specs.Inner.Cursor.{fieldsFrom};
 use crate::Asks;
 use crate::Line;
 use crate::Request;

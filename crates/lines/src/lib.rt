@@ -2,9 +2,9 @@
 ghost use mathlib.Core.Path.{_≡_};
 ghost use Prim.Native.Nat.{_≤_};
 ghost use lib.ListN.{length, take};
-ghost use Rattle.basics.specs.Lent.{was};
-ghost use Rattle.lines.specs.Words.{row as Words·row, rowSays, pointChanges, pointSearches, boxLines, foundIn, askedBy};
-ghost use Rattle.lines.specs.Requests.{requestOf};
+ghost use Rattle.basics.specs.Meaning.Lent.{was};
+ghost use Rattle.lines.specs.Meaning.Words.{row as Words·row, rowSays, pointChanges, pointSearches, boxLines, foundIn, askedBy};
+ghost use Rattle.lines.specs.Meaning.Requests.{requestOf};
 use slots::Handle;
 
 mod arguments;

@@ -1,7 +1,7 @@
 // Whether a word is another.
 ghost use mathlib.Core.Path.{_≡_};
-ghost use Rattle.basics.specs.Lent.{was};
-ghost use Rattle.lines.specs.Words.{sameBytes};
+ghost use Rattle.basics.specs.Meaning.Lent.{was};
+ghost use Rattle.lines.specs.Meaning.Words.{sameBytes};
 
 pub fn same(word: &[u8], w: &[u8]) -> bool
     ensures { λ r. ⌜ r ≡ sameBytes (was word) (was w) ⌝ }

@@ -3,3 +3,6 @@ pub mod Digits
 pub mod RadixLaws
 pub mod GrownLaws
 pub mod DealLaws
+pub mod Buckets
+pub mod Rows
+pub mod SpotLaws

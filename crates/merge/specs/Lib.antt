@@ -1,5 +1,2 @@
 -- What the merge of a tail of new entries into the sorted pool promises, and its laws; and the sort by digits.
-pub mod Grown
-pub mod SpotLaws
-pub mod Rows
-pub mod Buckets
+pub mod Inner

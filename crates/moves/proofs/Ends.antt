@@ -6,17 +6,18 @@ use mathlib.Core.List.{List, [], _∷_}
 use lib.Dec.{eqb, leb}
 use lib.Ieee.{Float}
 use lib.ListN.{length}
-use Rattle.basics.specs.Refusals.{unless, firstOf}
-use Rattle.storage.specs.Keyed.{written}
-use Rattle.point_tables.specs.Tables.{Tables}
-use Rattle.point_tables.specs.Holds.{Holds}
-use Rattle.point_tables.specs.Decide.{holds, holds-says}
-use Rattle.point_tables.specs.Outcome.{outcome}
+use Rattle.basics.specs.Meaning.Refusals.{unless, firstOf}
+use Rattle.storage.specs.Meaning.Keyed.{written}
+use Rattle.point_tables.specs.Meaning.Tables.{Tables}
+use Rattle.point_tables.specs.Meaning.Holds.{Holds}
+use Rattle.point_tables.specs.Meaning.Decide.{holds, holds-says}
+use Rattle.point_tables.specs.Meaning.Outcome.{outcome}
 use Rattle.replies.specs.declared.Reply.{Reply}
-use Rattle.moves.specs.Batch.{callsOf, replies, tablesAfter, replyRows, batchAnswer, batched, batchOf}
-use Rattle.moves.specs.Ready.{Ready}
+use Rattle.moves.specs.Meaning.Batch.{callsOf, replies, tablesAfter, replyRows, batchAnswer, batched, batchOf}
+use Rattle.moves.specs.Inner.Ready.{Ready}
 use Rattle.moves.proofs.laws.ReadyLaws.{holds-ready, ready-pool}
-use Rattle.moves.specs.Held.{withPool, heldAfter, heldReplies}
+use Rattle.moves.proofs.laws.Held.{withPool}
+use Rattle.moves.specs.Inner.Held.{heldAfter, heldReplies}
 use Rattle.moves.proofs.laws.HeldLaws.{after-worked, replies-worked}
 use Rattle.moves.proofs.laws.BatchAnswerLaws.{batch-accepted, batch-short, batch-refused, batch-ran}
 

@@ -14,33 +14,35 @@ use mir.Facts.{toZ-ofZ}
 use borrow.Author.Needs.{sfits-of}
 use lib.ListN.{length, getD, set, take}
 use Rattle.geometry.specs.declared.Position.{Position}
-use Rattle.cells.specs.Key.{keyOf}
-use Rattle.storage.specs.Keyed.{written}
-use Rattle.storage.specs.Entries.{rowKey}
-use Rattle.storage.specs.CellTable.{marked}
-use Rattle.storage.specs.Tables.{Rising}
-use Rattle.objects.specs.Columns.{recordAt, stateOf, tagOf, pendingOf, targetOf}
-use Rattle.objects.specs.States.{isRemoved, aimed}
-use Rattle.point_tables.specs.Tables.{Tables, tables}
-use Rattle.point_tables.specs.Outcome.{Outcome, outcome}
+use Rattle.cells.specs.Meaning.Key.{keyOf}
+use Rattle.storage.specs.Meaning.Keyed.{written}
+use Rattle.storage.specs.Meaning.Entries.{rowKey}
+use Rattle.storage.specs.Meaning.CellTable.{marked}
+use Rattle.storage.specs.Inner.Tables.{Rising}
+use Rattle.objects.specs.Meaning.Columns.{recordAt, stateOf, tagOf, pendingOf, targetOf}
+use Rattle.objects.specs.Meaning.States.{isRemoved, aimed}
+use Rattle.point_tables.specs.Meaning.Tables.{Tables, tables}
+use Rattle.point_tables.specs.Meaning.Outcome.{Outcome, outcome}
 use Rattle.slots.specs.declared.Handle.{Handle}
-use Rattle.point_tables.specs.Tables.{rowsOf}
-use Rattle.point_tables.specs.Decide.{holds, holds-says}
-use Rattle.basics.specs.Says.{d-eq, said, said-says}
+use Rattle.point_tables.specs.Meaning.Tables.{rowsOf}
+use Rattle.point_tables.specs.Meaning.Decide.{holds, holds-says}
+use Rattle.basics.proofs.laws.Says.{d-eq, said-says}
+use Rattle.basics.specs.Meaning.Says.{said}
 use Rattle.cells.specs.declared.Cell.{Cell}
-use Rattle.cells.specs.CellRule.{cellAt}
-use Rattle.storage.specs.FilterLaws.{by-test}
-use Rattle.objects.specs.Decide.{d-cell}
+use Rattle.cells.specs.Meaning.CellRule.{cellAt}
+use Rattle.storage.proofs.laws.FilterLaws.{by-test}
+use Rattle.objects.specs.Inner.Decide.{d-cell}
 use mathlib.Core.Logic.{⊎-elim}
 use Rattle.replies.specs.declared.Reply.{Reply}
-use Rattle.moves.specs.Moves.{pended, setPositionAnswer, setPositionOf, removeAnswer, removeOf}
-use Rattle.moves.specs.Batch.{Call, callOf}
+use Rattle.moves.specs.Meaning.Moves.{pended, setPositionAnswer, setPositionOf, removeAnswer, removeOf}
+use Rattle.moves.specs.Meaning.Batch.{Call, callOf}
 use Rattle.moves.proofs.laws.MovesLaws.{set-done, set-refused}
-use Rattle.moves.specs.Ready.{Ready}
+use Rattle.moves.specs.Inner.Ready.{Ready}
 use Rattle.moves.proofs.laws.ReadyLaws.{rows-rise}
-use Rattle.moves.specs.Held.{poolless, withPool, call, tagTo, PendedRows, pendedOnly, unmarkedOf, worked, heldAnswer, heldOf}
+use Rattle.moves.specs.Inner.Held.{poolless, call, tagTo, PendedRows, pendedOnly, unmarkedOf, worked, heldAnswer, heldOf}
+use Rattle.moves.proofs.laws.Held.{withPool}
 use Rattle.moves.proofs.laws.HeldLaws.{held-refused, held-done, call-worked}
-use Rattle.replies.specs.Replies.{reply}
+use Rattle.replies.specs.Meaning.Replies.{reply}
 
 -- a signed number that was read is what it was
 pub back : {z : ℤ} → mag z < 2 ^ hbits w32 → toZ w32 (ofZ w32 z) ≡ z

@@ -10,3 +10,4 @@ pub mod HeldLaws
 pub mod PendedLaws
 pub mod BatchLaws
 pub mod MarkLaws
+pub mod Held

@@ -1,10 +1,10 @@
 // The deferred calls of trackers: `set_position`, `remove`, and a batch of them. Nothing moves before maintain.
 // Each public call checks the tables first.
 ghost use mathlib.Core.Path.{_≡_};
-ghost use Rattle.point_tables.specs.Lent.{after, before};
-ghost use Rattle.point_tables.specs.Outcome.{outcome};
-ghost use Rattle.moves.specs.Moves.{setPositionOf, removeOf};
-ghost use Rattle.replies.specs.Replies.{reply};
+ghost use Rattle.point_tables.specs.Meaning.Lent.{after, before};
+ghost use Rattle.point_tables.specs.Meaning.Outcome.{outcome};
+ghost use Rattle.moves.specs.Meaning.Moves.{setPositionOf, removeOf};
+ghost use Rattle.replies.specs.Meaning.Replies.{reply};
 
 mod batches;
 mod call;

@@ -2,8 +2,8 @@
 ghost use mathlib.Core.Path.{_≡_};
 ghost use mathlib.Core.List.{[], _∷_};
 ghost use lib.ListN.{length, getD};
-ghost use Rattle.basics.specs.Lent.{was, is};
-ghost use Rattle.moves.specs.Marks.{Walkable, MarkedTo};
+ghost use Rattle.basics.specs.Meaning.Lent.{was, is};
+ghost use Rattle.moves.specs.Inner.Marks.{Walkable, MarkedTo};
 use slots::Row;
 
 // A row with its mark set.

@@ -11,14 +11,15 @@ use mir.Syntax.{w32}
 use mir.Val.{toZ, ofZ, hbits}
 use mir.Facts.{toZ-ofZ}
 use borrow.Author.Needs.{sfits-of}
-use Rattle.basics.specs.Says.{Says, said-says, says-via, not-said, says-and}
+use Rattle.basics.specs.Meaning.Says.{Says}
+use Rattle.basics.proofs.laws.Says.{said-says, says-via, not-said, says-and}
 use Rattle.geometry.specs.declared.Position.{Position}
 use Rattle.cells.specs.declared.Cell.{Cell}
-use Rattle.geometry.specs.Domain.{inDomain}
+use Rattle.geometry.specs.Meaning.Domain.{inDomain}
 use Rattle.geometry.proofs.laws.DomainLaws.{position-parts}
-use Rattle.cells.specs.CellRule.{cellOf, cellAt}
-use Rattle.cells.specs.Numbers.{cell-ext}
-use Rattle.objects.specs.Occupied.{InDomain}
+use Rattle.cells.specs.Meaning.CellRule.{cellOf, cellAt}
+use Rattle.cells.proofs.laws.Numbers.{cell-ext}
+use Rattle.objects.specs.Meaning.Occupied.{InDomain}
 
 -- a signed number that was read is what it was
 pub back : {z : ℤ} → mag z < 2 ^ hbits w32 → toZ w32 (ofZ w32 z) ≡ z

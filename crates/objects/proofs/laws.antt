@@ -2,3 +2,4 @@
 pub mod OccupiedLaws
 pub mod ColumnLaws
 pub mod KeptLaws
+pub mod Decide

@@ -1,7 +1,3 @@
 -- The record of an object, its columns, its states, when an occupied record holds, the entry of an object in its cell's list, and spans that are kept.
-pub mod Columns
-pub mod Occupied
-pub mod Decide
-pub mod States
-pub mod Listed
-pub mod Kept
+pub mod Meaning
+pub mod Inner

@@ -2,8 +2,8 @@
 ghost use mathlib.Core.Path.{_≡_};
 ghost use Prim.Native.Nat.{_<_};
 ghost use lib.ListN.{length};
-ghost use Rattle.basics.specs.Lent.{was};
-ghost use Rattle.objects.specs.Listed.{spotAt, listedAt, entryRow, entrySpot};
+ghost use Rattle.basics.specs.Meaning.Lent.{was};
+ghost use Rattle.objects.specs.Inner.Listed.{spotAt, listedAt, entryRow, entrySpot};
 use crate::Entry;
 use geometry::Position;
 

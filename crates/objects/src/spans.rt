@@ -1,9 +1,9 @@
 // The spans of cells, worked out once: the span of a number is kept at the place of the number's remainder, with the number.
-ghost use Rattle.basics.specs.Lent.{is};
-ghost use Rattle.cells.specs.Size.{SizeInDomain};
-ghost use Rattle.cells.specs.Key.{cellOfKey};
-ghost use Rattle.cells.specs.Span.{Spans};
-ghost use Rattle.objects.specs.Kept.{Kept};
+ghost use Rattle.basics.specs.Meaning.Lent.{is};
+ghost use Rattle.cells.specs.Meaning.Size.{SizeInDomain};
+ghost use Rattle.cells.specs.Inner.Key.{cellOfKey};
+ghost use Rattle.cells.specs.Inner.Span.{Spans};
+ghost use Rattle.objects.specs.Inner.Kept.{Kept};
 use cells::Span;
 
 // The span of the cells of column n, counted from the least, which is that of line n too.

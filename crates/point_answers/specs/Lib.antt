@@ -1,3 +1,2 @@
 -- What the point grid of the trace answers to a request.
-pub mod Changes
-pub mod Searches
+pub mod Meaning

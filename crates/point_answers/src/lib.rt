@@ -1,12 +1,12 @@
 // What the point grid of the trace answers to a line: each is one call of the grid.
 ghost use mathlib.Core.Path.{_≡_};
-ghost use Rattle.basics.specs.Lent.{was, is};
-ghost use Rattle.lines.specs.Texts.{SpotInRange, CountInRange};
-ghost use Rattle.point_tables.specs.Lent.{after, before};
-ghost use Rattle.point_tables.specs.Outcome.{outcome};
-ghost use Rattle.point_answers.specs.Changes.{changeOf, movedOf, insertedOf, takenOf, markedOf, maintainedOf};
-ghost use Rattle.point_answers.specs.Searches.{searched, findingsOf, searchOf};
-ghost use Rattle.queries.specs.Queries.{findings};
+ghost use Rattle.basics.specs.Meaning.Lent.{was, is};
+ghost use Rattle.lines.specs.Inner.Texts.{SpotInRange, CountInRange};
+ghost use Rattle.point_tables.specs.Meaning.Lent.{after, before};
+ghost use Rattle.point_tables.specs.Meaning.Outcome.{outcome};
+ghost use Rattle.point_answers.specs.Meaning.Changes.{changeOf, movedOf, insertedOf, takenOf, markedOf, maintainedOf};
+ghost use Rattle.point_answers.specs.Meaning.Searches.{searched, findingsOf, searchOf};
+ghost use Rattle.queries.specs.Meaning.Queries.{findings};
 use geometry::Position;
 use lines::PointChange;
 use lines::PointSearch;

@@ -3,15 +3,16 @@ use Prim.Native.Nat.{ℕ}
 use mathlib.Core.Path.{_≡_, refl, sym, subst}
 use mathlib.Core.Bool.{Bool, true, false}
 use mathlib.Core.List.{List}
-use Rattle.basics.specs.Says.{Says, apart, says-same}
-use Rattle.basics.specs.Refusals.{pick}
-use Rattle.slots.specs.Map.{usable}
+use Rattle.basics.specs.Meaning.Says.{Says}
+use Rattle.basics.proofs.laws.Says.{apart, says-same}
+use Rattle.basics.specs.Meaning.Refusals.{pick}
+use Rattle.slots.specs.Meaning.Map.{usable}
 use Rattle.slots.proofs.laws.MapLaws.{not-usable}
-use Rattle.slots.specs.Slot.{SlotHolds}
-use Rattle.pool_pass.specs.Pass.{Named}
-use Rattle.point_tables.specs.Tables.{Tables}
-use Rattle.point_tables.specs.Holds.{Holds}
-use Rattle.point_tables.specs.Decide.{holds, holds-says}
+use Rattle.slots.specs.Meaning.Slot.{SlotHolds}
+use Rattle.pool_pass.specs.Inner.Pass.{Named}
+use Rattle.point_tables.specs.Meaning.Tables.{Tables}
+use Rattle.point_tables.specs.Meaning.Holds.{Holds}
+use Rattle.point_tables.specs.Meaning.Decide.{holds, holds-says}
 
 -- a slot's bit, as the test of it says
 mapped : (m : List ℕ) (s : ℕ) (b : Bool) → Says b (usable m s ≡ 1) → pick b 1 0 ≡ usable m s

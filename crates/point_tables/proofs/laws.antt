@@ -7,3 +7,5 @@ pub mod CheckLaws
 pub mod HeadLaws
 pub mod CoverLaws
 pub mod HoldsLaws
+pub mod CountLaws
+pub mod EntryLaws

@@ -3,14 +3,14 @@ ghost use mathlib.Core.Path.{_≡_};
 ghost use mathlib.Core.Bool.{true, false};
 ghost use Prim.Native.Nat.{ℕ, _+_, _/_, _≤_, _<_};
 ghost use lib.ListN.{length, getD};
-ghost use Rattle.basics.specs.Limits.{mostSlots};
-ghost use Rattle.basics.specs.Lent.{was};
-ghost use Rattle.basics.specs.Says.{Says};
-ghost use Rattle.slots.specs.Map.{usable};
-ghost use Rattle.point_tables.specs.Lent.{before};
-ghost use Rattle.point_tables.specs.Tables.{Lengths};
-ghost use Rattle.point_tables.specs.Decide.{holds};
-ghost use Rattle.point_tables.specs.Check.{Counts, SlotOk, EachOk, SlotsOk, Room, FreeAt, Listed};
+ghost use Rattle.basics.specs.Meaning.Limits.{mostSlots};
+ghost use Rattle.basics.specs.Meaning.Lent.{was};
+ghost use Rattle.basics.specs.Meaning.Says.{Says};
+ghost use Rattle.slots.specs.Meaning.Map.{usable};
+ghost use Rattle.point_tables.specs.Meaning.Lent.{before};
+ghost use Rattle.point_tables.specs.Meaning.Tables.{Lengths};
+ghost use Rattle.point_tables.specs.Meaning.Decide.{holds};
+ghost use Rattle.point_tables.specs.Inner.Check.{Counts, SlotOk, EachOk, SlotsOk, Room, FreeAt, Listed};
 use slots::Row;
 
 // Whether the tables have the lengths of n slots.

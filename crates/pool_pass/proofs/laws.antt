@@ -2,3 +2,4 @@
 pub mod PassLaws
 pub mod MarkLaws
 pub mod RunLaws
+pub mod Pass

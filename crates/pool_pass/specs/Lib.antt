@@ -1,2 +1,2 @@
 -- What the pass over the pool and the cell table asks, and its laws.
-pub mod Pass
+pub mod Inner

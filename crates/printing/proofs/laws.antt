@@ -2,3 +2,4 @@
 pub mod SaidLaws
 pub mod Lengths
 pub mod Rows
+pub mod Puts

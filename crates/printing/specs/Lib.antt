@@ -1,3 +1,3 @@
 -- An answer as a record of bytes.
-pub mod Said
-pub mod Puts
+pub mod Meaning
+pub mod Inner

@@ -3,10 +3,12 @@ ghost use mathlib.Core.Path.{_≡_};
 ghost use mathlib.Core.List.{[], _∷_, _++_};
 ghost use Prim.Native.Nat.{_+_, _*_, _≤_, _<_};
 ghost use lib.ListN.{length};
-ghost use Rattle.basics.specs.Lent.{was, is};
-ghost use Rattle.printing.specs.Said.{numberField, coordinateField, handleText, placeText, cornersText, pointsText, boxesText, saidText, recordText, longest, longestSaid, Told};
-ghost use Rattle.printing.specs.Puts.{Puts};
-ghost use Rattle.decimals.specs.Text.{decimal};
+ghost use Rattle.basics.specs.Meaning.Lent.{was, is};
+ghost use Rattle.printing.specs.Meaning.Said.{numberField, coordinateField, handleText, placeText, cornersText, pointsText, boxesText};
+ghost use Rattle.printing.specs.Meaning.Said.{saidText, recordText, longest};
+ghost use Rattle.printing.specs.Inner.Said.{longestSaid, Told};
+ghost use Rattle.printing.specs.Inner.Puts.{Puts};
+ghost use Rattle.decimals.specs.Meaning.Text.{decimal};
 
 // No record of an answer is longer.
 pub const LONGEST: usize = 12000;

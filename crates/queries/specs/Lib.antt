@@ -1,6 +1,3 @@
 -- What the queries find.
-pub mod Queries
-pub mod Places
-pub mod Fill
-pub mod Begun
-pub mod Cases
+pub mod Meaning
+pub mod Inner

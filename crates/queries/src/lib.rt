@@ -1,10 +1,10 @@
 // The queries of a point grid: `query`, `query_around`, `query_aabb`. Each checks the tables first, in `search`.
 ghost use mathlib.Core.Path.{_≡_};
 ghost use mathlib.Core.Bool.{true};
-ghost use Rattle.basics.specs.Lent.{was, is};
-ghost use Rattle.cells.specs.CellRule.{Reached};
-ghost use Rattle.point_tables.specs.Lent.{before};
-ghost use Rattle.queries.specs.Queries.{findings, searchOf, queryOf, aroundOf, aabbOf};
+ghost use Rattle.basics.specs.Meaning.Lent.{was, is};
+ghost use Rattle.cells.specs.Inner.CellRule.{Reached};
+ghost use Rattle.point_tables.specs.Meaning.Lent.{before};
+ghost use Rattle.queries.specs.Meaning.Queries.{findings, searchOf, queryOf, aroundOf, aabbOf};
 
 mod fill;
 mod gather;

@@ -3,18 +3,18 @@ use Prim.Native.Nat.{ℕ}
 use mathlib.Core.List.{List, [], _∷_}
 use lib.Dec.{eqb, leb}
 use lib.ListN.{length}
-use Rattle.basics.specs.Refusals.{Refusal, unless, pick, byTests}
+use Rattle.basics.specs.Meaning.Refusals.{Refusal, unless, pick, byTests}
 use Rattle.geometry.specs.declared.Position.{Position}
-use Rattle.geometry.specs.Zero.{zero-position}
+use Rattle.geometry.specs.Meaning.Zero.{zero-position}
 use Rattle.slots.specs.declared.Handle.{Handle}
-use Rattle.slots.specs.Slot.{good}
-use Rattle.storage.specs.Keyed.{written}
-use Rattle.slot_walks.specs.Live.{handlesIn}
-use Rattle.point_tables.specs.Tables.{Tables, recordOn}
-use Rattle.point_tables.specs.Decide.{holds}
+use Rattle.slots.specs.Meaning.Slot.{good}
+use Rattle.storage.specs.Meaning.Keyed.{written}
+use Rattle.slot_walks.specs.Meaning.Live.{handlesIn}
+use Rattle.point_tables.specs.Meaning.Tables.{Tables, recordOn}
+use Rattle.point_tables.specs.Meaning.Decide.{holds}
 use Rattle.reads.specs.declared.Got.{Got}
 use Rattle.replies.specs.declared.Count.{Count}
-use Rattle.replies.specs.Replies.{count}
+use Rattle.replies.specs.Meaning.Replies.{count}
 
 abbrev pub got : ℕ → Position → ℕ → Got
 got a p d = record { answer = a; position = p; obj = d }

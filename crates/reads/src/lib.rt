@@ -1,7 +1,7 @@
 // Reading a point grid: `get`, `len`, `handles`. Each checks the tables first.
 ghost use mathlib.Core.Path.{_≡_};
-ghost use Rattle.basics.specs.Lent.{was, is};
-ghost use Rattle.point_tables.specs.Lent.{before};
+ghost use Rattle.basics.specs.Meaning.Lent.{was, is};
+ghost use Rattle.point_tables.specs.Meaning.Lent.{before};
 ghost use Rattle.reads.specs.Meaning.{getOf, lenOf, handlesOf, listing};
 use geometry::Position;
 use replies::Count;

@@ -39,12 +39,12 @@ use Rattle.maintain.proofs.Maintained.Laws as MT′
 use Rattle.reads.specs.declared.Got.{Got}
 use Rattle.reads.proofs.Got as GT
 use Rattle.reads.proofs.Got.Laws as GT′
-use Rattle.point_tables.specs.Tables.{tables}
-use Rattle.point_tables.specs.Outcome.{outcome}
-use Rattle.records.specs.Seen.{seen}
+use Rattle.point_tables.specs.Meaning.Tables.{tables}
+use Rattle.point_tables.specs.Meaning.Outcome.{outcome}
+use Rattle.records.specs.Meaning.Seen.{seen}
 use Rattle.records.proofs.Lends.{to, lend-mut, back-mut, lend-shr, back-shr}
-use Rattle.record_upkeep.specs.Calls.{maintainOn}
-use Rattle.record_reads.specs.Calls.{getOn}
+use Rattle.record_upkeep.specs.Meaning.Calls.{maintainOn}
+use Rattle.record_reads.specs.Meaning.Calls.{getOn}
 use Rattle.record_upkeep.proofs.maintain as maintain
 use Rattle.record_reads.proofs.get as get
 use Rattle.records.proofs.Rows.{R, N4, F4, Z4, N2, F2}

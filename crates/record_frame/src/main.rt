@@ -2,9 +2,9 @@
 // asked for again; tables that are no grid are refused. Each line is what was asked, get's answer and the data, and the state of the record:
 // 0 unchanged, 1 new position, 2 relocate, 3 removed. The columns are scratch.
 ghost use mathlib.Core.Path.{_≡_};
-ghost use Rattle.point_tables.specs.Lent.{before};
-ghost use Rattle.record_upkeep.specs.Calls.{maintainOn};
-ghost use Rattle.record_reads.specs.Calls.{getOn};
+ghost use Rattle.point_tables.specs.Meaning.Lent.{before};
+ghost use Rattle.record_upkeep.specs.Meaning.Calls.{maintainOn};
+ghost use Rattle.record_reads.specs.Meaning.Calls.{getOn};
 use cells::Cell;
 use geometry::Position;
 use libc::STDOUT_FILENO;

@@ -8,3 +8,4 @@ pub mod CallLaws
 pub mod HistoryLaws
 pub mod DemandLaws
 pub mod RefusedLaws
+pub mod RecordHistory

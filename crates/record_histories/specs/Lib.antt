@@ -1,3 +1,2 @@
 -- Histories of calls on a table of records, beside the same on columns.
-pub mod RecordHistory
-pub mod RecordReport
+pub mod Inner

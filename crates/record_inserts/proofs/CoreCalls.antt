@@ -36,10 +36,10 @@ use Rattle.geometry.proofs.Position.Laws as PT′
 use Rattle.replies.specs.declared.Inserted.{Inserted}
 use Rattle.replies.proofs.Inserted as IT
 use Rattle.replies.proofs.Inserted.Laws as IT′
-use Rattle.point_tables.specs.Tables.{tables}
-use Rattle.point_tables.specs.Outcome.{outcome}
+use Rattle.point_tables.specs.Meaning.Tables.{tables}
+use Rattle.point_tables.specs.Meaning.Outcome.{outcome}
 use Rattle.records.proofs.Lends.{to, lend-mut, back-mut}
-use Rattle.record_inserts.specs.Calls.{insertFor}
+use Rattle.record_inserts.specs.Inner.Calls.{insertFor}
 use Rattle.record_inserts.proofs.insert_for as insert-for
 use Rattle.records.proofs.Rows.{N4, F4, Z4, N2, F2}
 use Rattle.record_inserts.proofs.Values.{PR, Pval, Pvals, IR, Ival, Ivals}

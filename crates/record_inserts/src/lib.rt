@@ -1,9 +1,10 @@
 // `insert` on a table of records, in the form of `record_moves`.
 ghost use mathlib.Core.Path.{_≡_};
-ghost use Rattle.point_tables.specs.Lent.{after, before};
-ghost use Rattle.point_tables.specs.Outcome.{outcome};
-ghost use Rattle.records.specs.Seen.{Shows};
-ghost use Rattle.record_inserts.specs.Calls.{insertFor, insertOn};
+ghost use Rattle.point_tables.specs.Meaning.Lent.{after, before};
+ghost use Rattle.point_tables.specs.Meaning.Outcome.{outcome};
+ghost use Rattle.records.specs.Meaning.Seen.{Shows};
+ghost use Rattle.record_inserts.specs.Inner.Calls.{insertFor};
+ghost use Rattle.record_inserts.specs.Meaning.Calls.{insertOn};
 use geometry::Position;
 use objects::Record;
 use replies::Inserted;

@@ -39,11 +39,11 @@ use Rattle.geometry.proofs.Position.Laws as PT′
 use Rattle.replies.specs.declared.Reply.{Reply}
 use Rattle.replies.proofs.Reply as YT
 use Rattle.replies.proofs.Reply.Laws as YT′
-use Rattle.replies.specs.Replies.{reply}
-use Rattle.point_tables.specs.Tables.{tables}
-use Rattle.point_tables.specs.Outcome.{outcome}
+use Rattle.replies.specs.Meaning.Replies.{reply}
+use Rattle.point_tables.specs.Meaning.Tables.{tables}
+use Rattle.point_tables.specs.Meaning.Outcome.{outcome}
 use Rattle.records.proofs.Lends.{to, lend-mut, back-mut, copies}
-use Rattle.record_moves.specs.Calls.{setPositionFor, removeFor}
+use Rattle.record_moves.specs.Inner.Calls.{setPositionFor, removeFor}
 use Rattle.record_moves.proofs.set_position_for as set-position-for
 use Rattle.record_moves.proofs.remove_for as remove-for
 use Rattle.records.proofs.Rows.{N4, F4, Z4, N2, F2}

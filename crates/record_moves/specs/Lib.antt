@@ -1,2 +1,3 @@
 -- What the calls on a table of records leave and answer.
-pub mod Calls
+pub mod Meaning
+pub mod Inner

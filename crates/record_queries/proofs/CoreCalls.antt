@@ -38,10 +38,10 @@ use Rattle.geometry.proofs.Position.Laws as PT′
 use Rattle.replies.specs.declared.Count.{Count}
 use Rattle.replies.proofs.Count as CT
 use Rattle.replies.proofs.Count.Laws as CT′
-use Rattle.point_tables.specs.Tables.{tables}
-use Rattle.queries.specs.Queries.{findings}
+use Rattle.point_tables.specs.Meaning.Tables.{tables}
+use Rattle.queries.specs.Meaning.Queries.{findings}
 use Rattle.records.proofs.Lends.{to, lend-mut, back-mut, lend-shr, back-shr, copies}
-use Rattle.record_queries.specs.Calls.{aroundFor}
+use Rattle.record_queries.specs.Inner.Calls.{aroundFor}
 use Rattle.record_queries.proofs.query_around_for as query-around-for
 use Rattle.records.proofs.Rows.{N4, F4, Z4, N2, F2, U2}
 use Rattle.record_queries.proofs.Values.{PR, Pval, Pvals, CR, Cval, Cvals}

@@ -1,9 +1,10 @@
 // `query_around` on a table of records, in the form of `record_reads`.
 ghost use mathlib.Core.Path.{_≡_};
-ghost use Rattle.basics.specs.Lent.{was, is};
-ghost use Rattle.point_tables.specs.Lent.{before};
-ghost use Rattle.queries.specs.Queries.{findings};
-ghost use Rattle.record_queries.specs.Calls.{aroundFor, aroundOn, Finds};
+ghost use Rattle.basics.specs.Meaning.Lent.{was, is};
+ghost use Rattle.point_tables.specs.Meaning.Lent.{before};
+ghost use Rattle.queries.specs.Meaning.Queries.{findings};
+ghost use Rattle.record_queries.specs.Inner.Calls.{aroundFor};
+ghost use Rattle.record_queries.specs.Meaning.Calls.{aroundOn, Finds};
 use geometry::Position;
 use objects::Record;
 use replies::Count;

@@ -39,9 +39,9 @@ use Rattle.replies.proofs.Count.Laws as CT′
 use Rattle.reads.specs.declared.Got.{Got}
 use Rattle.reads.proofs.Got as GT
 use Rattle.reads.proofs.Got.Laws as GT′
-use Rattle.point_tables.specs.Tables.{tables}
+use Rattle.point_tables.specs.Meaning.Tables.{tables}
 use Rattle.records.proofs.Lends.{to, lend-shr, back-shr, copies}
-use Rattle.record_reads.specs.Calls.{getFor, lenFor}
+use Rattle.record_reads.specs.Inner.Calls.{getFor, lenFor}
 use Rattle.record_reads.proofs.get_for as get-for
 use Rattle.record_reads.proofs.len_for as len-for
 use Rattle.records.proofs.Rows.{N4, F4, Z4, N2, F2}

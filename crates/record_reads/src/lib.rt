@@ -1,9 +1,10 @@
 // `get` and `len` on a table of records: the records are spread into the columns and stay as they are.
 ghost use mathlib.Core.Path.{_≡_};
-ghost use Rattle.basics.specs.Lent.{was};
-ghost use Rattle.point_tables.specs.Lent.{after, before};
-ghost use Rattle.point_tables.specs.Outcome.{outcome};
-ghost use Rattle.record_reads.specs.Calls.{getFor, getOn, lenFor, lenOn};
+ghost use Rattle.basics.specs.Meaning.Lent.{was};
+ghost use Rattle.point_tables.specs.Meaning.Lent.{after, before};
+ghost use Rattle.point_tables.specs.Meaning.Outcome.{outcome};
+ghost use Rattle.record_reads.specs.Inner.Calls.{getFor, lenFor};
+ghost use Rattle.record_reads.specs.Meaning.Calls.{getOn, lenOn};
 use geometry::Position;
 use objects::Record;
 use reads::Got;

@@ -33,10 +33,10 @@ use denote.Triple.Clauses.{ensured, lasts}
 use Rattle.maintain.specs.declared.Maintained.{Maintained}
 use Rattle.maintain.proofs.Maintained as MT
 use Rattle.maintain.proofs.Maintained.Laws as MT′
-use Rattle.point_tables.specs.Tables.{tables}
-use Rattle.point_tables.specs.Outcome.{outcome}
+use Rattle.point_tables.specs.Meaning.Tables.{tables}
+use Rattle.point_tables.specs.Meaning.Outcome.{outcome}
 use Rattle.records.proofs.Lends.{to, lend-mut, back-mut}
-use Rattle.record_upkeep.specs.Calls.{maintainFor}
+use Rattle.record_upkeep.specs.Inner.Calls.{maintainFor}
 use Rattle.record_upkeep.proofs.maintain_for as maintain-for
 use Rattle.records.proofs.Rows.{N4, F4, Z4, N2, F2}
 use Rattle.record_upkeep.proofs.Values.{MR, Mval, Mvals}

@@ -1,9 +1,10 @@
 // `maintain` on a table of records, in the form of `record_moves`.
 ghost use mathlib.Core.Path.{_≡_};
-ghost use Rattle.point_tables.specs.Lent.{after, before};
-ghost use Rattle.point_tables.specs.Outcome.{outcome};
-ghost use Rattle.records.specs.Seen.{Shows};
-ghost use Rattle.record_upkeep.specs.Calls.{maintainFor, maintainOn};
+ghost use Rattle.point_tables.specs.Meaning.Lent.{after, before};
+ghost use Rattle.point_tables.specs.Meaning.Outcome.{outcome};
+ghost use Rattle.records.specs.Meaning.Seen.{Shows};
+ghost use Rattle.record_upkeep.specs.Inner.Calls.{maintainFor};
+ghost use Rattle.record_upkeep.specs.Meaning.Calls.{maintainOn};
 use maintain::Maintained;
 use objects::Record;
 use slots::Row;

@@ -28,8 +28,8 @@ use denote.Triple.Statement.{Contract, Triple}
 use denote.Triple.Call.{calls-at}
 use denote.Triple.Clauses.{ensured, lasts}
 use Rattle.objects.specs.declared.Record.{Record}
-use Rattle.objects.specs.Columns.{numsOf, realsOf, intsOf}
-use Rattle.records.specs.Spread.{laid, gathered}
+use Rattle.objects.specs.Meaning.Columns.{numsOf, realsOf, intsOf}
+use Rattle.records.specs.Meaning.Spread.{laid, gathered}
 use Rattle.records.proofs.Lends.{to, lend-mut, back-mut, lend-shr, back-shr, copies}
 use Rattle.records.proofs.spread as spread
 use Rattle.records.proofs.gather as gather

@@ -10,10 +10,11 @@ use lib.Ieee.{Float}
 use lib.Dec.{ltb, leb·suc-suc}
 use lib.ListN.{length, getD, set}
 use borrow.Author.Tests.{lt-ltb, le-ltb}
-use Rattle.basics.specs.Refusals.{pick}
+use Rattle.basics.specs.Meaning.Refusals.{pick}
 use Rattle.objects.specs.declared.Record.{Record}
-use Rattle.objects.specs.Columns.{recordAt, recordOf}
-use Rattle.records.specs.Spread.{noRecord, laid, gathered, rowOr}
+use Rattle.objects.specs.Meaning.Columns.{recordAt, recordOf}
+use Rattle.records.specs.Inner.Spread.{noRecord, rowOr}
+use Rattle.records.specs.Meaning.Spread.{laid, gathered}
 
 pick-true : {X : Type 0} (b : Bool) (x y : X) → b ≡ true → pick b x y ≡ x
 pick-true {X} b x y e = ap (λ (t : Bool). pick t x y) e

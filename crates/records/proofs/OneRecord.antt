@@ -34,8 +34,8 @@ use denote.Triple.Walked.{says}
 use Rattle.objects.specs.declared.Record.{Record}
 use Rattle.objects.proofs.Record as RT
 use Rattle.objects.proofs.Record.Laws as RT′
-use Rattle.objects.specs.Columns.{numsOf, realsOf, intsOf}
-use Rattle.records.specs.Spread.{noRecord, rowOr}
+use Rattle.objects.specs.Meaning.Columns.{numsOf, realsOf, intsOf}
+use Rattle.records.specs.Inner.Spread.{noRecord, rowOr}
 use Rattle.records.proofs.Lends.{to, lend-mut, back-mut, lend-shr, back-shr, copies}
 use Rattle.records.proofs.record_at as record-at
 use Rattle.records.proofs.put_record as put-record

@@ -4,3 +4,4 @@ pub mod SeenLaws
 pub mod AlikeLaws
 pub mod StoredLaws
 pub mod AgainLaws
+pub mod Alike

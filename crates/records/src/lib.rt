@@ -3,9 +3,10 @@
 ghost use mathlib.Core.Path.{_≡_};
 ghost use Prim.Native.Nat.{ℕ, _<_};
 ghost use lib.ListN.{length, getD, set};
-ghost use Rattle.basics.specs.Lent.{was, is};
-ghost use Rattle.objects.specs.Columns.{numsOf, realsOf, intsOf};
-ghost use Rattle.records.specs.Spread.{noRecord, laid, gathered, rowOr};
+ghost use Rattle.basics.specs.Meaning.Lent.{was, is};
+ghost use Rattle.objects.specs.Meaning.Columns.{numsOf, realsOf, intsOf};
+ghost use Rattle.records.specs.Inner.Spread.{noRecord, rowOr};
+ghost use Rattle.records.specs.Meaning.Spread.{laid, gathered};
 use objects::Record;
 use slots::Row;
 

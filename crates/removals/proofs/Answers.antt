@@ -5,16 +5,16 @@ use mathlib.Core.Bool.{Bool, true, false}
 use mathlib.Core.List.{[], _∷_}
 use native.Mathlib.Omega.{arith}
 use borrow.Author.Tests.{le-leb, lt-leb}
-use Rattle.basics.specs.Refusals.{unless, firstOf}
+use Rattle.basics.specs.Meaning.Refusals.{unless, firstOf}
 use Rattle.slots.specs.declared.Handle.{Handle}
 use Rattle.slots.proofs.laws.HandleLaws.{good-says}
-use Rattle.point_tables.specs.Tables.{Tables, recordOn}
-use Rattle.point_tables.specs.Decide.{holds, holds-says}
-use Rattle.point_tables.specs.Outcome.{Outcome, outcome}
+use Rattle.point_tables.specs.Meaning.Tables.{Tables, recordOn}
+use Rattle.point_tables.specs.Meaning.Decide.{holds, holds-says}
+use Rattle.point_tables.specs.Meaning.Outcome.{Outcome, outcome}
 use Rattle.removals.specs.Meaning.RemoveMaintain.{takenOut, removeMaintainOf}
 use Rattle.removals.proofs.laws.RemoveLaws.{isGood, remove-unheld, remove-lost, remove-done}
 use Rattle.removals.specs.Inner.{Object, roomAnswer, countBy}
-use Rattle.replies.specs.Replies.{count, reply}
+use Rattle.replies.specs.Meaning.Replies.{count, reply}
 
 -- ---- `remove_maintain`: the tests
 module _ (held good : Bool) where

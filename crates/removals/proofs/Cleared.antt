@@ -8,20 +8,20 @@ use lib.Dec.{leb}
 use lib.Ieee.{Float}
 use lib.ListN.{length, getD}
 use borrow.Author.Tests.{leb-true, leb-false}
-use Rattle.basics.specs.Refusals.{pick}
-use Rattle.storage.specs.Keyed.{written}
-use Rattle.point_tables.specs.Tables.{Tables, tables, counting, usedOf}
-use Rattle.point_tables.specs.Holds.{Holds}
-use Rattle.point_tables.specs.Decide.{holds, holds-says}
-use Rattle.point_tables.specs.Outcome.{outcome}
-use Rattle.slot_walks.specs.Live.{liveFrom}
-use Rattle.slot_walks.specs.Cleared.{clearedRows, clearedMap}
+use Rattle.basics.specs.Meaning.Refusals.{pick}
+use Rattle.storage.specs.Meaning.Keyed.{written}
+use Rattle.point_tables.specs.Meaning.Tables.{Tables, tables, counting, usedOf}
+use Rattle.point_tables.specs.Meaning.Holds.{Holds}
+use Rattle.point_tables.specs.Meaning.Decide.{holds, holds-says}
+use Rattle.point_tables.specs.Meaning.Outcome.{outcome}
+use Rattle.slot_walks.specs.Meaning.Live.{liveFrom}
+use Rattle.slot_walks.specs.Meaning.Cleared.{clearedRows, clearedMap}
 use Rattle.replies.specs.declared.Count.{Count}
 use Rattle.removals.specs.Meaning.Clear.{liveSlots, cleared, wrote, clearOf}
 use Rattle.removals.proofs.laws.LiveLaws.{live-used}
 use Rattle.removals.proofs.laws.ClearLaws.{clear-unheld, clear-short, clear-done}
 use Rattle.removals.specs.Inner.{countBy, placesOf, objsOf}
-use Rattle.replies.specs.Replies.{count}
+use Rattle.replies.specs.Meaning.Replies.{count}
 
 module _ (t : Tables) (places : List (List Float)) (objs : List ℕ) (held : Bool) (e : held ≡ holds t) where
   -- the verdict says that the tables hold a grid

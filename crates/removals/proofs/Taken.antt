@@ -7,21 +7,23 @@ use native.Mathlib.Omega.{arith}
 use lib.Ieee.{Float}
 use lib.ListN.{length, take, drop, length-map, take-append-drop}
 use lib.Seq.{length-take-le}
-use Rattle.basics.specs.Says.{Says, apart}
-use Rattle.cells.specs.Key.{keyOf}
-use Rattle.slots.specs.Slot.{emptiedNums, emptiedMap}
-use Rattle.storage.specs.Keyed.{Sorted, under, onList, takeOut, written}
-use Rattle.storage.specs.Entries.{Entry, rowKey, rowOf, spotOf, entryKey, entriesOf, isItem}
-use Rattle.storage.specs.CellTable.{dropped}
-use Rattle.storage.specs.Store.{Filled}
+use Rattle.basics.specs.Meaning.Says.{Says}
+use Rattle.basics.proofs.laws.Says.{apart}
+use Rattle.cells.specs.Meaning.Key.{keyOf}
+use Rattle.slots.specs.Meaning.Slot.{emptiedNums, emptiedMap}
+use Rattle.storage.specs.Inner.Keyed.{Sorted}
+use Rattle.storage.specs.Meaning.Keyed.{under, onList, takeOut, written}
+use Rattle.storage.specs.Meaning.Entries.{Entry, rowKey, rowOf, spotOf, entryKey, entriesOf, isItem}
+use Rattle.storage.specs.Meaning.CellTable.{dropped}
+use Rattle.storage.specs.Inner.Store.{Filled}
 use Rattle.storage.proofs.laws.KeepsLaws.{written-take}
 use Rattle.storage.proofs.laws.WrittenLaws.{length-written}
-use Rattle.storage.specs.Tables.{Rising}
-use Rattle.storage.specs.Pooled as Pooled
+use Rattle.storage.specs.Inner.Tables.{Rising}
+use Rattle.storage.specs.Inner.Pooled
 use Rattle.storage.proofs.laws.PackedLaws.{ascending-rising}
 use Rattle.objects.specs.declared.Record.{Record}
-use Rattle.point_tables.specs.Tables.{Tables, tables, counting, usedOf, rowsOf, recordOn, cellRows}
-use Rattle.point_tables.specs.Outcome.{outcome}
+use Rattle.point_tables.specs.Meaning.Tables.{Tables, tables, counting, usedOf, rowsOf, recordOn, cellRows}
+use Rattle.point_tables.specs.Meaning.Outcome.{outcome}
 use Rattle.removals.specs.Meaning.RemoveMaintain.{isEmpty, entriesWithout, rowsWithout, takenOut}
 use Rattle.removals.specs.Inner.{rowsBy}
 use Rattle.point_tables.proofs.laws.ListedLaws.{rows-in}

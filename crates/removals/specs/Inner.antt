@@ -6,18 +6,18 @@ use mathlib.Core.List.{List, [], _∷_, map}
 use lib.Dec.{leb}
 use lib.Ieee.{Float, nan}
 use lib.ListN.{length, getD, take}
-use Rattle.basics.specs.Limits.{mostSlots}
-use Rattle.basics.specs.Refusals.{pick}
-use Rattle.storage.specs.Keyed.{under, written}
-use Rattle.storage.specs.Entries.{rowKey}
-use Rattle.storage.specs.CellTable.{dropped}
-use Rattle.slots.specs.Slot.{live, phaseAt}
-use Rattle.point_tables.specs.Tables.{Tables, slotsOf, recordOn}
-use Rattle.point_tables.specs.Holds.{Holds}
-use Rattle.point_tables.specs.Outcome.{Outcome, outcome}
+use Rattle.basics.specs.Meaning.Limits.{mostSlots}
+use Rattle.basics.specs.Meaning.Refusals.{pick}
+use Rattle.storage.specs.Meaning.Keyed.{under, written}
+use Rattle.storage.specs.Meaning.Entries.{rowKey}
+use Rattle.storage.specs.Meaning.CellTable.{dropped}
+use Rattle.slots.specs.Meaning.Slot.{live, phaseAt}
+use Rattle.point_tables.specs.Meaning.Tables.{Tables, slotsOf, recordOn}
+use Rattle.point_tables.specs.Meaning.Holds.{Holds}
+use Rattle.point_tables.specs.Meaning.Outcome.{Outcome, outcome}
 use Rattle.replies.specs.declared.Count.{Count}
-use Rattle.replies.specs.Replies.{count}
-use Rattle.slot_walks.specs.Live.{liveFrom, objAt}
+use Rattle.replies.specs.Meaning.Replies.{count}
+use Rattle.slot_walks.specs.Meaning.Live.{liveFrom, objAt}
 use Rattle.removals.specs.Meaning.RemoveMaintain.{isEmpty, takenOut}
 
 -- slot s has an object, in tables that hold a grid

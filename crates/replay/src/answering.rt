@@ -2,13 +2,13 @@
 ghost use mathlib.Core.Path.{_≡_};
 ghost use Prim.Native.Nat.{_+_, _≤_};
 ghost use lib.ListN.{length, take};
-ghost use Rattle.basics.specs.Lent.{was, is};
-ghost use Rattle.decimals.specs.Written.{written};
-ghost use Rattle.point_tables.specs.Lent as Points;
-ghost use Rattle.box_tables.specs.Lent as Boxes;
-ghost use Rattle.printing.specs.Said.{longest};
-ghost use Rattle.replay.specs.Replay.{grids, replayed, replayOf};
-ghost use Rattle.answers.specs.Cell.{built, cellOf};
+ghost use Rattle.basics.specs.Meaning.Lent.{was, is};
+ghost use Rattle.decimals.specs.Meaning.Written.{written};
+ghost use Rattle.point_tables.specs.Meaning.Lent as Points;
+ghost use Rattle.box_tables.specs.Meaning.Lent as Boxes;
+ghost use Rattle.printing.specs.Meaning.Said.{longest};
+ghost use Rattle.replay.specs.Meaning.Replay.{grids, replayed, replayOf};
+ghost use Rattle.answers.specs.Meaning.Cell.{built, cellOf};
 use printing::Said;
 use slots::Row;
 

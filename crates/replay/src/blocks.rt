@@ -1,9 +1,9 @@
 // The records of the input out of its blocks, so that a record may begin in one block and end in another.
 ghost use mathlib.Core.Path.{_≡_};
 ghost use lib.ListN.{length, drop};
-ghost use Rattle.basics.specs.Lent.{was, is};
-ghost use Rattle.splits.specs.Sofar.{sofar};
-ghost use Rattle.replay.specs.Next.{found, nextOf};
+ghost use Rattle.basics.specs.Meaning.Lent.{was, is};
+ghost use Rattle.splits.specs.Meaning.Sofar.{sofar};
+ghost use Rattle.replay.specs.Meaning.Next.{found, nextOf};
 use crate::Found;
 use splits::Splitter;
 

@@ -1,2 +1,2 @@
 -- What calls return, made of its numbers.
-pub mod Replies
+pub mod Meaning

@@ -1,6 +1,6 @@
 // What calls return beside their tables and outputs. An answer is a number of document 01.
 ghost use mathlib.Core.Path.{_≡_};
-ghost use Rattle.replies.specs.Replies.{count, inserted};
+ghost use Rattle.replies.specs.Meaning.Replies.{count, inserted};
 use slots::Handle;
 
 // The data of an object beside the answer.

@@ -8,13 +8,13 @@ use native.Mathlib.Numerals.{add-one}
 use lib.Dec.{eqb}
 use lib.ListN.{getD}
 use borrow.Author.Tests.{eqb-false, eq-eqb, ne-eqb}
-use Rattle.slots.specs.Slot.{live}
-use Rattle.objects.specs.Columns.{pickState}
+use Rattle.slots.specs.Meaning.Slot.{live}
+use Rattle.objects.specs.Meaning.Columns.{pickState}
 use Rattle.objects.specs.declared.State.the-variants.{Unchanged, Removed}
-use Rattle.objects.specs.States.{isRemoved}
-use Rattle.maintain.specs.Maintain.{isMoving}
-use Rattle.maintain.specs.RelocatedLaws.{none-either}
-use Rattle.settle.specs.Counts.{numbered, movedIn, removedIn, stateIn, oneMoved, oneRemoved}
+use Rattle.objects.specs.Meaning.States.{isRemoved}
+use Rattle.maintain.specs.Meaning.Maintain.{isMoving}
+use Rattle.maintain.proofs.laws.RelocatedLaws.{none-either}
+use Rattle.settle.specs.Inner.Counts.{numbered, movedIn, removedIn, stateIn, oneMoved, oneRemoved}
 use Rattle.settle.proofs.laws.CountsLaws.{count-most}
 
 module _ (row : List ℕ) where

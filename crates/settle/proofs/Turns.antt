@@ -9,21 +9,21 @@ use lib.Ieee.{Float, nan}
 use lib.ListN.{length, getD, set, length-map}
 use borrow.Author.Tests.{eq-eqb, ne-eqb}
 use Rattle.cells.specs.declared.Cell.{Cell}
-use Rattle.cells.specs.Key.{keyOf}
-use Rattle.slots.specs.Map.{head, wordsFor}
-use Rattle.slots.specs.Slot.{live, phaseAt, emptiedNums, emptiedMap}
-use Rattle.storage.specs.Entries.{rowOf}
+use Rattle.cells.specs.Meaning.Key.{keyOf}
+use Rattle.slots.specs.Meaning.Map.{head, wordsFor}
+use Rattle.slots.specs.Meaning.Slot.{live, phaseAt, emptiedNums, emptiedMap}
+use Rattle.storage.specs.Meaning.Entries.{rowOf}
 use Rattle.objects.specs.declared.State.{State}
 use Rattle.objects.specs.declared.State.the-variants.{Unchanged, NewPos, Relocate, Removed}
-use Rattle.objects.specs.Columns.{recordAt}
-use Rattle.point_tables.specs.Tables.{Tables, slotsOf, recordOn}
-use Rattle.point_tables.specs.CountLaws.{isLive}
-use Rattle.maintain.specs.Walk.{settled, settledBy}
-use Rattle.maintain.specs.Settle.{settledIn, settledAll}
-use Rattle.maintain.specs.SettleLaws.{Shaped}
-use Rattle.maintain.specs.SettleAllLaws.{in-slots, in-shaped}
-use Rattle.maintain.specs.Closed.{relocatedBelow}
-use Rattle.settle.specs.Pass.{recordsIn, Slotted, Ready, targetRows, pendingAt, Placed, turned, turnedRows, putAt, Passed}
+use Rattle.objects.specs.Meaning.Columns.{recordAt}
+use Rattle.point_tables.specs.Meaning.Tables.{Tables, slotsOf, recordOn}
+use Rattle.point_tables.specs.Inner.Count.{isLive}
+use Rattle.maintain.specs.Meaning.Walk.{settled, settledBy}
+use Rattle.maintain.specs.Inner.Settle.{settledIn, settledAll}
+use Rattle.maintain.specs.Inner.SettleLaws.{Shaped}
+use Rattle.maintain.proofs.laws.SettleAllLaws.{in-slots, in-shaped}
+use Rattle.maintain.specs.Inner.Closed.{relocatedBelow}
+use Rattle.settle.specs.Inner.Pass.{recordsIn, Slotted, Ready, targetRows, pendingAt, Placed, turned, turnedRows, putAt, Passed}
 use Rattle.settle.proofs.laws.PutLaws.{put-none, put-one, put-length, put-more}
 use Rattle.settle.proofs.laws.PassLaws.{next-turned, next-rows, next-slotted, below-next, below-count, below-grows}
 

@@ -4,3 +4,4 @@ pub mod PutLaws
 pub mod BareLaws
 pub mod CountsLaws
 pub mod PassLaws
+pub mod Pass

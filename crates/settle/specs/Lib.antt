@@ -1,3 +1,2 @@
 -- The pass of `maintain` over the slots, and its counts.
-pub mod Pass
-pub mod Counts
+pub mod Inner

@@ -3,11 +3,12 @@ ghost use mathlib.Core.Path.{_≡_};
 ghost use mathlib.Core.List.{[], _∷_};
 ghost use Prim.Native.Nat.{_+_, _≤_, _<_};
 ghost use lib.ListN.{length, set};
-ghost use Rattle.basics.specs.Limits.{mostSlots};
-ghost use Rattle.basics.specs.Lent.{was, is};
-ghost use Rattle.cells.specs.Key.{keyOf};
-ghost use Rattle.settle.specs.Pass.{lentRecords, recordsBefore, recordsAfter, Slotted, Ready, Room, Placed, turned, turnedRows, Put, Passed};
-ghost use Rattle.settle.specs.Counts.{counts, numbered, movedIn, removedIn, oneMoved, oneRemoved};
+ghost use Rattle.basics.specs.Meaning.Limits.{mostSlots};
+ghost use Rattle.basics.specs.Meaning.Lent.{was, is};
+ghost use Rattle.cells.specs.Meaning.Key.{keyOf};
+ghost use Rattle.settle.specs.Inner.Pass.{lentRecords, recordsBefore, recordsAfter, Slotted, Ready, Room, Placed, turned, turnedRows, Put};
+ghost use Rattle.settle.specs.Inner.Pass.{Passed};
+ghost use Rattle.settle.specs.Inner.Counts.{counts, numbered, movedIn, removedIn, oneMoved, oneRemoved};
 use cells::Cell;
 use slots::Row;
 

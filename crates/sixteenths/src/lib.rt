@@ -2,7 +2,7 @@
 ghost use mathlib.Core.Path.{_≡_};
 ghost use Prim.Native.Nat.{_≤_};
 ghost use lib.IntN.{natAbs};
-ghost use Rattle.sixteenths.specs.Sixteenth.{sixteenth, sixteenthsOf};
+ghost use Rattle.sixteenths.specs.Meaning.Sixteenth.{sixteenth, sixteenthsOf};
 use cells::whole;
 
 // The number of k sixteenths.

@@ -2,3 +2,4 @@
 pub mod LiveLaws
 pub mod ClearedLaws
 pub mod FillLaws
+pub mod Live

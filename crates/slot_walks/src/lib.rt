@@ -2,12 +2,12 @@
 ghost use mathlib.Core.Path.{_≡_};
 ghost use Prim.Native.Nat.{_+_, _≤_};
 ghost use lib.ListN.{length};
-ghost use Rattle.basics.specs.Limits.{mostSlots};
-ghost use Rattle.basics.specs.Lent.{was, is};
-ghost use Rattle.slots.specs.Map.{wordsFor};
-ghost use Rattle.storage.specs.Keyed.{written};
-ghost use Rattle.slot_walks.specs.Live.{rowLive, liveFrom, handlesIn};
-ghost use Rattle.slot_walks.specs.Cleared.{clearedRows, clearedMap};
+ghost use Rattle.basics.specs.Meaning.Limits.{mostSlots};
+ghost use Rattle.basics.specs.Meaning.Lent.{was, is};
+ghost use Rattle.slots.specs.Meaning.Map.{wordsFor};
+ghost use Rattle.storage.specs.Meaning.Keyed.{written};
+ghost use Rattle.slot_walks.specs.Meaning.Live.{rowLive, liveFrom, handlesIn};
+ghost use Rattle.slot_walks.specs.Meaning.Cleared.{clearedRows, clearedMap};
 use slots::Row;
 
 // Whether a slot is live.

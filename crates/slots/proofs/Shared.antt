@@ -7,11 +7,12 @@ use native.Mathlib.Omega.{arith}
 use lib.Dec.{eqb}
 use lib.ListN.{length, getD, drop}
 use borrow.Author.Tests.{lt-ltb, le-ltb, eq-eqb, ne-eqb}
-use Rattle.basics.specs.Says.{Says, says-yes, says-no, apart}
-use Rattle.basics.specs.Refusals.{pick}
-use Rattle.slots.specs.Map.{usable}
+use Rattle.basics.specs.Meaning.Says.{Says}
+use Rattle.basics.proofs.laws.Says.{says-yes, says-no, apart}
+use Rattle.basics.specs.Meaning.Refusals.{pick}
+use Rattle.slots.specs.Meaning.Map.{usable}
 use Rattle.slots.proofs.laws.MapLaws.{not-usable}
-use Rattle.slots.specs.Slot.{live, versionAt, phaseAt, good, nextVersion, nextPhase, emptiedRow, SlotHolds}
+use Rattle.slots.specs.Meaning.Slot.{live, versionAt, phaseAt, good, nextVersion, nextPhase, emptiedRow, SlotHolds}
 
 -- the numbers of a row behind its first two
 behind : (row : List ℕ) → length row ≡ 4 → drop 2 row ≡ getD row 2 0 ∷ getD row 3 0 ∷ []

@@ -7,3 +7,5 @@ pub mod LowestLaws
 pub mod MapLaws
 pub mod EmptyLaws
 pub mod Decide
+pub mod Map
+pub mod Slot

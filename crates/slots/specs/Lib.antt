@@ -1,3 +1,3 @@
 -- Handles, versions and the slot map: what the Rust's SlotMap becomes.
-pub mod Map
-pub mod Slot
+pub mod Meaning
+pub mod Inner

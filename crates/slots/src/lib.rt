@@ -3,12 +3,13 @@ ghost use mathlib.Core.Path.{_≡_};
 ghost use Prim.Native.Nat.{_+_, _*_, _/_, _%_, _^_, _≤_, _<_};
 ghost use lib.Dec.{eqb};
 ghost use lib.ListN.{length};
-ghost use Rattle.basics.specs.Limits.{mostSlots};
-ghost use Rattle.basics.specs.Lent.{was, is};
-ghost use Rattle.basics.specs.Says.{Says};
-ghost use Rattle.basics.specs.Refusals.{pick};
-ghost use Rattle.slots.specs.Map.{wordsFor, usable, taken, givenBack, lowestUsable, usableBelow, NonePast};
-ghost use Rattle.slots.specs.Slot.{lastVersion, good, nextVersion, nextPhase, emptiedRow, emptiedNums, emptiedMap, SlotHolds};
+ghost use Rattle.basics.specs.Meaning.Limits.{mostSlots};
+ghost use Rattle.basics.specs.Meaning.Lent.{was, is};
+ghost use Rattle.basics.specs.Meaning.Says.{Says};
+ghost use Rattle.basics.specs.Meaning.Refusals.{pick};
+ghost use Rattle.slots.specs.Meaning.Map.{wordsFor, usable, taken, givenBack, lowestUsable};
+ghost use Rattle.slots.specs.Inner.Map.{usableBelow, NonePast};
+ghost use Rattle.slots.specs.Meaning.Slot.{lastVersion, good, nextVersion, nextPhase, emptiedRow, emptiedNums, emptiedMap, SlotHolds};
 
 // The row of a slot: version, phase, data, state.
 pub type Row = [u32; 4];

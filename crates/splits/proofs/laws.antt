@@ -3,3 +3,4 @@ pub mod SplitLaws
 pub mod Cases
 pub mod RecordLaws
 pub mod LineLaws
+pub mod Sofar

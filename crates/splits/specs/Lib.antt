@@ -1,3 +1,3 @@
 -- The records of an input, and how they are found byte by byte.
-pub mod Records
-pub mod Sofar
+pub mod Meaning
+pub mod Inner

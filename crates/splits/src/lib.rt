@@ -5,8 +5,9 @@ ghost use mathlib.Core.List.{List, [], _∷_, _++_};
 ghost use Prim.Native.Nat.{ℕ, _-_, min};
 ghost use lib.Dec.{eqb};
 ghost use lib.ListN.{length, take};
-ghost use Rattle.basics.specs.Lent.{was, is};
-ghost use Rattle.splits.specs.Sofar.{sofar, fed, begun, feed, finished};
+ghost use Rattle.basics.specs.Meaning.Lent.{was, is};
+ghost use Rattle.splits.specs.Meaning.Sofar.{sofar, begun, feed};
+ghost use Rattle.splits.specs.Inner.Sofar.{fed, finished};
 
 // How many bytes stand in the line since the last line end, and whether the last byte was a CR.
 pub struct Splitter {

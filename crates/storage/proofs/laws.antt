@@ -25,3 +25,14 @@ pub mod GapLaws
 pub mod MoveLaws
 pub mod TableMoveLaws
 pub mod RunLaws
+pub mod AppendLaws
+pub mod FilterLaws
+pub mod InsertLaws
+pub mod KeyedLaws
+pub mod Places
+pub mod SortLaws
+pub mod Store
+pub mod Tables
+pub mod TailLaws
+pub mod TakeOutLaws
+pub mod WindowLaws

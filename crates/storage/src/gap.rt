@@ -3,8 +3,8 @@ ghost use mathlib.Core.Path.{_≡_};
 ghost use mathlib.Core.List.{[]};
 ghost use Prim.Native.Nat.{_≤_, _<_};
 ghost use lib.ListN.{length, getD, set};
-ghost use Rattle.basics.specs.Lent.{was, is};
-ghost use Rattle.storage.specs.Places.{opened, closed};
+ghost use Rattle.basics.specs.Meaning.Lent.{was, is};
+ghost use Rattle.storage.specs.Inner.Places.{opened, closed};
 
 pub fn open_row(s: &mut [[u64; 2]], p: usize, k: usize, v: [u64; 2])
     requires { ⌜ (p ≤ k) × (k < length (now s)) ⌝ }

@@ -4,16 +4,16 @@ ghost use mathlib.Core.Path.{_≡_};
 ghost use mathlib.Core.Bool.{true};
 ghost use Prim.Native.Nat.{_≤_, _<_};
 ghost use lib.ListN.{length, take};
-ghost use Rattle.basics.specs.Lent.{was};
-ghost use Rattle.storage.specs.Keyed.{Sorted};
-ghost use Rattle.storage.specs.Entries.{rowKey};
-ghost use Rattle.storage.specs.Packed.{first};
-ghost use Rattle.storage.specs.Window.{inRange};
-ghost use Rattle.storage.specs.Run.{NextKey, FirstIn, RunEnd, NextRun, ListEnd};
+ghost use Rattle.basics.specs.Meaning.Lent.{was};
+ghost use Rattle.storage.specs.Inner.Keyed.{Sorted};
+ghost use Rattle.storage.specs.Meaning.Entries.{rowKey};
+ghost use Rattle.storage.specs.Meaning.Packed.{first};
+ghost use Rattle.storage.specs.Inner.Window.{inRange};
+ghost use Rattle.storage.specs.Inner.Run.{NextKey, FirstIn, RunEnd, NextRun, ListEnd};
 use crate::Run;
 use crate::find::key_at;
 use crate::find::lower_bound_from;
-ghost use Rattle.cells.specs.Key.{columnOf, lineOf};
+ghost use Rattle.cells.specs.Inner.Key.{columnOf, lineOf};
 
 // The key itself if it is in the range; else the next one that may be.
 fn next_key(key: u64, low: u64, high: u64) -> u64

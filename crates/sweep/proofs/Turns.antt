@@ -5,17 +5,17 @@ use mathlib.Core.List.{List, []}
 use native.Mathlib.Omega.{arith}
 use lib.Ieee.{Float}
 use lib.ListN.{length, getD, set}
-use Rattle.storage.specs.Entries.{Entry}
-use Rattle.storage.specs.Packed.{second}
-use Rattle.storage.specs.FilterLaws.{all-any}
-use Rattle.point_tables.specs.EntryLaws.{entryAt}
-use Rattle.maintain.specs.Walk.{Fate, stays}
-use Rattle.maintain.specs.KeptLaws.{kept-calm}
-use Rattle.sweep.specs.Tags.{spotBy, fateOfTag, fateIn}
+use Rattle.storage.specs.Meaning.Entries.{Entry}
+use Rattle.storage.specs.Meaning.Packed.{second}
+use Rattle.storage.proofs.laws.FilterLaws.{all-any}
+use Rattle.point_tables.specs.Inner.Entry.{entryAt}
+use Rattle.maintain.specs.Meaning.Walk.{Fate, stays}
+use Rattle.maintain.proofs.laws.KeptLaws.{kept-calm}
+use Rattle.sweep.specs.Inner.Tags.{spotBy, fateOfTag, fateIn}
 use Rattle.sweep.proofs.laws.TagLaws.{tag-stays, tag-leaves}
 use Rattle.sweep.proofs.laws.RunLaws.{run-length, entries-more}
 use Rattle.sweep.proofs.laws.LaidLaws.{laid-start}
-use Rattle.sweep.specs.Laid.{Room, Slotted, Laid, listAt}
+use Rattle.sweep.specs.Inner.Laid.{Room, Slotted, Laid, listAt}
 use Rattle.sweep.proofs.laws.WalkingLaws.{Walking, walking-rows, walking-spots, walking-entry, walking-stays, walking-leaves, walking-done}
 
 -- the places that are read and written are in the columns

@@ -5,3 +5,4 @@ pub mod WalkingLaws
 pub mod LaidLaws
 pub mod ListLaws
 pub mod RunLaws
+pub mod Runs

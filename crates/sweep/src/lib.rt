@@ -4,13 +4,13 @@ ghost use mathlib.Core.Path.{_≡_};
 ghost use Prim.Native.Nat.{_+_, _-_, _≤_, _<_};
 ghost use mathlib.Core.List.{[]};
 ghost use lib.ListN.{length, getD, set};
-ghost use Rattle.basics.specs.Lent.{was, is};
-ghost use Rattle.point_tables.specs.Lent.{before, lent};
-ghost use Rattle.point_tables.specs.Holds.{Holds};
-ghost use Rattle.maintain.specs.Kept.{kept};
-ghost use Rattle.maintain.specs.Closed.{keptEntries};
-ghost use Rattle.sweep.specs.Tags.{spotBy, fateIn};
-ghost use Rattle.sweep.specs.Laid.{Room, Slotted, Laid, lentList, InUse, keptIf};
+ghost use Rattle.basics.specs.Meaning.Lent.{was, is};
+ghost use Rattle.point_tables.specs.Meaning.Lent.{before, lent};
+ghost use Rattle.point_tables.specs.Meaning.Holds.{Holds};
+ghost use Rattle.maintain.specs.Inner.Kept.{kept};
+ghost use Rattle.maintain.specs.Inner.Closed.{keptEntries};
+ghost use Rattle.sweep.specs.Inner.Tags.{spotBy, fateIn};
+ghost use Rattle.sweep.specs.Inner.Laid.{Room, Slotted, Laid, lentList, InUse, keptIf};
 use slots::Row;
 
 // The position of an entry that stays is laid at place w: with tag 1 it is the pending one, which is in its slot's row.

@@ -1,4 +1,3 @@
 -- What answers say in the trace, and the places that requests name.
-pub mod InRange
-pub mod Places
-pub mod Tells
+pub mod Meaning
+pub mod Inner

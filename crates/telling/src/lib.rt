@@ -1,8 +1,8 @@
 // What the answer of a grid's call says in the trace, and the places that a request names.
 ghost use mathlib.Core.Path.{_≡_};
-ghost use Rattle.lines.specs.Texts.{SpotInRange};
-ghost use Rattle.telling.specs.Places.{placeOf, boxOf};
-ghost use Rattle.telling.specs.Tells.{doneOr, oneOr, twoOr, pointsOr, boxesOr};
+ghost use Rattle.lines.specs.Inner.Texts.{SpotInRange};
+ghost use Rattle.telling.specs.Meaning.Places.{placeOf, boxOf};
+ghost use Rattle.telling.specs.Meaning.Tells.{doneOr, oneOr, twoOr, pointsOr, boxesOr};
 use geometry::Aabb;
 use geometry::Position;
 use lines::Spot;

@@ -1,2 +1,2 @@
 -- What holds of the program between two answers.
-pub mod Ready
+pub mod Inner

@@ -3,7 +3,7 @@
 ghost use mathlib.Core.Path.{_≡_};
 ghost use mathlib.Core.Bool.{true};
 ghost use Prim.Native.Nat.{_<_, _≤_};
-ghost use Rattle.trace.specs.Ready.{Fits, Ready};
+ghost use Rattle.trace.specs.Inner.Ready.{Fits, Ready};
 use libc::STDIN_FILENO;
 use libc::STDOUT_FILENO;
 use printing::LONGEST;

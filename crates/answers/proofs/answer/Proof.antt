@@ -4,11 +4,11 @@ use lib.IntN.{ℤ}
 use mir.Syntax.{w32}
 use mir.ValLaws.{toZ-ofZ}
 use borrow.Author.Needs.{needs}
-use Rattle.lines.specs.Texts.{CountInRange}
-use Rattle.telling.specs.InRange.{in-range-fits}
-use Rattle.point_tables.specs.Lent as Points
-use Rattle.box_tables.specs.Lent as Boxes
-use Rattle.answers.specs.State.{state}
+use Rattle.lines.specs.Inner.Texts.{CountInRange}
+use Rattle.telling.proofs.laws.InRange.{in-range-fits}
+use Rattle.point_tables.specs.Meaning.Lent as Points
+use Rattle.box_tables.specs.Meaning.Lent as Boxes
+use Rattle.answers.specs.Meaning.State.{state}
 use Rattle.answers.proofs.laws.AnswerLaws.{for-both, points-changed, points-searched, boxes-changed, boxes-searched, for-nobody}
 use Rattle.answers.proofs.answer.Statement.{statement}
 use Rattle.answers.proofs.answer.Tie as tie

@@ -1,6 +1,6 @@
 -- `answers::cell` meets its contract. Assumes nothing.
-use Rattle.point_tables.specs.Lent as Points
-use Rattle.box_tables.specs.Lent as Boxes
+use Rattle.point_tables.specs.Meaning.Lent as Points
+use Rattle.box_tables.specs.Meaning.Lent as Boxes
 use Rattle.answers.proofs.laws.AnswerLaws.{cell-said}
 use borrow.Author.Needs.{needs}
 use Rattle.answers.proofs.cell.Statement.{statement}

@@ -1,6 +1,7 @@
 -- `answers::done_both` meets its contract. Assumes nothing.
 use mathlib.Core.Path.{_∙_}
-use Rattle.telling.specs.Tells.{doneOr, told-done, told-refused}
+use Rattle.telling.specs.Meaning.Tells.{doneOr}
+use Rattle.telling.proofs.laws.Tells.{told-done, told-refused}
 use borrow.Author.Needs.{needs}
 use Rattle.answers.proofs.done_both.Statement.{statement}
 use Rattle.answers.proofs.done_both.Tie as tie

@@ -4,28 +4,28 @@ use mathlib.Core.Path.{_≡_, sym, ap, _∙_}
 use mathlib.Core.List.{List}
 use lib.Ieee.{Float}
 use lib.IntN.{ℤ}
-use Rattle.point_tables.specs.Tables as point
-use Rattle.point_tables.specs.Outcome as point-outcome
-use Rattle.box_tables.specs.Tables as box
-use Rattle.box_tables.specs.Outcome as box-outcome
-use Rattle.inserts.specs.New as point-new
-use Rattle.box_inserts.specs.New as box-new
-use Rattle.point_answers.specs.Changes as point-changes
-use Rattle.point_answers.specs.Searches as point-searches
-use Rattle.box_answers.specs.Changes as box-changes
-use Rattle.box_answers.specs.Searches as box-searches
+use Rattle.point_tables.specs.Meaning.Tables as point
+use Rattle.point_tables.specs.Meaning.Outcome as point-outcome
+use Rattle.box_tables.specs.Meaning.Tables as box
+use Rattle.box_tables.specs.Meaning.Outcome as box-outcome
+use Rattle.inserts.specs.Meaning.New as point-new
+use Rattle.box_inserts.specs.Meaning.New as box-new
+use Rattle.point_answers.specs.Meaning.Changes as point-changes
+use Rattle.point_answers.specs.Meaning.Searches as point-searches
+use Rattle.box_answers.specs.Meaning.Changes as box-changes
+use Rattle.box_answers.specs.Meaning.Searches as box-searches
 use Rattle.printing.specs.declared.Said.{Said}
 use Rattle.printing.specs.declared.Said.the-variants.{Refused}
-use Rattle.telling.specs.Tells.{tells, doneOr}
+use Rattle.telling.specs.Meaning.Tells.{tells, doneOr}
 use Rattle.lines.specs.declared.PointChange as line-of-points
 use Rattle.lines.specs.declared.PointSearch as search-of-points
 use Rattle.lines.specs.declared.BoxChange as line-of-boxes
 use Rattle.lines.specs.declared.Line.{Line}
 use Rattle.lines.specs.declared.Line.the-variants.{Cell, PointChange, PointSearch, BoxChange, BoxSearch, Unreadable}
 use Rattle.lines.specs.declared.Request.{Request}
-use Rattle.answers.specs.State.{State, state, answered}
-use Rattle.answers.specs.Cell.{Built, built, cellOf}
-use Rattle.answers.specs.Answer.{byLine, answerOf}
+use Rattle.answers.specs.Meaning.State.{State, state, answered}
+use Rattle.answers.specs.Meaning.Cell.{Built, built, cellOf}
+use Rattle.answers.specs.Meaning.Answer.{byLine, answerOf}
 
 pub cell-said : (p : point.Tables) (b : box.Tables) (size : ℕ) {x : Said} {i j : ℕ} {u : point.Tables} {v : box.Tables}
     → x ≡ tells i (doneOr j) → point-outcome.outcome i u ≡ point-new.newOf p size → box-outcome.outcome j v ≡ box-new.newOf b size

@@ -1,19 +1,20 @@
 -- Whatever is answered can be told: findings are in the outputs, and no more than the trace's grids can give. Assumes nothing.
 use Prim.Native.Nat.{_≤_}
 use lib.ListN.{length}
-use Rattle.inserts.specs.New as point-new
-use Rattle.box_inserts.specs.New as box-new
+use Rattle.inserts.specs.Meaning.New as point-new
+use Rattle.box_inserts.specs.Meaning.New as box-new
 use Rattle.printing.specs.declared.Said.the-variants.{Done}
-use Rattle.printing.specs.Said.{Told}
-use Rattle.telling.specs.Tells.{doneOr, told-tells}
+use Rattle.printing.specs.Inner.Said.{Told}
+use Rattle.telling.specs.Meaning.Tells.{doneOr}
+use Rattle.telling.proofs.laws.Tells.{told-tells}
 use Rattle.point_answers.proofs.laws.ToldLaws as point-told
 use Rattle.box_answers.proofs.laws.ToldLaws as box-told
 use Rattle.lines.specs.declared.Line.{Line}
 use Rattle.lines.specs.declared.Line.the-variants.{Cell, PointChange, PointSearch, BoxChange, BoxSearch, Unreadable}
 use Rattle.lines.specs.declared.Request.{Request}
-use Rattle.answers.specs.State.{State, Answered}
-use Rattle.answers.specs.Cell.{cellOf}
-use Rattle.answers.specs.Answer.{byLine, answerOf}
+use Rattle.answers.specs.Meaning.State.{State, Answered}
+use Rattle.answers.specs.Meaning.Cell.{cellOf}
+use Rattle.answers.specs.Meaning.Answer.{byLine, answerOf}
 
 abbrev pub IsTold : Answered → Type 0
 IsTold a = Told (a .tells) (length (a .after .handles)) (length (a .after .places)) (length (a .after .corners))

@@ -5,7 +5,8 @@ use mathlib.Core.Logic.{inl, inr}
 use Prim.Native.Nat.{ℕ}
 use lib.IntN.{ℤ, pos}
 use lib.Ieee.{Float, nan, inf, fin}
-use Rattle.basics.specs.Says.{Decided, apart, d-via, d-and, d-eq, d-eqz}
+use Rattle.basics.specs.Meaning.Says.{Decided}
+use Rattle.basics.proofs.laws.Says.{apart, d-via, d-and, d-eq, d-eqz}
 
 d-bool : (a b : Bool) → Decided (a ≡ b)
 d-bool true true = inl refl

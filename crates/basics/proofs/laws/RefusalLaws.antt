@@ -6,8 +6,8 @@ use mathlib.Core.List.{List, [], _∷_}
 use lib.Dec.{eqb}
 use lib.ListN.{drop}
 use borrow.Author.Tests.{eqb-true}
-use Rattle.basics.specs.Says.{apart, both-true, untrue}
-use Rattle.basics.specs.Refusals.{Refusal, orElse, firstOf, pick, order, applies, firstIn, firstThat}
+use Rattle.basics.proofs.laws.Says.{apart, both-true, untrue}
+use Rattle.basics.specs.Meaning.Refusals.{Refusal, orElse, firstOf, pick, order, applies, firstIn, firstThat}
 
 -- ---- numbers, each once; tests whose numbers are some of them, in their order
 abbrev pub among : ℕ → List ℕ → Bool

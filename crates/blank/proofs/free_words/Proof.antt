@@ -4,8 +4,8 @@ use mathlib.Core.Path.{_≡_, refl, sym, _∙_}
 use native.Mathlib.Omega.{arith}
 use lib.ListN.{length, length-set}
 use lib.Seq.{paste, paste-zero}
-use Rattle.slots.specs.Map.{wordsFor}
-use Rattle.blank.specs.Blank.{freeWords}
+use Rattle.slots.specs.Meaning.Map.{wordsFor}
+use Rattle.blank.specs.Meaning.Blank.{freeWords}
 use Rattle.blank.proofs.laws.FreeWordLaws.{free-length, free-at}
 use Rattle.blank.proofs.Fill.{fill-step, fill-end}
 use Rattle.blank.proofs.free_words.Statement.{statement}

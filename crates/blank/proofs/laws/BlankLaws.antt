@@ -6,11 +6,12 @@ use native.Mathlib.Omega.{arith}
 use lib.Dec.{leb}
 use lib.ListN.{length, getD, length-replicate, getD-replicate}
 use borrow.Author.Tests.{leb-true, le-leb}
-use Rattle.basics.specs.Says.{Says, both-true}
-use Rattle.cells.specs.Size.{SizeInDomain}
-use Rattle.slots.specs.Map.{head, wordsFor, usable}
-use Rattle.slots.specs.Slot.{free, live, versionAt, phaseAt, SlotHolds, SlotsHold}
-use Rattle.blank.specs.Blank.{blankNums, blankMap, sizeOk}
+use Rattle.basics.specs.Meaning.Says.{Says}
+use Rattle.basics.proofs.laws.Says.{both-true}
+use Rattle.cells.specs.Meaning.Size.{SizeInDomain}
+use Rattle.slots.specs.Meaning.Map.{head, wordsFor, usable}
+use Rattle.slots.specs.Meaning.Slot.{free, live, versionAt, phaseAt, SlotHolds, SlotsHold}
+use Rattle.blank.specs.Meaning.Blank.{blankNums, blankMap, sizeOk}
 use Rattle.blank.proofs.laws.FreeWordLaws.{free-length, free-usable, free-past}
 
 module _ (n size : ℕ) where

@@ -9,10 +9,10 @@ use lib.Dec.{leb}
 use lib.ListN.{length, getD, List·getD-eq-default}
 use lib.Pow.{pow-pos, pow-mono, ones-lt, ones-split, high}
 use borrow.Author.Tests.{leb-true, leb-false}
-use Rattle.basics.specs.Refusals.{pick}
-use Rattle.slots.specs.Map.{wordsFor, bit, usable}
+use Rattle.basics.specs.Meaning.Refusals.{pick}
+use Rattle.slots.specs.Meaning.Map.{wordsFor, bit, usable}
 use Rattle.slots.proofs.laws.BitLaws.{bit-of-zero}
-use Rattle.blank.specs.Blank.{freeWord, freeWords}
+use Rattle.blank.specs.Meaning.Blank.{freeWord, freeWords}
 
 -- ---- 2 ^ k - 1 has the bits below k
 odd-ones : (m : ℕ) → (2 ^ suc m - 1) % 2 ≡ 1

@@ -6,8 +6,8 @@ use native.Mathlib.Omega.{arith}
 use lib.ListN.{take, drop}
 use lib.Seq.{drop-at, length-take-le}
 use borrow.Author.Needs.{needs}
-use Rattle.slots.specs.Map.{wordsFor}
-use Rattle.blank.specs.Blank.{freeWords}
+use Rattle.slots.specs.Meaning.Map.{wordsFor}
+use Rattle.blank.specs.Meaning.Blank.{freeWords}
 use Rattle.blank.proofs.new_map.Statement.{statement}
 use Rattle.blank.proofs.new_map.Tie as tie
 

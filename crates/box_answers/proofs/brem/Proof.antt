@@ -1,5 +1,5 @@
 -- `box_answers::brem` meets its contract. Assumes nothing.
-use Rattle.telling.specs.Tells.{oneOr}
+use Rattle.telling.specs.Meaning.Tells.{oneOr}
 use Rattle.box_answers.proofs.laws.ChangeLaws.{said-of}
 use borrow.Author.Needs.{needs}
 use Rattle.box_answers.proofs.brem.Statement.{statement}

@@ -4,9 +4,9 @@ use mathlib.Core.Path.{_≡_, sym, ap, _∙_}
 use Rattle.slots.specs.declared.Handle.{Handle}
 use Rattle.lines.specs.declared.Spot.{Spot}
 use Rattle.lines.specs.declared.BoxChange.{BoxChange}
-use Rattle.box_tables.specs.Tables.{Tables}
-use Rattle.box_tables.specs.Lent.{lent}
-use Rattle.box_answers.specs.Changes.{changeOf}
+use Rattle.box_tables.specs.Meaning.Tables.{Tables}
+use Rattle.box_tables.specs.Meaning.Lent.{lent}
+use Rattle.box_answers.specs.Meaning.Changes.{changeOf}
 use borrow.Author.Needs.{needs}
 use Rattle.box_answers.proofs.change_boxes.Statement.{statement}
 use Rattle.box_answers.proofs.change_boxes.Tie as tie

@@ -2,17 +2,17 @@
 use Prim.Native.Nat.{ℕ}
 use mathlib.Core.Path.{_≡_, ap, _∙_}
 use Rattle.slots.specs.declared.Handle.{Handle}
-use Rattle.box_tables.specs.Tables.{Tables}
-use Rattle.box_tables.specs.Outcome.{Outcome, outcome}
+use Rattle.box_tables.specs.Meaning.Tables.{Tables}
+use Rattle.box_tables.specs.Meaning.Outcome.{Outcome, outcome}
 use Rattle.geometry.specs.declared.Aabb.{Aabb}
 use Rattle.replies.specs.declared.Inserted.{Inserted}
-use Rattle.box_inserts.specs.Insert.{insertOf}
-use Rattle.box_changes.specs.SetAabb.{setAabbOf}
-use Rattle.telling.specs.Places.{boxOf}
-use Rattle.telling.specs.Tells.{doneOr, twoOr}
+use Rattle.box_inserts.specs.Meaning.Insert.{insertOf}
+use Rattle.box_changes.specs.Meaning.SetAabb.{setAabbOf}
+use Rattle.telling.specs.Meaning.Places.{boxOf}
+use Rattle.telling.specs.Meaning.Tells.{doneOr, twoOr}
 use Rattle.printing.specs.declared.Said.{Said}
 use Rattle.lines.specs.declared.Spot.{Spot}
-use Rattle.box_answers.specs.Changes.{said, insertedOf, placedOf}
+use Rattle.box_answers.specs.Meaning.Changes.{said, insertedOf, placedOf}
 
 -- x is what the call told
 pub said-of : {R : Type 0} (tell : R → Said) {r : R} {u : Tables} {o : Outcome R} {x : Said} → x ≡ tell r → outcome r u ≡ o → outcome x u ≡ said tell o

@@ -4,14 +4,14 @@ use mathlib.Core.Path.{_≡_, ap, _∙_}
 use mathlib.Core.List.{List}
 use lib.Ieee.{Float}
 use Rattle.geometry.specs.declared.Aabb.{Aabb}
-use Rattle.box_tables.specs.Tables.{Tables}
+use Rattle.box_tables.specs.Meaning.Tables.{Tables}
 use Rattle.replies.specs.declared.Count.{Count}
-use Rattle.box_queries.specs.Queries.{findings, queryOf}
+use Rattle.box_queries.specs.Meaning.Queries.{findings, queryOf}
 use Rattle.printing.specs.declared.Said.{Said}
 use Rattle.lines.specs.declared.Spot.{Spot}
-use Rattle.telling.specs.Places.{boxOf}
-use Rattle.telling.specs.Tells.{boxesOr}
-use Rattle.box_answers.specs.Searches.{searched, said, searchOf}
+use Rattle.telling.specs.Meaning.Places.{boxOf}
+use Rattle.telling.specs.Meaning.Tells.{boxesOr}
+use Rattle.box_answers.specs.Meaning.Searches.{searched, said, searchOf}
 
 module _ (t : Tables) (handles : List (List ℕ)) (corners : List (List Float)) (objs : List ℕ) where
   -- x is what the query told, which was given the box that the record names

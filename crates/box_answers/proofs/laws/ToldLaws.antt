@@ -9,31 +9,31 @@ use lib.Dec.{eqb, leb}
 use lib.Ieee.{Float}
 use lib.ListN.{length, length-map}
 use borrow.Author.Tests.{eqb-true, leb-true}
-use Rattle.basics.specs.Limits.{mostCells}
-use Rattle.basics.specs.Refusals.{pick}
+use Rattle.basics.specs.Meaning.Limits.{mostCells}
+use Rattle.basics.specs.Meaning.Refusals.{pick}
 use Rattle.geometry.specs.declared.Aabb.{Aabb}
-use Rattle.geometry.specs.Domain.{aabbInDomain}
-use Rattle.storage.specs.Keyed.{written}
+use Rattle.geometry.specs.Meaning.Domain.{aabbInDomain}
+use Rattle.storage.specs.Meaning.Keyed.{written}
 use Rattle.storage.proofs.laws.WrittenLaws.{length-written}
-use Rattle.box_tables.specs.Tables.{Tables, sizeOf, objOn, covers}
-use Rattle.box_tables.specs.Decide.{holds}
-use Rattle.box_inserts.specs.Insert.{insertOf}
-use Rattle.box_changes.specs.SetAabb.{setAabbOf}
-use Rattle.box_changes.specs.Remove.{removeOf}
-use Rattle.telling.specs.Places.{boxOf}
-use Rattle.box_queries.specs.Queries as query
+use Rattle.box_tables.specs.Meaning.Tables.{Tables, sizeOf, objOn, covers}
+use Rattle.box_tables.specs.Meaning.Decide.{holds}
+use Rattle.box_inserts.specs.Meaning.Insert.{insertOf}
+use Rattle.box_changes.specs.Meaning.SetAabb.{setAabbOf}
+use Rattle.box_changes.specs.Meaning.Remove.{removeOf}
+use Rattle.telling.specs.Meaning.Places.{boxOf}
+use Rattle.box_queries.specs.Meaning.Queries as query
 use Rattle.printing.specs.declared.Said.the-variants.{Refused, Done, One, Two, Boxes}
-use Rattle.printing.specs.Said.{Told}
-use Rattle.replies.specs.Replies.{count}
+use Rattle.printing.specs.Inner.Said.{Told}
+use Rattle.replies.specs.Meaning.Replies.{count}
 use Rattle.slots.specs.declared.Handle.{Handle}
 use Rattle.lines.specs.declared.Spot.{Spot}
 use Rattle.lines.specs.declared.BoxChange.{BoxChange}
 use Rattle.lines.specs.declared.BoxChange.the-variants.{Bin, Bset, Brem}
 use Rattle.telling.proofs.laws.RoomLaws.{had-room}
-use Rattle.telling.specs.Tells.{told-tells}
-use Rattle.box_answers.specs.Changes.{changeOf}
-use Rattle.box_answers.specs.Searches.{Searched, said, searchOf}
-use Rattle.slot_walks.specs.Live.{handleAt}
+use Rattle.telling.proofs.laws.Tells.{told-tells}
+use Rattle.box_answers.specs.Meaning.Changes.{changeOf}
+use Rattle.box_answers.specs.Meaning.Searches.{Searched, said, searchOf}
+use Rattle.slot_walks.specs.Meaning.Live.{handleAt}
 
 -- what there is to tell is there: as many findings as the trace's grids can give, and all in the outputs
 abbrev pub IsTold : ℕ → Searched → Type 0

@@ -1,5 +1,5 @@
 -- `box_answers::search_boxes` meets its contract. Assumes nothing.
-use Rattle.box_tables.specs.Lent.{lent}
+use Rattle.box_tables.specs.Meaning.Lent.{lent}
 use Rattle.box_answers.proofs.laws.SearchLaws.{meeting-said}
 use borrow.Author.Needs.{needs}
 use Rattle.box_answers.proofs.search_boxes.Statement.{statement}

@@ -8,18 +8,18 @@ use native.Mathlib.Omega.{arith}
 use lib.Dec.{eqb}
 use lib.ListN.{length, getD, set, take, drop}
 use lib.Seq.{take-append-seam, getD-set-same}
-use Rattle.basics.specs.Refusals.{pick}
-use Rattle.slots.specs.Map.{head}
-use Rattle.slots.specs.Slot.{free, live, retired, lastVersion, versionAt, phaseAt, emptiedRow, emptiedNums, emptiedMap, SlotsHold}
+use Rattle.basics.specs.Meaning.Refusals.{pick}
+use Rattle.slots.specs.Meaning.Map.{head}
+use Rattle.slots.specs.Meaning.Slot.{free, live, retired, lastVersion, versionAt, phaseAt, emptiedRow, emptiedNums, emptiedMap, SlotsHold}
 use Rattle.slots.proofs.laws.SlotLaws.{emptied-holds}
 use Rattle.slots.proofs.laws.EmptyLaws.{emptied-length, emptied-other, emptied-map-length, emptied-map-head}
-use Rattle.storage.specs.FilterLaws.{all-map}
+use Rattle.storage.proofs.laws.FilterLaws.{all-map}
 use Rattle.storage.proofs.laws.WrittenLaws.{length-written}
-use Rattle.box_tables.specs.Tables.{Tables, sizeOf, usedOf, slotsOf, entriesIn, aabbOn, covers, Sized}
-use Rattle.box_tables.specs.Holds.{Counted, Holds}
+use Rattle.box_tables.specs.Meaning.Tables.{Tables, sizeOf, usedOf, slotsOf, entriesIn, aabbOn, covers, Sized}
+use Rattle.box_tables.specs.Meaning.Holds.{Counted, Holds}
 use Rattle.box_tables.proofs.laws.HeadLaws.{counted-used, counted-size, counted-length, counted-slots}
 use Rattle.box_inserts.proofs.laws.ChangeLaws.{Others, changed-holds}
-use Rattle.box_changes.specs.Remove.{entriesWithout, takenOut}
+use Rattle.box_changes.specs.Meaning.Remove.{entriesWithout, takenOut}
 use Rattle.box_changes.proofs.laws.WithoutLaws.{without-sorted, without-length, without-other, without-keeps, without-fits}
 
 -- the row of the slot after it

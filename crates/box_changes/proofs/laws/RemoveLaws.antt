@@ -6,19 +6,19 @@ use mathlib.Core.Bool.{Bool, true, false}
 use native.Mathlib.Omega.{arith}
 use lib.Dec.{eqb}
 use borrow.Author.Tests.{ne-eqb}
-use Rattle.basics.specs.Refusals.{pick, orElse}
+use Rattle.basics.specs.Meaning.Refusals.{pick, orElse}
 use Rattle.slots.specs.declared.Handle.{Handle}
-use Rattle.slots.specs.Slot.{live, phaseAt, versionAt, good}
+use Rattle.slots.specs.Meaning.Slot.{live, phaseAt, versionAt, good}
 use Rattle.slots.proofs.laws.HandleLaws.{good-says, emptied-not-good}
-use Rattle.box_tables.specs.Tables.{Tables, slotsOf, objOn}
-use Rattle.box_tables.specs.Holds.{Holds}
-use Rattle.box_tables.specs.Decide.{holds, holds-says}
-use Rattle.box_tables.specs.Outcome.{Outcome, outcome}
+use Rattle.box_tables.specs.Meaning.Tables.{Tables, slotsOf, objOn}
+use Rattle.box_tables.specs.Meaning.Holds.{Holds}
+use Rattle.box_tables.specs.Meaning.Decide.{holds, holds-says}
+use Rattle.box_tables.specs.Meaning.Outcome.{Outcome, outcome}
 use Rattle.box_inserts.proofs.laws.LiveLaws.{liveCount, live-less}
 use Rattle.replies.specs.declared.Reply.{Reply}
-use Rattle.box_changes.specs.Remove.{takenOut, removeAnswer, removeOf}
+use Rattle.box_changes.specs.Meaning.Remove.{takenOut, removeAnswer, removeOf}
 use Rattle.box_changes.proofs.laws.RemoveKeeps.{taken-row, taken-keeps}
-use Rattle.replies.specs.Replies.{reply}
+use Rattle.replies.specs.Meaning.Replies.{reply}
 
 -- the handle is that of an object
 abbrev pub isGood : Tables → Handle → Bool

@@ -8,29 +8,30 @@ use native.Mathlib.Omega.{arith}
 use lib.Dec.{T, eqb}
 use lib.ListN.{length, getD, take, drop, length-set}
 use lib.Seq.{getD-set-same, getD-set-other, take-append-seam}
-use Rattle.basics.specs.Limits.{mostCells}
-use Rattle.basics.specs.Says.{d-eq, said-says}
-use Rattle.basics.specs.Refusals.{pick}
+use Rattle.basics.specs.Meaning.Limits.{mostCells}
+use Rattle.basics.proofs.laws.Says.{d-eq, said-says}
+use Rattle.basics.specs.Meaning.Refusals.{pick}
 use Rattle.geometry.specs.declared.Aabb.{Aabb}
-use Rattle.geometry.specs.Domain.{aabbInDomain}
+use Rattle.geometry.specs.Meaning.Domain.{aabbInDomain}
 use Rattle.cells.specs.declared.Cell.{Cell}
-use Rattle.cells.specs.Numbers.{cell-ext}
-use Rattle.cells.specs.Range.{cellsIn}
-use Rattle.slots.specs.Map.{head}
-use Rattle.slots.specs.Slot.{live, phaseAt, SlotsHold}
-use Rattle.storage.specs.Keyed.{All, written}
-use Rattle.storage.specs.FilterLaws.{all-map}
+use Rattle.cells.proofs.laws.Numbers.{cell-ext}
+use Rattle.cells.specs.Meaning.Range.{cellsIn}
+use Rattle.slots.specs.Meaning.Map.{head}
+use Rattle.slots.specs.Meaning.Slot.{live, phaseAt, SlotsHold}
+use Rattle.storage.specs.Meaning.Keyed.{All, written}
+use Rattle.storage.proofs.laws.FilterLaws.{all-map}
 use Rattle.storage.proofs.laws.WrittenLaws.{length-written}
-use Rattle.coverage.specs.Coverage.{Stands}
+use Rattle.coverage.specs.Meaning.Coverage.{Stands}
 use Rattle.coverage.proofs.laws.EnterLaws.{entered-sorted, entered-length, entered-all, entered-stands, entered-keeps}
-use Rattle.box_tables.specs.Tables.{Tables, sizeOf, usedOf, slotsOf, entriesIn, aabbOn, lowCell, highCell, covers, itemOf, itemFor, itemOn, Sized, cornersOf}
-use Rattle.box_tables.specs.Holds.{Counted, BoxHolds, Holds}
+use Rattle.box_tables.specs.Meaning.Tables.{Tables, sizeOf, usedOf, slotsOf, entriesIn, aabbOn, lowCell, highCell, covers, itemOf, itemFor, itemOn}
+use Rattle.box_tables.specs.Meaning.Tables.{Sized, cornersOf}
+use Rattle.box_tables.specs.Meaning.Holds.{Counted, BoxHolds, Holds}
 use Rattle.box_tables.proofs.laws.BoxLaws.{low-near, high-near, item-same}
 use Rattle.box_tables.proofs.laws.HoldsLaws.{Named, StandsOn, entries-sorted, entries-named}
 use Rattle.box_tables.proofs.laws.HeadLaws.{counted-used, counted-size, counted-length, counted-slots}
 use Rattle.box_inserts.proofs.laws.ChangeLaws.{Others, Kept, changed-holds}
-use Rattle.box_changes.specs.Remove.{entriesWithout}
-use Rattle.box_changes.specs.SetAabb.{d-stay, cellsStay, recorded, entriesMoved, moved, placed}
+use Rattle.box_changes.specs.Meaning.Remove.{entriesWithout}
+use Rattle.box_changes.specs.Meaning.SetAabb.{d-stay, cellsStay, recorded, entriesMoved, moved, placed}
 use Rattle.box_changes.proofs.laws.WithoutLaws.{without-sorted, without-length, without-other, without-none, without-keeps, without-fits}
 
 -- ---- box b takes the place of the box of slot s, which is live

@@ -7,19 +7,20 @@ use native.Mathlib.Omega.{arith}
 use lib.Dec.{T, eqb}
 use lib.ListN.{length}
 use borrow.Author.Tests.{leb-true, le-leb}
-use Rattle.basics.specs.Says.{Says, says-t, not-said}
-use Rattle.basics.specs.Refusals.{pick, orElse}
-use Rattle.geometry.specs.Domain.{aabbInDomain}
+use Rattle.basics.specs.Meaning.Says.{Says}
+use Rattle.basics.proofs.laws.Says.{says-t, not-said}
+use Rattle.basics.specs.Meaning.Refusals.{pick, orElse}
+use Rattle.geometry.specs.Meaning.Domain.{aabbInDomain}
 use Rattle.geometry.specs.declared.Aabb.{Aabb}
 use Rattle.slots.specs.declared.Handle.{Handle}
-use Rattle.box_tables.specs.Tables.{Tables, sizeOf, usedOf, aabbOn, covers}
-use Rattle.box_tables.specs.Holds.{Holds}
-use Rattle.box_tables.specs.Decide.{holds, holds-says}
-use Rattle.box_tables.specs.Outcome.{Outcome, outcome}
-use Rattle.box_inserts.specs.Insert.{fewCells}
+use Rattle.box_tables.specs.Meaning.Tables.{Tables, sizeOf, usedOf, aabbOn, covers}
+use Rattle.box_tables.specs.Meaning.Holds.{Holds}
+use Rattle.box_tables.specs.Meaning.Decide.{holds, holds-says}
+use Rattle.box_tables.specs.Meaning.Outcome.{Outcome, outcome}
+use Rattle.box_inserts.specs.Meaning.Insert.{fewCells}
 use Rattle.box_inserts.proofs.laws.InsertLaws.{Few, few-says}
 use Rattle.box_inserts.proofs.laws.LiveLaws.{liveCount}
-use Rattle.box_changes.specs.SetAabb.{cellsStay, recorded, moved, placed, hasRoomFor, setAabbAnswer, setAabbOf}
+use Rattle.box_changes.specs.Meaning.SetAabb.{cellsStay, recorded, moved, placed, hasRoomFor, setAabbAnswer, setAabbOf}
 use Rattle.box_changes.proofs.laws.RemoveLaws.{isGood, Names, names}
 use Rattle.box_changes.proofs.laws.SetAabbKeeps.{placed-keeps, placed-used}
 

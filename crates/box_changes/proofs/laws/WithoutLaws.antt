@@ -7,19 +7,20 @@ use native.Mathlib.Omega.{arith}
 use lib.Dec.{eqb}
 use lib.ListN.{length}
 use borrow.Author.Tests.{eqb-false, ne-eqb}
-use Rattle.cells.specs.Numbers.{Near}
-use Rattle.slots.specs.Slot.{live, phaseAt}
-use Rattle.storage.specs.Keyed.{All, Sorted, filter}
-use Rattle.storage.specs.Entries.{rowKey, rowItem, isItem}
-use Rattle.storage.specs.FilterLaws.{all-map, all-both, filter-none}
+use Rattle.cells.specs.Inner.Numbers.{Near}
+use Rattle.slots.specs.Meaning.Slot.{live, phaseAt}
+use Rattle.storage.specs.Meaning.Keyed.{All, filter}
+use Rattle.storage.specs.Inner.Keyed.{Sorted}
+use Rattle.storage.specs.Meaning.Entries.{rowKey, rowItem, isItem}
+use Rattle.storage.proofs.laws.FilterLaws.{all-map, all-both, filter-none}
 use Rattle.coverage.proofs.laws.ListLaws.{filter-empty}
 use Rattle.coverage.proofs.laws.LeaveLaws.{left-sorted, left-all, left-length, left-none, left-keeps}
-use Rattle.box_tables.specs.Tables.{Tables, sizeOf, usedOf, slotsOf, entriesIn, aabbOn, lowCell, highCell, covers, itemOf, itemOn}
-use Rattle.box_tables.specs.Holds.{Holds}
+use Rattle.box_tables.specs.Meaning.Tables.{Tables, sizeOf, usedOf, slotsOf, entriesIn, aabbOn, lowCell, highCell, covers, itemOf, itemOn}
+use Rattle.box_tables.specs.Meaning.Holds.{Holds}
 use Rattle.box_tables.proofs.laws.BoxLaws.{item-same}
 use Rattle.box_tables.proofs.laws.HoldsLaws.{Named, StandsOn, item-on-same, entries-length, entries-sorted, entries-named, low-near, high-near}
 use Rattle.box_inserts.proofs.laws.ChangeLaws.{OfOther}
-use Rattle.box_changes.specs.Remove.{entriesWithout}
+use Rattle.box_changes.specs.Meaning.Remove.{entriesWithout}
 
 module _ (t : Tables) (h : Holds t) (s : ℕ) (inside : s < slotsOf t) (is-live : phaseAt (t .nums) s ≡ live) where
   na : Near (lowCell (sizeOf t) (aabbOn t s))

@@ -5,13 +5,14 @@ use mathlib.Core.Path.{_≡_, sym, _∙_}
 use mathlib.Core.List.{List, []}
 use mathlib.Core.Logic.{_⊎_, inl, inr, ⊎-elim}
 use lib.ListN.{getD}
-use Rattle.basics.specs.Says.{d-eq}
-use Rattle.slots.specs.Slot.{live, phaseAt, SlotsHold}
-use Rattle.storage.specs.Keyed.{All, Sorted}
-use Rattle.storage.specs.Entries.{rowKey, rowItem}
-use Rattle.storage.specs.FilterLaws.{all-map}
-use Rattle.box_tables.specs.Tables.{Tables, sizeOf, slotsOf, entriesIn, itemOn, Sized}
-use Rattle.box_tables.specs.Holds.{Counted, BoxHolds, Holds}
+use Rattle.basics.proofs.laws.Says.{d-eq}
+use Rattle.slots.specs.Meaning.Slot.{live, phaseAt, SlotsHold}
+use Rattle.storage.specs.Meaning.Keyed.{All}
+use Rattle.storage.specs.Inner.Keyed.{Sorted}
+use Rattle.storage.specs.Meaning.Entries.{rowKey, rowItem}
+use Rattle.storage.proofs.laws.FilterLaws.{all-map}
+use Rattle.box_tables.specs.Meaning.Tables.{Tables, sizeOf, slotsOf, entriesIn, itemOn, Sized}
+use Rattle.box_tables.specs.Meaning.Holds.{Counted, BoxHolds, Holds}
 use Rattle.box_tables.proofs.laws.HoldsLaws.{Named, StandsOn, Listing, holds-of}
 
 -- t and u have the same cell size and the same slots, and besides slot s the same phases and boxes

@@ -7,22 +7,23 @@ use native.Mathlib.Omega.{arith}
 use lib.Dec.{T, eqb}
 use lib.ListN.{length, getD, take, drop, length-set}
 use lib.Seq.{getD-set-same, getD-set-other, take-append-seam}
-use Rattle.basics.specs.Limits.{mostCells}
+use Rattle.basics.specs.Meaning.Limits.{mostCells}
 use Rattle.geometry.specs.declared.Aabb.{Aabb}
-use Rattle.geometry.specs.Domain.{aabbInDomain}
-use Rattle.slots.specs.Map.{head, taken}
-use Rattle.slots.specs.Slot.{free, live, versionAt, phaseAt, SlotsHold}
+use Rattle.geometry.specs.Meaning.Domain.{aabbInDomain}
+use Rattle.slots.specs.Meaning.Map.{head, taken}
+use Rattle.slots.specs.Meaning.Slot.{free, live, versionAt, phaseAt, SlotsHold}
 use Rattle.slots.proofs.laws.MapLaws.{taken-length, taken-head}
 use Rattle.slots.proofs.laws.SlotLaws.{taken-holds}
-use Rattle.storage.specs.Keyed.{All}
-use Rattle.storage.specs.FilterLaws.{all-map}
+use Rattle.storage.specs.Meaning.Keyed.{All}
+use Rattle.storage.proofs.laws.FilterLaws.{all-map}
 use Rattle.storage.proofs.laws.WrittenLaws.{length-written}
 use Rattle.coverage.proofs.laws.EnterLaws.{entered-sorted, entered-length, entered-all, entered-stands, entered-keeps}
-use Rattle.box_tables.specs.Tables.{Tables, sizeOf, usedOf, slotsOf, entriesIn, aabbOn, lowCell, highCell, covers, itemFor, itemOn, Sized, cornersOf}
-use Rattle.box_tables.specs.Holds.{Counted, BoxHolds, Holds}
+use Rattle.box_tables.specs.Meaning.Tables.{Tables, sizeOf, usedOf, slotsOf, entriesIn, aabbOn, lowCell, highCell, covers, itemFor, itemOn, Sized}
+use Rattle.box_tables.specs.Meaning.Tables.{cornersOf}
+use Rattle.box_tables.specs.Meaning.Holds.{Counted, BoxHolds, Holds}
 use Rattle.box_tables.proofs.laws.BoxLaws.{low-near, high-near, item-same}
 use Rattle.box_tables.proofs.laws.HoldsLaws.{StandsOn, entries-length, entries-sorted, entries-named, unnamed}
-use Rattle.box_inserts.specs.Insert.{entriesWith, put}
+use Rattle.box_inserts.specs.Meaning.Insert.{entriesWith, put}
 use Rattle.box_tables.proofs.laws.HeadLaws.{counted-used, counted-size, counted-length, counted-slots}
 use Rattle.box_inserts.proofs.laws.ChangeLaws.{Others, Kept, changed-holds}
 

@@ -7,25 +7,27 @@ use native.Mathlib.Omega.{arith}
 use lib.Dec.{T, eqb}
 use lib.ListN.{length}
 use borrow.Author.Tests.{leb-true, le-leb, ne-eqb}
-use Rattle.basics.specs.Limits.{mostCells}
-use Rattle.basics.specs.Says.{Says, says-t, not-said}
-use Rattle.basics.specs.Refusals.{pick}
-use Rattle.geometry.specs.Domain.{aabbInDomain}
+use Rattle.basics.specs.Meaning.Limits.{mostCells}
+use Rattle.basics.specs.Meaning.Says.{Says}
+use Rattle.basics.proofs.laws.Says.{says-t, not-said}
+use Rattle.basics.specs.Meaning.Refusals.{pick}
+use Rattle.geometry.specs.Meaning.Domain.{aabbInDomain}
 use Rattle.geometry.specs.declared.Aabb.{Aabb}
 use Rattle.slots.specs.declared.Usable.{Usable}
 use Rattle.slots.specs.declared.Usable.the-variants.{At, Nothing}
-use Rattle.slots.specs.Map.{slotIn}
-use Rattle.slots.specs.Slot.{live, versionAt}
+use Rattle.slots.specs.Meaning.Map.{slotIn}
+use Rattle.slots.specs.Meaning.Slot.{live, versionAt}
 use Rattle.slots.proofs.laws.SlotLaws.{lowest-free}
-use Rattle.box_tables.specs.Tables.{Tables, sizeOf, usedOf, covers}
-use Rattle.box_tables.specs.Holds.{Holds}
-use Rattle.box_tables.specs.Decide.{holds, holds-says}
-use Rattle.box_tables.specs.Outcome.{Outcome, outcome}
+use Rattle.box_tables.specs.Meaning.Tables.{Tables, sizeOf, usedOf, covers}
+use Rattle.box_tables.specs.Meaning.Holds.{Holds}
+use Rattle.box_tables.specs.Meaning.Decide.{holds, holds-says}
+use Rattle.box_tables.specs.Meaning.Outcome.{Outcome, outcome}
 use Rattle.replies.specs.declared.Inserted.{Inserted}
-use Rattle.box_inserts.specs.Insert.{usableSlot, put, fewCells, hasRoom, insertAnswer, insertOf, answerBy}
+use Rattle.box_inserts.specs.Meaning.Insert.{usableSlot, put, fewCells, hasRoom, insertAnswer, insertOf}
+use Rattle.box_inserts.specs.Inner.Insert.{answerBy}
 use Rattle.box_inserts.proofs.laws.LiveLaws.{liveCount, live-more}
 use Rattle.box_inserts.proofs.laws.InsertKeeps.{put-keeps}
-use Rattle.replies.specs.Replies.{inserted}
+use Rattle.replies.specs.Meaning.Replies.{inserted}
 
 module _ (t : Tables) (b : Aabb) where
   -- the pool has room for the entries in use and those of the box

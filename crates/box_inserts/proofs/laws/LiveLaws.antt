@@ -7,11 +7,12 @@ use native.Mathlib.Omega.{arith}
 use lib.Dec.{eqb}
 use lib.ListN.{length, getD, set, length-set}
 use borrow.Author.Tests.{eq-eqb, ne-eqb}
-use Rattle.basics.specs.Counting.{one, countBelow}
-use Rattle.slots.specs.Slot.{live, phaseAt, inPhase}
+use Rattle.basics.specs.Inner.Counting.{one, countBelow}
+use Rattle.slots.specs.Meaning.Slot.{live, phaseAt}
+use Rattle.slots.proofs.laws.Slot.{inPhase}
 use Rattle.slots.proofs.laws.CountLaws.{in-phase-set}
-use Rattle.box_tables.specs.Tables.{Tables, slotsOf}
-use Rattle.slot_walks.specs.Live.{liveAt}
+use Rattle.box_tables.specs.Meaning.Tables.{Tables, slotsOf}
+use Rattle.slot_walks.proofs.laws.Live.{liveAt}
 
 unfoldable pub liveCount : Tables → ℕ
 liveCount t = countBelow (liveAt (t .nums)) (slotsOf t)

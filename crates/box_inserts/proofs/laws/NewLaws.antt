@@ -5,17 +5,17 @@ use mathlib.Core.Bool.{Bool, true, false}
 use native.Mathlib.Omega.{arith}
 use lib.Dec.{eqb}
 use lib.ListN.{length-replicate}
-use Rattle.basics.specs.Refusals.{orElse, pick}
-use Rattle.basics.specs.Says.{not-said}
-use Rattle.cells.specs.Size.{SizeInDomain}
-use Rattle.slots.specs.Slot.{live, phaseAt, SlotsHold}
-use Rattle.blank.specs.Blank.{sizeOk}
+use Rattle.basics.specs.Meaning.Refusals.{orElse, pick}
+use Rattle.basics.proofs.laws.Says.{not-said}
+use Rattle.cells.specs.Meaning.Size.{SizeInDomain}
+use Rattle.slots.specs.Meaning.Slot.{live, phaseAt, SlotsHold}
+use Rattle.blank.specs.Meaning.Blank.{sizeOk}
 use Rattle.blank.proofs.laws.BlankLaws.{blank-length, blank-holds, blank-not-live, size-says}
-use Rattle.box_tables.specs.Tables.{Tables, slotsOf, Sized}
-use Rattle.box_tables.specs.Holds.{Counted, Holds}
-use Rattle.box_tables.specs.Decide.{sized, sized-says}
-use Rattle.box_tables.specs.Outcome.{Outcome, outcome}
-use Rattle.box_inserts.specs.New.{built, newAnswer, newOf}
+use Rattle.box_tables.specs.Meaning.Tables.{Tables, slotsOf, Sized}
+use Rattle.box_tables.specs.Meaning.Holds.{Counted, Holds}
+use Rattle.box_tables.specs.Meaning.Decide.{sized, sized-says}
+use Rattle.box_tables.specs.Meaning.Outcome.{Outcome, outcome}
+use Rattle.box_inserts.specs.Meaning.New.{built, newAnswer, newOf}
 
 -- ---- the tables
 module _ (t : Tables) (size : ℕ) where

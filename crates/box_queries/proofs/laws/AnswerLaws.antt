@@ -8,18 +8,18 @@ use lib.Dec.{eqb, leb}
 use lib.Ieee.{Float}
 use lib.ListN.{length}
 use borrow.Author.Tests.{le-leb, lt-leb}
-use Rattle.basics.specs.Limits.{mostCells}
-use Rattle.basics.specs.Refusals.{unless, firstOf, pick}
+use Rattle.basics.specs.Meaning.Limits.{mostCells}
+use Rattle.basics.specs.Meaning.Refusals.{unless, firstOf, pick}
 use Rattle.geometry.specs.declared.Aabb.{Aabb}
-use Rattle.geometry.specs.Domain.{aabbInDomain}
-use Rattle.storage.specs.Keyed.{written}
-use Rattle.box_tables.specs.Tables.{Tables, sizeOf, covers, objOn}
-use Rattle.box_tables.specs.Decide.{holds}
+use Rattle.geometry.specs.Meaning.Domain.{aabbInDomain}
+use Rattle.storage.specs.Meaning.Keyed.{written}
+use Rattle.box_tables.specs.Meaning.Tables.{Tables, sizeOf, covers, objOn}
+use Rattle.box_tables.specs.Meaning.Decide.{holds}
 use Rattle.replies.specs.declared.Count.{Count}
-use Rattle.box_queries.specs.Queries.{broad, narrow, boxRow, answerOf, Handles, handlesOf, broadOf, Findings, findings, roomOf, queryOf}
-use Rattle.box_queries.specs.Look.{earlyOf}
-use Rattle.replies.specs.Replies.{count}
-use Rattle.slot_walks.specs.Live.{handleAt}
+use Rattle.box_queries.specs.Meaning.Queries.{broad, narrow, boxRow, answerOf, Handles, handlesOf, broadOf, Findings, findings, roomOf, queryOf}
+use Rattle.box_queries.specs.Inner.Look.{earlyOf}
+use Rattle.replies.specs.Meaning.Replies.{count}
+use Rattle.slot_walks.specs.Meaning.Live.{handleAt}
 
 -- ---- by the four tests
 abbrev answer : Bool → Bool → Bool → Bool → ℕ

@@ -7,19 +7,20 @@ use mathlib.Core.Bool.{Bool, true}
 use mathlib.Core.List.{List, map, List·Memᴰ, Memᴰ·cast, Memᴰ·map, Memᴰ·of-map}
 use lib.Dec.{T, eqb}
 use Rattle.geometry.specs.declared.Aabb.{Aabb}
-use Rattle.geometry.specs.Domain.{aabbInDomain}
-use Rattle.geometry.specs.Intersects.{intersects}
+use Rattle.geometry.specs.Meaning.Domain.{aabbInDomain}
+use Rattle.geometry.specs.Meaning.Intersects.{intersects}
 use Rattle.cells.specs.declared.Cell.{Cell}
-use Rattle.cells.specs.Range.{inRange}
-use Rattle.storage.specs.Keyed.{All, filter}
-use Rattle.storage.specs.Entries.{rowKey}
-use Rattle.storage.specs.FilterLaws.{filter-all}
-use Rattle.storage.specs.WindowLaws.{windowOf, range-fits, window-cell}
-use Rattle.box_tables.specs.Tables.{Tables, sizeOf, slotsOf, entriesIn, aabbOn, lowCell, highCell, covers, itemOn, slotOf}
-use Rattle.box_tables.specs.Holds.{Holds}
+use Rattle.cells.proofs.laws.Range.{inRange}
+use Rattle.storage.specs.Meaning.Keyed.{All, filter}
+use Rattle.storage.specs.Meaning.Entries.{rowKey}
+use Rattle.storage.proofs.laws.FilterLaws.{filter-all}
+use Rattle.storage.specs.Inner.WindowLaws.{windowOf}
+use Rattle.storage.proofs.laws.WindowLaws.{range-fits, window-cell}
+use Rattle.box_tables.specs.Meaning.Tables.{Tables, sizeOf, slotsOf, entriesIn, aabbOn, lowCell, highCell, covers, itemOn, slotOf}
+use Rattle.box_tables.specs.Meaning.Holds.{Holds}
 use Rattle.box_tables.proofs.laws.BoxLaws.{item-slot}
 use Rattle.box_tables.proofs.laws.HoldsLaws.{named-slot}
-use Rattle.box_queries.specs.Queries.{walk, broad, narrow}
+use Rattle.box_queries.specs.Meaning.Queries.{walk, broad, narrow}
 use Rattle.box_queries.proofs.laws.Shared.{Met}
 use Rattle.box_queries.proofs.laws.FirstsLaws.{filter-member, member-filter, Once, firsts-once, firsts-of, of-firsts}
 use Rattle.box_queries.proofs.laws.StandsLaws.{member-all, cell-stands}

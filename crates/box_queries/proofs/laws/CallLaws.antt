@@ -8,20 +8,20 @@ use lib.Ieee.{Float}
 use lib.ListN.{length, getD, take}
 use lib.Seq.{length-take-le, getD-take}
 use Rattle.geometry.specs.declared.Aabb.{Aabb}
-use Rattle.geometry.specs.Domain.{aabbInDomain}
-use Rattle.geometry.specs.Intersects.{intersects}
-use Rattle.storage.specs.Keyed.{All, filter, written}
-use Rattle.storage.specs.FilterLaws.{all-at}
-use Rattle.box_tables.specs.Tables.{Tables, slotsOf, aabbOn, objOn}
-use Rattle.box_tables.specs.Decide.{holds-says}
+use Rattle.geometry.specs.Meaning.Domain.{aabbInDomain}
+use Rattle.geometry.specs.Meaning.Intersects.{intersects}
+use Rattle.storage.specs.Meaning.Keyed.{All, filter, written}
+use Rattle.storage.proofs.laws.FilterLaws.{all-at}
+use Rattle.box_tables.specs.Meaning.Tables.{Tables, slotsOf, aabbOn, objOn}
+use Rattle.box_tables.specs.Meaning.Decide.{holds-says}
 use Rattle.replies.specs.declared.Count.{Count}
-use Rattle.box_queries.specs.Queries.{broad, narrow, boxRow, handlesOf, broadOf, findings, roomOf, queryOf}
-use Rattle.box_queries.specs.Put.{Found}
-use Rattle.box_queries.specs.Look.{earlyOf, Looked}
+use Rattle.box_queries.specs.Meaning.Queries.{broad, narrow, boxRow, handlesOf, broadOf, findings, roomOf, queryOf}
+use Rattle.box_queries.specs.Inner.Put.{Found}
+use Rattle.box_queries.specs.Inner.Look.{earlyOf, Looked}
 use Rattle.box_queries.proofs.laws.AnswerLaws.{early-passed, broad-early, broad-9, broad-0, query-early, query-9, query-0}
 use Rattle.box_queries.proofs.laws.BroadLaws.{query-filter, broad-all, narrow-all}
-use Rattle.replies.specs.Replies.{count}
-use Rattle.slot_walks.specs.Live.{handleAt}
+use Rattle.replies.specs.Meaning.Replies.{count}
+use Rattle.slot_walks.specs.Meaning.Live.{handleAt}
 
 -- the first n of an array of 256 are the slots ss
 module _ (rows : ℕ) (ss found : List ℕ) (n : ℕ) (size : length found ≡ 256) (most : n ≤ 256) (e : take n found ≡ ss) where

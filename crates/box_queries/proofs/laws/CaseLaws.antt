@@ -7,23 +7,23 @@ use mathlib.Core.List.{List, List·Memᴰ}
 use native.Mathlib.Omega.{arith}
 use lib.Dec.{T}
 use lib.Ieee.{Float, ofBits, lt, le, eq, add, sub, neg, fits}
-use Rattle.basics.specs.Says.{apart}
-use Rattle.geometry.specs.Domain.{aabbInDomain}
-use Rattle.geometry.specs.Intersects.{overlaps, intersects}
-use Rattle.cells.specs.CellRule.{cellOf}
-use Rattle.cells.specs.Range.{cellsIn}
-use Rattle.slots.specs.Slot.{live, phaseAt}
-use Rattle.box_tables.specs.Tables.{Tables, sizeOf, slotsOf, aabbOn, covers}
-use Rattle.box_tables.specs.Holds.{Holds}
-use Rattle.box_tables.specs.Decide.{holds}
-use Rattle.box_queries.specs.Queries.{broad, narrow, handlesOf, broadOf, findings, queryOf}
+use Rattle.basics.proofs.laws.Says.{apart}
+use Rattle.geometry.specs.Meaning.Domain.{aabbInDomain}
+use Rattle.geometry.specs.Meaning.Intersects.{overlaps, intersects}
+use Rattle.cells.specs.Meaning.CellRule.{cellOf}
+use Rattle.cells.specs.Meaning.Range.{cellsIn}
+use Rattle.slots.specs.Meaning.Slot.{live, phaseAt}
+use Rattle.box_tables.specs.Meaning.Tables.{Tables, sizeOf, slotsOf, aabbOn, covers}
+use Rattle.box_tables.specs.Meaning.Holds.{Holds}
+use Rattle.box_tables.specs.Meaning.Decide.{holds}
+use Rattle.box_queries.specs.Meaning.Queries.{broad, narrow, handlesOf, broadOf, findings, queryOf}
 use Rattle.box_queries.proofs.laws.Shared.{ranged}
-use Rattle.box_queries.specs.Look.{earlyOf}
+use Rattle.box_queries.specs.Inner.Look.{earlyOf}
 use Rattle.box_queries.proofs.laws.AnswerLaws.{early-7, early-0, broad-early, query-early}
 use Rattle.box_queries.proofs.laws.BroadLaws.{broad-met, query-exactly}
 use Rattle.box_queries.proofs.laws.SharedLaws.{broad-ranged, ranged-broad}
 use Rattle.box_queries.proofs.laws.Cases.{stored, asked, square, wider}
-use Rattle.replies.specs.Replies.{count}
+use Rattle.replies.specs.Meaning.Replies.{count}
 
 asked-fits : T (aabbInDomain asked)
 unfolding ofBits le lt eq fits

@@ -7,10 +7,10 @@ use mathlib.Core.List.{List, [], _∷_}
 use lib.Dec.{eqb}
 use lib.Ieee.{binary32, ofBits, lt, le, eq, add, sub, neg}
 use Rattle.geometry.specs.declared.Aabb.{Aabb}
-use Rattle.geometry.specs.Intersects.{overlaps, intersects}
-use Rattle.cells.specs.CellRule.{cellOf}
-use Rattle.cells.specs.Range.{cellsIn}
-use Rattle.box_tables.specs.Tables.{covers}
+use Rattle.geometry.specs.Meaning.Intersects.{overlaps, intersects}
+use Rattle.cells.specs.Meaning.CellRule.{cellOf}
+use Rattle.cells.specs.Meaning.Range.{cellsIn}
+use Rattle.box_tables.specs.Meaning.Tables.{covers}
 use Rattle.box_queries.proofs.laws.Shared.{ranged}
 
 -- lower left and upper right

@@ -7,22 +7,22 @@ use native.Mathlib.Omega.{arith}
 use native.Mathlib.Numerals.{add-one}
 use lib.ListN.{length, getD, set, take, drop, replicate, length-append, length-set, length-replicate, take-append-drop}
 use lib.Seq.{slice, take-suc, take-suc-set, drop-append-le, drop-length, take-take, length-take-le, slice-empty}
-use Rattle.basics.specs.Refusals.{pick}
-use Rattle.cells.specs.Key.{columnOf, lineOf}
+use Rattle.basics.specs.Meaning.Refusals.{pick}
+use Rattle.cells.specs.Inner.Key.{columnOf, lineOf}
 use Rattle.storage.specs.declared.Run.{Run}
-use Rattle.storage.specs.Keyed.{All}
-use Rattle.storage.specs.Entries.{rowKey}
-use Rattle.storage.specs.Window.{inWindow}
-use Rattle.storage.specs.Run.{NextRun}
+use Rattle.storage.specs.Meaning.Keyed.{All}
+use Rattle.storage.specs.Meaning.Entries.{rowKey}
+use Rattle.storage.specs.Inner.Window.{inWindow}
+use Rattle.storage.specs.Inner.Run.{NextRun}
 use Rattle.storage.proofs.laws.RunStepLaws.{next-stretch}
 use Rattle.storage.proofs.laws.PackedLaws.{all-first}
-use Rattle.storage.specs.FilterLaws.{all-back, all-over, filter-all}
-use Rattle.box_tables.specs.Tables.{slotOf}
-use Rattle.box_queries.specs.Firsts.{firsts}
-use Rattle.box_queries.specs.Marks.{marked, fresh, unmarked}
+use Rattle.storage.proofs.laws.FilterLaws.{all-back, all-over, filter-all}
+use Rattle.box_tables.specs.Meaning.Tables.{slotOf}
+use Rattle.box_queries.specs.Meaning.Firsts.{firsts}
+use Rattle.box_queries.specs.Inner.Marks.{marked, fresh, unmarked}
 use Rattle.box_queries.proofs.laws.MarksLaws.{length-marked, marked-append, fresh-append, fresh-firsts, fresh-room, unmarked-none, unmarked-some}
-use Rattle.box_queries.specs.Gather.{Slots, slotsIn, inside}
-use Rattle.box_queries.specs.Collected.{Collected}
+use Rattle.box_queries.specs.Inner.Gather.{Slots, slotsIn, inside}
+use Rattle.box_queries.specs.Inner.Collected.{Collected}
 
 -- ---- the slots of a stretch
 module _ (pool : List (List ℕ)) (from : ℕ) where

@@ -5,10 +5,10 @@ use mathlib.Core.Bool.{Bool, true, not}
 use mathlib.Core.List.{List, [], _∷_, List·Memᴰ, List·Memᴰ·head, List·Memᴰ·tail, List·Memᴰ·cases-cons, List·Memᴰ·not-nil}
 use mathlib.Core.Logic.{⊎-elim}
 use borrow.Author.Tests.{eq-eqb, ne-eqb}
-use Rattle.basics.specs.Says.{apart, d-eq}
-use Rattle.storage.specs.Keyed.{All, filter}
-use Rattle.storage.specs.FilterLaws.{by-test, filter-all, filter-gives}
-use Rattle.box_queries.specs.Firsts.{isOther, firsts}
+use Rattle.basics.proofs.laws.Says.{apart, d-eq}
+use Rattle.storage.specs.Meaning.Keyed.{All, filter}
+use Rattle.storage.proofs.laws.FilterLaws.{by-test, filter-all, filter-gives}
+use Rattle.box_queries.specs.Meaning.Firsts.{isOther, firsts}
 
 -- ---- members of a filter
 module _ {A : Type 0} (test : A → Bool) (x : A) where

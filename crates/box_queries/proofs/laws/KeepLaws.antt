@@ -7,8 +7,8 @@ use native.Mathlib.Omega.{arith}
 use native.Mathlib.Numerals.{add-one}
 use lib.ListN.{length, getD, set, take, drop, length-set}
 use lib.Seq.{take-suc, take-suc-set, drop-set-lt, drop-drop, getD-drop}
-use Rattle.storage.specs.Keyed.{filter}
-use Rattle.storage.specs.FilterLaws.{filter-append, filter-keep, filter-skip}
+use Rattle.storage.specs.Meaning.Keyed.{filter}
+use Rattle.storage.proofs.laws.FilterLaws.{filter-append, filter-keep, filter-skip}
 
 pub record Kept (test : ℕ → Bool) (fs found : List ℕ) (k j : ℕ) : Type 0 where
   pub few : k ≤ j

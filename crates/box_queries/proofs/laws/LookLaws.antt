@@ -6,19 +6,19 @@ use mathlib.Core.List.{List, map}
 use native.Mathlib.Omega.{arith}
 use lib.Dec.{T}
 use lib.ListN.{length, take}
-use Rattle.basics.specs.Limits.{mostCells}
+use Rattle.basics.specs.Meaning.Limits.{mostCells}
 use Rattle.geometry.specs.declared.Aabb.{Aabb}
-use Rattle.geometry.specs.Domain.{aabbInDomain}
-use Rattle.cells.specs.Key.{keyOf}
-use Rattle.box_tables.specs.Tables.{Tables, sizeOf, usedOf, lowCell, highCell, covers, slotOf}
-use Rattle.box_tables.specs.Decide.{holds, holds-says}
+use Rattle.geometry.specs.Meaning.Domain.{aabbInDomain}
+use Rattle.cells.specs.Meaning.Key.{keyOf}
+use Rattle.box_tables.specs.Meaning.Tables.{Tables, sizeOf, usedOf, lowCell, highCell, covers, slotOf}
+use Rattle.box_tables.specs.Meaning.Decide.{holds, holds-says}
 use Rattle.replies.specs.declared.Count.{Count}
-use Rattle.box_queries.specs.Firsts.{firsts}
-use Rattle.box_queries.specs.Gather.{inside}
-use Rattle.box_queries.specs.Look.{earlyOf, Looked}
+use Rattle.box_queries.specs.Meaning.Firsts.{firsts}
+use Rattle.box_queries.specs.Inner.Gather.{inside}
+use Rattle.box_queries.specs.Inner.Look.{earlyOf, Looked}
 use Rattle.box_queries.proofs.laws.AnswerLaws.{early-3, early-6, early-7, early-0}
 use Rattle.box_queries.proofs.laws.WalkLaws.{gathered-broad}
-use Rattle.replies.specs.Replies.{count}
+use Rattle.replies.specs.Meaning.Replies.{count}
 
 module _ (t : Tables) (q : Aabb) (found : List ℕ) (size : length found ≡ 256) where
   -- a refusal

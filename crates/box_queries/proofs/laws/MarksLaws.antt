@@ -8,13 +8,13 @@ use native.Mathlib.Omega.{arith}
 use lib.ListN.{length, getD, set, replicate, length-set, length-replicate, getD-replicate}
 use borrow.Author.Tests.{eq-eqb}
 use lib.Seq.{getD-set-same, getD-set-other}
-use Rattle.basics.specs.Refusals.{pick}
-use Rattle.basics.specs.Says.{d-eq}
-use Rattle.storage.specs.Keyed.{All, filter}
-use Rattle.storage.specs.FilterLaws.{by-test, all-map, all-any, filter-whole, filter-same, filter-both}
-use Rattle.box_queries.specs.Firsts.{isOther, firsts}
+use Rattle.basics.specs.Meaning.Refusals.{pick}
+use Rattle.basics.proofs.laws.Says.{d-eq}
+use Rattle.storage.specs.Meaning.Keyed.{All, filter}
+use Rattle.storage.proofs.laws.FilterLaws.{by-test, all-map, all-any, filter-whole, filter-same, filter-both}
+use Rattle.box_queries.specs.Meaning.Firsts.{isOther, firsts}
 use Rattle.box_queries.proofs.laws.FirstsLaws.{other-yes, all-firsts}
-use Rattle.box_queries.specs.Marks.{marked, fresh, unmarked}
+use Rattle.box_queries.specs.Inner.Marks.{marked, fresh, unmarked}
 
 -- ---- list after list
 pub length-marked : (m : List Bool) (l : List ℕ) → length (marked m l) ≡ length m

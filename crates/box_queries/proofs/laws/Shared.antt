@@ -5,9 +5,9 @@ use mathlib.Core.Bool.{Bool, true, _&&_}
 use lib.Signed.{leZ}
 use Rattle.geometry.specs.declared.Aabb.{Aabb}
 use Rattle.cells.specs.declared.Cell.{Cell}
-use Rattle.cells.specs.Range.{inRange}
-use Rattle.slots.specs.Slot.{live, phaseAt}
-use Rattle.box_tables.specs.Tables.{Tables, sizeOf, slotsOf, aabbOn, lowCell, highCell}
+use Rattle.cells.proofs.laws.Range.{inRange}
+use Rattle.slots.specs.Meaning.Slot.{live, phaseAt}
+use Rattle.box_tables.specs.Meaning.Tables.{Tables, sizeOf, slotsOf, aabbOn, lowCell, highCell}
 
 -- a cell that two boxes both cover
 pub record Shared (size : ℕ) (p q : Aabb) : Type 0 where

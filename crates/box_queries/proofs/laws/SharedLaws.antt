@@ -7,19 +7,19 @@ use mathlib.Core.List.{List·Memᴰ}
 use lib.Dec.{T}
 use lib.IntN.{ℤ, pos, _+ℤ_}
 use lib.Signed.{leZ}
-use Rattle.basics.specs.Says.{apart, both-true, and-true, says-t}
+use Rattle.basics.proofs.laws.Says.{apart, both-true, and-true, says-t}
 use Rattle.geometry.specs.declared.Aabb.{Aabb}
-use Rattle.geometry.specs.Domain.{aabbInDomain}
+use Rattle.geometry.specs.Meaning.Domain.{aabbInDomain}
 use Rattle.cells.specs.declared.Cell.{Cell}
-use Rattle.cells.specs.Range.{inRange}
+use Rattle.cells.proofs.laws.Range.{inRange}
 use Rattle.cells.proofs.laws.StepLaws.{Compared, compare, add-steps, le-step, reached}
-use Rattle.storage.specs.FilterLaws.{by-test}
-use Rattle.slots.specs.Slot.{live, phaseAt}
-use Rattle.box_tables.specs.Tables.{Tables, sizeOf, slotsOf, aabbOn, lowCell, highCell}
-use Rattle.box_tables.specs.Holds.{Holds}
+use Rattle.storage.proofs.laws.FilterLaws.{by-test}
+use Rattle.slots.specs.Meaning.Slot.{live, phaseAt}
+use Rattle.box_tables.specs.Meaning.Tables.{Tables, sizeOf, slotsOf, aabbOn, lowCell, highCell}
+use Rattle.box_tables.specs.Meaning.Holds.{Holds}
 use Rattle.box_tables.proofs.laws.BoxLaws.{corners-x, corners-y}
 use Rattle.box_queries.proofs.laws.Shared.{Shared, ranged}
-use Rattle.box_queries.specs.Queries.{broad}
+use Rattle.box_queries.specs.Meaning.Queries.{broad}
 use Rattle.box_queries.proofs.laws.BroadLaws.{broad-met, met-broad}
 
 -- ---- the order of whole numbers

@@ -6,12 +6,13 @@ use mathlib.Core.List.{List, [], _∷_, map, List·Memᴰ, List·Memᴰ·head, L
 use mathlib.Core.Logic.{⊎-elim}
 use borrow.Author.Tests.{eqb-true, eq-eqb}
 use Rattle.cells.specs.declared.Cell.{Cell}
-use Rattle.cells.specs.Key.{keyOf}
-use Rattle.cells.specs.Range.{rangeCells, inRange}
+use Rattle.cells.specs.Meaning.Key.{keyOf}
+use Rattle.cells.specs.Meaning.Range.{rangeCells}
+use Rattle.cells.proofs.laws.Range.{inRange}
 use Rattle.cells.proofs.laws.RangeLaws.{in-cells, cells-in}
-use Rattle.storage.specs.Keyed.{All, filter}
-use Rattle.storage.specs.Entries.{rowKey, rowItem, isItem}
-use Rattle.coverage.specs.Coverage.{Stands}
+use Rattle.storage.specs.Meaning.Keyed.{All, filter}
+use Rattle.storage.specs.Meaning.Entries.{rowKey, rowItem, isItem}
+use Rattle.coverage.specs.Meaning.Coverage.{Stands}
 use Rattle.box_queries.proofs.laws.FirstsLaws.{filter-member, member-filter}
 
 -- ---- facts of all, by members

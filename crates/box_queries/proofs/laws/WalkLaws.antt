@@ -8,28 +8,30 @@ use native.Mathlib.Omega.{arith}
 use lib.Dec.{T}
 use lib.ListN.{take}
 use Rattle.geometry.specs.declared.Aabb.{Aabb}
-use Rattle.geometry.specs.Domain.{aabbInDomain}
+use Rattle.geometry.specs.Meaning.Domain.{aabbInDomain}
 use Rattle.cells.specs.declared.Cell.{Cell}
-use Rattle.cells.specs.Numbers.{Fits, near-fits}
-use Rattle.cells.specs.Range.{inRange}
-use Rattle.cells.specs.Key.{keyOf, columnOf, lineOf}
+use Rattle.cells.proofs.laws.Numbers.{Fits, near-fits}
+use Rattle.cells.proofs.laws.Range.{inRange}
+use Rattle.cells.specs.Meaning.Key.{keyOf}
+use Rattle.cells.specs.Inner.Key.{columnOf, lineOf}
 use Rattle.cells.proofs.laws.KeyLaws.{key-lt}
-use Rattle.slots.specs.Slot.{live, phaseAt}
-use Rattle.storage.specs.Keyed.{All, filter}
-use Rattle.storage.specs.Entries.{rowKey}
+use Rattle.slots.specs.Meaning.Slot.{live, phaseAt}
+use Rattle.storage.specs.Meaning.Keyed.{All, filter}
+use Rattle.storage.specs.Meaning.Entries.{rowKey}
 use Rattle.storage.proofs.laws.PackedLaws.{first-all}
-use Rattle.storage.specs.FilterLaws.{all-any, filter-same}
-use Rattle.storage.specs.Window.{inWindow}
-use Rattle.storage.specs.WindowLaws.{windowOf, range-fits}
+use Rattle.storage.proofs.laws.FilterLaws.{all-any, filter-same}
+use Rattle.storage.specs.Inner.Window.{inWindow}
+use Rattle.storage.specs.Inner.WindowLaws.{windowOf}
+use Rattle.storage.proofs.laws.WindowLaws.{range-fits}
 use Rattle.storage.proofs.laws.WalkLaws.{walked-window}
 use Rattle.storage.proofs.laws.RunStepLaws.{key-windows}
-use Rattle.box_tables.specs.Tables.{Tables, sizeOf, usedOf, slotsOf, entriesIn, aabbOn, lowCell, highCell, covers, itemOn, slotOf}
-use Rattle.box_tables.specs.Holds.{Holds}
+use Rattle.box_tables.specs.Meaning.Tables.{Tables, sizeOf, usedOf, slotsOf, entriesIn, aabbOn, lowCell, highCell, covers, itemOn, slotOf}
+use Rattle.box_tables.specs.Meaning.Holds.{Holds}
 use Rattle.box_tables.proofs.laws.BoxLaws as Box
 use Rattle.box_tables.proofs.laws.HoldsLaws.{Named, named-slot, used-in-pool, entries-sorted, entries-named, low-near, high-near}
-use Rattle.box_queries.specs.Firsts.{firsts}
-use Rattle.box_queries.specs.Queries.{walk, broad}
-use Rattle.box_queries.specs.Gather.{Slots, inside}
+use Rattle.box_queries.specs.Meaning.Firsts.{firsts}
+use Rattle.box_queries.specs.Meaning.Queries.{walk, broad}
+use Rattle.box_queries.specs.Inner.Gather.{Slots, inside}
 use Rattle.box_queries.proofs.laws.StandsLaws.{all-member, member-all, stands-cell}
 
 module _ (t : Tables) (h : Holds t) where

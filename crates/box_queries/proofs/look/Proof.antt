@@ -7,14 +7,14 @@ use lib.Dec.{T}
 use lib.ListN.{length, take}
 use borrow.Author.Needs.{needs}
 use borrow.Author.Tests.{not-true, not-false}
-use Rattle.geometry.specs.Domain.{aabbInDomain}
-use Rattle.cells.specs.Key.{keyOf}
-use Rattle.storage.specs.Keyed.{Sorted}
-use Rattle.storage.specs.Entries.{rowKey}
+use Rattle.geometry.specs.Meaning.Domain.{aabbInDomain}
+use Rattle.cells.specs.Meaning.Key.{keyOf}
+use Rattle.storage.specs.Inner.Keyed.{Sorted}
+use Rattle.storage.specs.Meaning.Entries.{rowKey}
 use Rattle.box_tables.specs.declared.Span.{Span}
-use Rattle.box_tables.specs.Tables.{Tables, tables, sizeOf, covers}
-use Rattle.box_tables.specs.Holds.{Holds}
-use Rattle.box_tables.specs.Decide.{holds, holds-says}
+use Rattle.box_tables.specs.Meaning.Tables.{Tables, tables, sizeOf, covers}
+use Rattle.box_tables.specs.Meaning.Holds.{Holds}
+use Rattle.box_tables.specs.Meaning.Decide.{holds, holds-says}
 use Rattle.box_tables.proofs.laws.HoldsLaws.{entries-sorted}
 use Rattle.box_queries.proofs.laws.WalkLaws.{slots-few}
 use Rattle.box_queries.proofs.laws.LookLaws.{looked-3, looked-6, looked-7, looked-0}

@@ -3,8 +3,8 @@ use Prim.Native.Nat.{min}
 use native.Mathlib.Omega.{arith}
 use mathlib.Core.Path.{_≡_, ap, _∙_}
 use borrow.Author.Needs.{needs}
-use Rattle.box_tables.specs.Tables.{Tables, tables}
-use Rattle.box_queries.specs.Queries.{roomOf}
+use Rattle.box_tables.specs.Meaning.Tables.{Tables, tables}
+use Rattle.box_queries.specs.Meaning.Queries.{roomOf}
 use Rattle.box_queries.proofs.laws.CallLaws.{query-refused, looked-rows, looked-boxes, kept-found, query-short, query-done}
 use Rattle.box_queries.proofs.query.Statement.{statement}
 use Rattle.box_queries.proofs.query.Tie as tie

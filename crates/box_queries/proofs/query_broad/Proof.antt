@@ -2,8 +2,8 @@
 use mathlib.Core.Path.{sym, subst}
 use lib.ListN.{length}
 use borrow.Author.Needs.{needs}
-use Rattle.box_tables.specs.Tables.{Tables, tables}
-use Rattle.box_queries.specs.Put.{Found}
+use Rattle.box_tables.specs.Meaning.Tables.{Tables, tables}
+use Rattle.box_queries.specs.Inner.Put.{Found}
 use Rattle.box_queries.proofs.laws.CallLaws.{broad-refused, looked-found, broad-short, broad-done}
 use Rattle.box_queries.proofs.query_broad.Statement.{statement}
 use Rattle.box_queries.proofs.query_broad.Tie as tie

@@ -5,12 +5,12 @@ use mathlib.Core.Bool.{true}
 use lib.ListN.{length}
 use borrow.Author.Tests.{not-true, not-false}
 use borrow.Author.Needs.{needs}
-use Rattle.slots.specs.Slot.{good}
+use Rattle.slots.specs.Meaning.Slot.{good}
 use Rattle.slots.proofs.laws.HandleLaws.{good-says}
-use Rattle.box_tables.specs.Tables.{Tables, tables, aabbOn, objOn}
-use Rattle.box_tables.specs.Decide.{holds, holds-says}
+use Rattle.box_tables.specs.Meaning.Tables.{Tables, tables, aabbOn, objOn}
+use Rattle.box_tables.specs.Meaning.Decide.{holds, holds-says}
 use Rattle.box_reads.specs.declared.Got.{Got}
-use Rattle.box_reads.specs.Reads.{got}
+use Rattle.box_reads.specs.Meaning.Reads.{got}
 use Rattle.box_reads.proofs.laws.ReadsLaws.{get-3, get-5, get-0}
 use Rattle.box_reads.proofs.get.Statement.{statement}
 use Rattle.box_reads.proofs.get.Tie as tie

@@ -3,12 +3,12 @@ use mathlib.Core.Path.{_≡_, sym, ap, _∙_}
 use native.Mathlib.Omega.{arith}
 use lib.ListN.{length}
 use borrow.Author.Needs.{needs}
-use Rattle.box_tables.specs.Tables.{Tables, tables}
-use Rattle.box_tables.specs.Decide.{holds-says}
+use Rattle.box_tables.specs.Meaning.Tables.{Tables, tables}
+use Rattle.box_tables.specs.Meaning.Decide.{holds-says}
 use Rattle.replies.specs.declared.Count.{Count}
-use Rattle.box_reads.specs.Live.{liveSlots}
+use Rattle.box_reads.specs.Meaning.Live.{liveSlots}
 use Rattle.box_reads.proofs.laws.LiveLaws.{listAnswer, listCount, list-passed, listed, listed-0, listed-no}
-use Rattle.box_reads.specs.Reads.{listing}
+use Rattle.box_reads.specs.Meaning.Reads.{listing}
 use Rattle.box_reads.proofs.laws.ReadsLaws.{handles-refused, handles-0}
 use Rattle.box_reads.proofs.handles.Statement.{statement}
 use Rattle.box_reads.proofs.handles.Tie as tie

@@ -3,14 +3,14 @@ use Prim.Native.Nat.{ℕ, _<_, _≤_}
 use mathlib.Core.Path.{_≡_, _∙_}
 use native.Mathlib.Omega.{arith}
 use lib.ListN.{length, length-map}
-use Rattle.slots.specs.Map.{head}
-use Rattle.slots.specs.Slot.{live, phaseAt, SlotsHold}
-use Rattle.slot_walks.specs.Cleared.{clearedRow, clearedRows, clearedMap}
+use Rattle.slots.specs.Meaning.Map.{head}
+use Rattle.slots.specs.Meaning.Slot.{live, phaseAt, SlotsHold}
+use Rattle.slot_walks.specs.Meaning.Cleared.{clearedRow, clearedRows, clearedMap}
 use Rattle.slot_walks.proofs.laws.ClearedLaws as Slots
 use Rattle.slot_walks.proofs.laws.ClearedLaws.{cleared-map-length, cleared-map-head, cleared-slots}
-use Rattle.box_tables.specs.Tables.{Tables, sizeOf, usedOf, Sized}
-use Rattle.box_tables.specs.Holds.{Holds}
-use Rattle.box_reads.specs.Clear.{cleared}
+use Rattle.box_tables.specs.Meaning.Tables.{Tables, sizeOf, usedOf, Sized}
+use Rattle.box_tables.specs.Meaning.Holds.{Holds}
+use Rattle.box_reads.specs.Meaning.Clear.{cleared}
 use Rattle.box_tables.proofs.laws.HeadLaws.{counted-used, counted-size, counted-length, counted-slots}
 
 module _ (t : Tables) where

@@ -6,17 +6,18 @@ use mathlib.Core.Logic.{⊎-elim}
 use lib.Ieee.{Float}
 use lib.ListN.{length}
 use borrow.Author.Tests.{eq-eqb, ne-eqb}
-use Rattle.basics.specs.Says.{d-eq}
-use Rattle.basics.specs.Counting.{countBelow}
-use Rattle.slots.specs.Slot.{live, phaseAt}
-use Rattle.storage.specs.Keyed.{written}
-use Rattle.slot_walks.specs.Live.{liveAt, objAt}
-use Rattle.box_tables.specs.Tables.{Tables, slotsOf}
-use Rattle.box_tables.specs.Holds.{Holds}
-use Rattle.box_tables.specs.Outcome.{Outcome, outcome}
-use Rattle.box_reads.specs.Live.{liveSlots}
+use Rattle.basics.proofs.laws.Says.{d-eq}
+use Rattle.basics.specs.Inner.Counting.{countBelow}
+use Rattle.slots.specs.Meaning.Slot.{live, phaseAt}
+use Rattle.storage.specs.Meaning.Keyed.{written}
+use Rattle.slot_walks.proofs.laws.Live.{liveAt}
+use Rattle.slot_walks.specs.Meaning.Live.{objAt}
+use Rattle.box_tables.specs.Meaning.Tables.{Tables, slotsOf}
+use Rattle.box_tables.specs.Meaning.Holds.{Holds}
+use Rattle.box_tables.specs.Meaning.Outcome.{Outcome, outcome}
+use Rattle.box_reads.specs.Meaning.Live.{liveSlots}
 use Rattle.box_reads.proofs.laws.LiveLaws.{listAnswer, listCount, answer-of, live-count, list-counts}
-use Rattle.box_reads.specs.Clear.{cleared, boxAt, Written, wrote, clearOf}
+use Rattle.box_reads.specs.Meaning.Clear.{cleared, boxAt, Written, wrote, clearOf}
 use Rattle.box_reads.proofs.laws.ClearKeeps.{cleared-none, cleared-keeps}
 use Rattle.replies.specs.declared.Count.{Count}
 

@@ -7,16 +7,18 @@ use native.Mathlib.Omega.{arith}
 use lib.Dec.{eqb, leb}
 use lib.ListN.{length}
 use borrow.Author.Tests.{leb-true, le-leb, lt-leb}
-use Rattle.basics.specs.Refusals.{unless, firstOf, pick}
-use Rattle.basics.specs.Counting.{countBelow}
-use Rattle.slot_walks.specs.Live.{liveAt, liveFrom}
+use Rattle.basics.specs.Meaning.Refusals.{unless, firstOf, pick}
+use Rattle.basics.specs.Inner.Counting.{countBelow}
+use Rattle.slot_walks.proofs.laws.Live.{liveAt}
+use Rattle.slot_walks.specs.Meaning.Live.{liveFrom}
 use Rattle.slot_walks.proofs.laws.LiveLaws as Live
-use Rattle.box_tables.specs.Tables.{Tables, slotsOf}
-use Rattle.box_tables.specs.Holds.{Holds}
-use Rattle.box_tables.specs.Decide.{holds, holds-says}
+use Rattle.box_tables.specs.Meaning.Tables.{Tables, slotsOf}
+use Rattle.box_tables.specs.Meaning.Holds.{Holds}
+use Rattle.box_tables.specs.Meaning.Decide.{holds, holds-says}
 use Rattle.replies.specs.declared.Count.{Count}
-use Rattle.box_reads.specs.Live.{liveSlots, listTests, countBy}
-use Rattle.replies.specs.Replies.{count}
+use Rattle.box_reads.specs.Meaning.Live.{liveSlots, listTests}
+use Rattle.box_reads.specs.Inner.Live.{countBy}
+use Rattle.replies.specs.Meaning.Replies.{count}
 
 -- what the length law counts
 pub live-count : (t : Tables) → length (liveSlots t) ≡ countBelow (liveAt (t .nums)) (slotsOf t)

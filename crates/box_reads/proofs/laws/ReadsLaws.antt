@@ -5,19 +5,20 @@ use mathlib.Core.Bool.{true, false}
 use mathlib.Core.List.{List}
 use lib.ListN.{length}
 use borrow.Author.Tests.{eq-eqb, ne-eqb}
-use Rattle.basics.specs.Counting.{countBelow}
-use Rattle.geometry.specs.Zero.{zero-aabb}
+use Rattle.basics.specs.Inner.Counting.{countBelow}
+use Rattle.geometry.specs.Meaning.Zero.{zero-aabb}
 use Rattle.slots.specs.declared.Handle.{Handle}
-use Rattle.slots.specs.Slot.{good}
-use Rattle.storage.specs.Keyed.{written}
-use Rattle.slot_walks.specs.Live.{liveAt, handlesIn}
-use Rattle.box_tables.specs.Tables.{Tables, slotsOf, aabbOn, objOn}
-use Rattle.box_tables.specs.Holds.{Holds}
-use Rattle.box_tables.specs.Decide.{holds, holds-says}
-use Rattle.box_reads.specs.Live.{liveSlots}
+use Rattle.slots.specs.Meaning.Slot.{good}
+use Rattle.storage.specs.Meaning.Keyed.{written}
+use Rattle.slot_walks.proofs.laws.Live.{liveAt}
+use Rattle.slot_walks.specs.Meaning.Live.{handlesIn}
+use Rattle.box_tables.specs.Meaning.Tables.{Tables, slotsOf, aabbOn, objOn}
+use Rattle.box_tables.specs.Meaning.Holds.{Holds}
+use Rattle.box_tables.specs.Meaning.Decide.{holds, holds-says}
+use Rattle.box_reads.specs.Meaning.Live.{liveSlots}
 use Rattle.box_reads.proofs.laws.LiveLaws.{listAnswer, listCount, live-count}
-use Rattle.box_reads.specs.Reads.{got, listing, getOf, lenOf, handlesOf}
-use Rattle.replies.specs.Replies.{count}
+use Rattle.box_reads.specs.Meaning.Reads.{got, listing, getOf, lenOf, handlesOf}
+use Rattle.replies.specs.Meaning.Replies.{count}
 
 module _ (t : Tables) (h : Handle) where
   pub get-3 : holds t ≡ false → got 3 zero-aabb 0 ≡ getOf t h

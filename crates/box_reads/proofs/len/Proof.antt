@@ -4,13 +4,13 @@ use mathlib.Core.Bool.{true}
 use native.Mathlib.Omega.{arith}
 use borrow.Author.Needs.{needs}
 use borrow.Author.Tests.{not-true, not-false}
-use Rattle.box_tables.specs.Tables.{Tables, tables}
-use Rattle.box_tables.specs.Decide.{holds, holds-says}
-use Rattle.box_reads.specs.Live.{liveSlots}
+use Rattle.box_tables.specs.Meaning.Tables.{Tables, tables}
+use Rattle.box_tables.specs.Meaning.Decide.{holds, holds-says}
+use Rattle.box_reads.specs.Meaning.Live.{liveSlots}
 use Rattle.box_reads.proofs.laws.ReadsLaws.{len-3, len-0}
 use Rattle.box_reads.proofs.len.Statement.{statement}
 use Rattle.box_reads.proofs.len.Tie as tie
-use Rattle.replies.specs.Replies.{count}
+use Rattle.replies.specs.Meaning.Replies.{count}
 
 abbrev at-entry : tie.Start → Tables
 at-entry s = tables (s .args .nums .now) (s .args .reals .now) (s .args .map .now) (s .args .pool .now)

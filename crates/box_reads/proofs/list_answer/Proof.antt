@@ -4,11 +4,11 @@ use native.Mathlib.Omega.{arith}
 use lib.ListN.{length}
 use borrow.Author.Needs.{needs}
 use borrow.Author.Tests.{not-true, not-false}
-use Rattle.slot_walks.specs.Live.{liveFrom}
+use Rattle.slot_walks.specs.Meaning.Live.{liveFrom}
 use Rattle.box_reads.proofs.laws.LiveLaws.{by-unheld, by-short, by-done}
 use Rattle.box_reads.proofs.list_answer.Statement.{statement}
 use Rattle.box_reads.proofs.list_answer.Tie as tie
-use Rattle.replies.specs.Replies.{count}
+use Rattle.replies.specs.Meaning.Replies.{count}
 
 returns : tie.Need-returns
 returns c =

@@ -2,8 +2,8 @@
 use Prim.Native.Nat.{_-_, _≤_}
 use native.Mathlib.Omega.{arith}
 use borrow.Author.Count.{below-none, below-more}
-use Rattle.basics.specs.Says.{says-yes, says-no}
-use Rattle.box_tables.specs.Check.{Met}
+use Rattle.basics.proofs.laws.Says.{says-yes, says-no}
+use Rattle.box_tables.specs.Inner.Check.{Met}
 use Rattle.box_tables.proofs.all_met.Statement.{statement}
 use Rattle.box_tables.proofs.all_met.Tie as tie
 

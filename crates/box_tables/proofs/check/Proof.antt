@@ -6,9 +6,9 @@ use native.Mathlib.Omega.{arith}
 use lib.ListN.{length}
 use borrow.Author.Needs.{needs}
 use borrow.Author.Tests.{not-true, not-false}
-use Rattle.basics.specs.Says.{says-no, apart}
-use Rattle.box_tables.specs.Tables.{Tables, tables, sizeOf, usedOf, Sized}
-use Rattle.box_tables.specs.Check.{Counts, Passes, Ready}
+use Rattle.basics.proofs.laws.Says.{says-no, apart}
+use Rattle.box_tables.specs.Meaning.Tables.{Tables, tables, sizeOf, usedOf, Sized}
+use Rattle.box_tables.specs.Inner.Check.{Counts, Passes, Ready}
 use Rattle.box_tables.proofs.laws.CheckLaws.{CountsOf, SlotsOf, WaysOf, slot-room, pool-ready, whole, counts-of, slots-of, passes-of}
 use Rattle.box_tables.proofs.Shared.{said-holds, ways-none}
 use Rattle.box_tables.proofs.check.Statement.{statement}

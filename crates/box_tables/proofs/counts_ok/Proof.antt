@@ -1,7 +1,7 @@
 -- `box_tables::counts_ok` meets its contract. Assumes nothing.
 use mathlib.Core.Path.{sym, _∙_}
 use borrow.Author.Tests.{leb-true, le-leb, not-true, not-false}
-use Rattle.basics.specs.Says.{says-no, apart}
+use Rattle.basics.proofs.laws.Says.{says-no, apart}
 use borrow.Author.Needs.{needs}
 use Rattle.box_tables.proofs.counts_ok.Statement.{statement}
 use Rattle.box_tables.proofs.counts_ok.Tie as tie

@@ -7,14 +7,14 @@ use lib.Dec.{T}
 use lib.Signed.{leZ}
 use lib.Ieee.{le}
 use lib.Ieee.Fits.{and-l, and-r}
-use Rattle.basics.specs.Refusals.{pick}
+use Rattle.basics.specs.Meaning.Refusals.{pick}
 use Rattle.geometry.specs.declared.Aabb.{Aabb}
-use Rattle.geometry.specs.Domain.{positionInDomain, aabbInDomain}
-use Rattle.cells.specs.CellRule.{Reached}
-use Rattle.cells.specs.CellRuleLaws.{cell-near, mono}
-use Rattle.cells.specs.ReachLaws.{position-reached}
-use Rattle.cells.specs.Numbers.{Near}
-use Rattle.box_tables.specs.Tables.{lowCell, highCell, itemOf}
+use Rattle.geometry.specs.Meaning.Domain.{positionInDomain, aabbInDomain}
+use Rattle.cells.specs.Inner.CellRule.{Reached}
+use Rattle.cells.proofs.laws.CellRuleLaws.{cell-near, mono}
+use Rattle.cells.proofs.laws.ReachLaws.{position-reached}
+use Rattle.cells.specs.Inner.Numbers.{Near}
+use Rattle.box_tables.specs.Meaning.Tables.{lowCell, highCell, itemOf}
 
 module _ (b : Aabb) (h : T (aabbInDomain b)) where
   pub low-reached : Reached (b .ll)

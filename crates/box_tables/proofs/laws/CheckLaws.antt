@@ -8,18 +8,21 @@ use native.Mathlib.Omega.{arith}
 use lib.Dec.{eqb}
 use lib.ListN.{length, getD}
 use borrow.Author.Tests.{ne-eqb}
-use Rattle.basics.specs.Says.{Decided, d-eq, d-lt, d-and}
-use Rattle.cells.specs.Key.{keyOf}
-use Rattle.cells.specs.Range.{rangeCells}
-use Rattle.slots.specs.Slot.{live, phaseAt}
-use Rattle.storage.specs.Keyed.{filter}
-use Rattle.storage.specs.Entries.{rowKey, rowItem, isItem}
-use Rattle.storage.specs.Packed.{second}
-use Rattle.storage.specs.FilterLaws.{all-map, filter-none}
-use Rattle.box_tables.specs.Tables.{Tables, sizeOf, usedOf, slotsOf, entriesIn, aabbOn, lowCell, highCell, covers, itemOf, itemOn, Sized}
-use Rattle.box_tables.specs.Holds.{Holds}
-use Rattle.box_tables.specs.Way.{itemIn, trackOf, OnTrack, Bounded, spanOf, wayOf, noWay, wayAt}
-use Rattle.box_tables.specs.Check.{Counts, SlotsOk, Room, rowAt, blankRow, Ways, keysOf, Passes, Ready}
+use Rattle.basics.specs.Meaning.Says.{Decided}
+use Rattle.basics.proofs.laws.Says.{d-eq, d-lt, d-and}
+use Rattle.cells.specs.Meaning.Key.{keyOf}
+use Rattle.cells.specs.Meaning.Range.{rangeCells}
+use Rattle.slots.specs.Meaning.Slot.{live, phaseAt}
+use Rattle.storage.specs.Meaning.Keyed.{filter}
+use Rattle.storage.specs.Meaning.Entries.{rowKey, rowItem, isItem}
+use Rattle.storage.specs.Meaning.Packed.{second}
+use Rattle.storage.proofs.laws.FilterLaws.{all-map, filter-none}
+use Rattle.box_tables.specs.Meaning.Tables.{Tables, sizeOf, usedOf, slotsOf, entriesIn, aabbOn, lowCell, highCell, covers, itemOf, itemOn}
+use Rattle.box_tables.specs.Meaning.Tables.{Sized}
+use Rattle.box_tables.specs.Meaning.Holds.{Holds}
+use Rattle.box_tables.specs.Inner.Way.{itemIn, trackOf, OnTrack, spanOf, wayOf, noWay, wayAt}
+use Rattle.box_tables.proofs.laws.Way.{Bounded}
+use Rattle.box_tables.specs.Inner.Check.{Counts, SlotsOk, Room, rowAt, blankRow, Ways, keysOf, Passes, Ready}
 use Rattle.box_tables.proofs.laws.BoxLaws.{item-slot}
 use Rattle.box_tables.proofs.laws.HoldsLaws.{Named, StandsOn, entries-named, unnamed}
 use Rattle.box_tables.proofs.laws.WayLaws.{to-come-one, way-of-box, way-live, way-none, way-slot, slot-bounded}

@@ -11,19 +11,21 @@ use lib.Signed.{mag}
 use lib.Ieee.{le}
 use lib.Ieee.Fits.{and-l, and-r}
 use borrow.Author.Tests.{eq-eqb}
-use Rattle.basics.specs.Limits.{mostCells}
+use Rattle.basics.specs.Meaning.Limits.{mostCells}
 use Rattle.geometry.specs.declared.Aabb.{Aabb}
-use Rattle.geometry.specs.Domain.{inDomain, positionInDomain, aabbInDomain}
+use Rattle.geometry.specs.Meaning.Domain.{inDomain, positionInDomain, aabbInDomain}
 use Rattle.geometry.proofs.laws.DomainLaws.{position-parts}
 use Rattle.cells.specs.declared.Cell.{Cell}
-use Rattle.cells.specs.Numbers.{Near, Fits, near-fits}
-use Rattle.cells.specs.Range.{countFrom, cellsIn}
-use Rattle.cells.specs.Key.{upward, keyOf, columnOf, lineOf}
+use Rattle.cells.specs.Inner.Numbers.{Near}
+use Rattle.cells.proofs.laws.Numbers.{Fits, near-fits}
+use Rattle.cells.specs.Meaning.Range.{countFrom, cellsIn}
+use Rattle.cells.specs.Meaning.Key.{upward, keyOf}
+use Rattle.cells.specs.Inner.Key.{columnOf, lineOf}
 use Rattle.cells.proofs.laws.KeyLaws.{upward-lt, key-column, key-row}
 use Rattle.cells.proofs.laws.RangeKeyLaws.{count-up, near-cells}
-use Rattle.box_tables.specs.Tables.{lowCell, highCell, covers, itemOf}
-use Rattle.box_tables.specs.Way.{spanOf, spanBy, Upright, wayOf}
-use Rattle.box_tables.specs.Check.{Given}
+use Rattle.box_tables.specs.Meaning.Tables.{lowCell, highCell, covers, itemOf}
+use Rattle.box_tables.specs.Inner.Way.{spanOf, spanBy, Upright, wayOf}
+use Rattle.box_tables.specs.Inner.Check.{Given}
 use Rattle.box_tables.proofs.laws.BoxLaws.{low-near, high-near}
 use Rattle.box_tables.proofs.laws.WayLaws.{rises-x, rises-y}
 

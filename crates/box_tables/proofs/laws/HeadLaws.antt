@@ -5,9 +5,9 @@ use mathlib.Core.List.{List}
 use native.Mathlib.Omega.{arith}
 use lib.ListN.{length, getD, length-set}
 use lib.Seq.{getD-set-same, getD-set-other}
-use Rattle.slots.specs.Map.{head, usable}
-use Rattle.slots.specs.Slot.{SlotsHold}
-use Rattle.box_tables.specs.Tables.{counting}
+use Rattle.slots.specs.Meaning.Map.{head, usable}
+use Rattle.slots.specs.Meaning.Slot.{SlotsHold}
+use Rattle.box_tables.specs.Meaning.Tables.{counting}
 
 module _ (m : List ℕ) (used : ℕ) where
   pub counted-used : head ≤ length m → getD (counting m used) 1 0 ≡ used

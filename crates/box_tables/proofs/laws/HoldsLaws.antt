@@ -10,17 +10,20 @@ use lib.ListN.{length}
 use lib.Seq.{length-take-le}
 use mathlib.Core.Logic.{inl, inr}
 use borrow.Author.Tests.{eqb-true, eq-eqb, ne-eqb}
-use Rattle.basics.specs.Says.{Says, says-same, says-via, d-lt}
-use Rattle.cells.specs.Numbers.{Near}
-use Rattle.slots.specs.Slot.{live, phaseAt, SlotsHold}
-use Rattle.storage.specs.Keyed.{All, Sorted, filter}
-use Rattle.storage.specs.Entries.{rowKey, rowItem, isItem}
-use Rattle.storage.specs.Packed.{first}
+use Rattle.basics.specs.Meaning.Says.{Says}
+use Rattle.basics.proofs.laws.Says.{says-same, says-via, d-lt}
+use Rattle.cells.specs.Inner.Numbers.{Near}
+use Rattle.slots.specs.Meaning.Slot.{live, phaseAt, SlotsHold}
+use Rattle.storage.specs.Meaning.Keyed.{All, filter}
+use Rattle.storage.specs.Inner.Keyed.{Sorted}
+use Rattle.storage.specs.Meaning.Entries.{rowKey, rowItem, isItem}
+use Rattle.storage.specs.Meaning.Packed.{first}
 use Rattle.storage.proofs.laws.PackedLaws.{all-first, first-all, ordered-sorted, sorted-ordered}
-use Rattle.storage.specs.FilterLaws.{all-map, filter-none, filter-same}
-use Rattle.coverage.specs.Coverage.{Stands}
-use Rattle.box_tables.specs.Tables.{Tables, sizeOf, usedOf, slotsOf, entriesIn, aabbOn, lowCell, highCell, covers, itemOf, itemOn, slotOf, Sized}
-use Rattle.box_tables.specs.Holds.{Counted, BoxHolds, Holds}
+use Rattle.storage.proofs.laws.FilterLaws.{all-map, filter-none, filter-same}
+use Rattle.coverage.specs.Meaning.Coverage.{Stands}
+use Rattle.box_tables.specs.Meaning.Tables.{Tables, sizeOf, usedOf, slotsOf, entriesIn, aabbOn, lowCell, highCell, covers, itemOf, itemOn}
+use Rattle.box_tables.specs.Meaning.Tables.{slotOf, Sized}
+use Rattle.box_tables.specs.Meaning.Holds.{Counted, BoxHolds, Holds}
 use Rattle.box_tables.proofs.laws.BoxLaws as Box
 use Rattle.box_tables.proofs.laws.BoxLaws.{item-slot, item-same}
 

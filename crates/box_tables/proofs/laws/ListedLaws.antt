@@ -9,29 +9,33 @@ use native.Mathlib.Omega.{arith}
 use lib.Dec.{T, eqb}
 use lib.ListN.{length}
 use borrow.Author.Tests.{eqb-true, ne-eqb}
-use Rattle.basics.specs.Refusals.{pick}
-use Rattle.basics.specs.Says.{Decided, apart, d-lt}
-use Rattle.geometry.specs.Domain.{aabbInDomain}
+use Rattle.basics.specs.Meaning.Refusals.{pick}
+use Rattle.basics.specs.Meaning.Says.{Decided}
+use Rattle.basics.proofs.laws.Says.{apart, d-lt}
+use Rattle.geometry.specs.Meaning.Domain.{aabbInDomain}
 use Rattle.cells.specs.declared.Cell.{Cell}
-use Rattle.cells.specs.Numbers.{Fits, near-fits}
-use Rattle.cells.specs.Range.{rangeCells, inRange}
+use Rattle.cells.proofs.laws.Numbers.{Fits, near-fits}
+use Rattle.cells.specs.Meaning.Range.{rangeCells}
+use Rattle.cells.proofs.laws.Range.{inRange}
 use Rattle.cells.proofs.laws.RangeLaws.{cells-in}
-use Rattle.cells.specs.Key.{keyOf, cellOfKey}
+use Rattle.cells.specs.Meaning.Key.{keyOf}
+use Rattle.cells.specs.Inner.Key.{cellOfKey}
 use Rattle.cells.proofs.laws.KeyLaws.{key-lt, key-cell, cell-key-fits}
 use Rattle.cells.proofs.laws.RangeKeyLaws.{range-rising}
-use Rattle.cells.specs.Rising.{Above, Rising}
-use Rattle.slots.specs.Slot.{live, phaseAt, SlotsHold}
-use Rattle.storage.specs.Keyed.{All, Sorted, filter, under}
-use Rattle.storage.specs.Entries.{rowKey, rowItem, isItem}
-use Rattle.storage.specs.FilterLaws.{by-test, all-map, all-over, filter-all, filter-gives, filter-none, filter-map}
-use Rattle.storage.specs.KeyedLaws.{all-under, sorted-filter, sorted-determined}
+use Rattle.cells.specs.Inner.Rising.{Above, Rising}
+use Rattle.slots.specs.Meaning.Slot.{live, phaseAt, SlotsHold}
+use Rattle.storage.specs.Meaning.Keyed.{All, filter, under}
+use Rattle.storage.specs.Inner.Keyed.{Sorted}
+use Rattle.storage.specs.Meaning.Entries.{rowKey, rowItem, isItem}
+use Rattle.storage.proofs.laws.FilterLaws.{by-test, all-map, all-over, filter-all, filter-gives, filter-none, filter-map}
+use Rattle.storage.proofs.laws.KeyedLaws.{all-under, sorted-filter, sorted-determined}
 use Rattle.storage.proofs.laws.KeepsLaws.{sorted-map}
-use Rattle.storage.specs.TakeOutLaws.{has}
-use Rattle.storage.specs.WindowLaws.{member-has, keyIn, range-fits, window-cell, window-key, key-window}
-use Rattle.coverage.specs.Coverage.{Stands}
+use Rattle.storage.proofs.laws.TakeOutLaws.{has}
+use Rattle.storage.proofs.laws.WindowLaws.{member-has, keyIn, range-fits, window-cell, window-key, key-window}
+use Rattle.coverage.specs.Meaning.Coverage.{Stands}
 use Rattle.coverage.proofs.laws.ListLaws.{filter-swap, filter-empty, has-map, rising-once}
-use Rattle.box_tables.specs.Tables.{Tables, sizeOf, slotsOf, entriesIn, aabbOn, lowCell, highCell, itemOn, slotOf, Sized}
-use Rattle.box_tables.specs.Holds.{Counted, BoxHolds, Holds}
+use Rattle.box_tables.specs.Meaning.Tables.{Tables, sizeOf, slotsOf, entriesIn, aabbOn, lowCell, highCell, itemOn, slotOf, Sized}
+use Rattle.box_tables.specs.Meaning.Holds.{Counted, BoxHolds, Holds}
 use Rattle.box_tables.proofs.laws.BoxLaws.{low-near, high-near}
 use Rattle.box_tables.proofs.laws.HoldsLaws.{Named, StandsOn, of-slot, entries-named, holds-of}
 

@@ -4,7 +4,7 @@ use mathlib.Core.Bool.{Bool, true, false, not, cond, _&&_, Bool·beq}
 use lib.Dec.{T, ltb}
 use lib.Ieee.{Float, nan, inf, fin, Format, binary32, prec, emax, low, odd, units, round, neg, sum, add, sub, mul, isNan}
 use lib.Ieee.Scale.{finite}
-use Rattle.geometry.specs.Domain.{inDomain}
+use Rattle.geometry.specs.Meaning.Domain.{inDomain}
 use Rattle.geometry.proofs.laws.DomainLaws.{domain-finite}
 
 abbrev Number : Float → Type 0

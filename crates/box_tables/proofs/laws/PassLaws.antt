@@ -11,15 +11,16 @@ use lib.ListN.{length, getD, set, take, drop, take-append-drop, length-set, leng
 use lib.Seq.{take-suc, take-take, getD-set-same, getD-set-other}
 use borrow.Author.Count.{below-none, below-more}
 use borrow.Author.Tests.{eq-eqb, ne-eqb}
-use Rattle.basics.specs.Says.{Decided, d-lt, d-eq}
-use Rattle.basics.specs.Refusals.{pick}
-use Rattle.cells.specs.Key.{columnOf}
-use Rattle.storage.specs.Keyed.{filter}
-use Rattle.storage.specs.Entries.{rowKey, isItem}
-use Rattle.storage.specs.Packed.{first, second}
-use Rattle.storage.specs.FilterLaws.{filter-append}
-use Rattle.box_tables.specs.Way.{behind, ToCome, keyMost}
-use Rattle.box_tables.specs.Check.{keysOf, Passes, Ready, Gone, Met}
+use Rattle.basics.specs.Meaning.Says.{Decided}
+use Rattle.basics.proofs.laws.Says.{d-lt, d-eq}
+use Rattle.basics.specs.Meaning.Refusals.{pick}
+use Rattle.cells.specs.Inner.Key.{columnOf}
+use Rattle.storage.specs.Meaning.Keyed.{filter}
+use Rattle.storage.specs.Meaning.Entries.{rowKey, isItem}
+use Rattle.storage.specs.Meaning.Packed.{first, second}
+use Rattle.storage.proofs.laws.FilterLaws.{filter-append}
+use Rattle.box_tables.specs.Inner.Way.{behind, ToCome, keyMost}
+use Rattle.box_tables.specs.Inner.Check.{keysOf, Passes, Ready, Gone, Met}
 
 -- ---- the keys of an item, with one entry more
 module _ (pool : List (List ℕ)) (j i : ℕ) (h : j < length pool) where

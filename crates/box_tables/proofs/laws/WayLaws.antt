@@ -11,21 +11,24 @@ use lib.IntN.{ℤ, pos, negsuc}
 use lib.Signed.{mag, leZ}
 use lib.Ieee.{Float}
 use borrow.Author.Tests.{eq-eqb, ne-eqb}
-use Rattle.basics.specs.Says.{d-eq}
-use Rattle.basics.specs.Refusals.{pick}
+use Rattle.basics.proofs.laws.Says.{d-eq}
+use Rattle.basics.specs.Meaning.Refusals.{pick}
 use Rattle.cells.specs.declared.Cell.{Cell}
-use Rattle.cells.specs.Numbers.{Near, Fits, near-fits}
-use Rattle.cells.specs.Range.{rangeCells}
-use Rattle.cells.specs.Key.{upward, keyOf, columnOf}
+use Rattle.cells.specs.Inner.Numbers.{Near}
+use Rattle.cells.proofs.laws.Numbers.{Fits, near-fits}
+use Rattle.cells.specs.Meaning.Range.{rangeCells}
+use Rattle.cells.specs.Meaning.Key.{upward, keyOf}
+use Rattle.cells.specs.Inner.Key.{columnOf}
 use Rattle.cells.proofs.laws.KeyLaws.{upward-lt, key-column}
 use Rattle.cells.proofs.laws.RangeKeyLaws.{range-keys, count-up, upward-order, near-below}
-use Rattle.cells.specs.Rising.{run, runs}
-use Rattle.slots.specs.Slot.{live, phaseAt}
+use Rattle.cells.proofs.laws.Rising.{run, runs}
+use Rattle.slots.specs.Meaning.Slot.{live, phaseAt}
 use Rattle.geometry.specs.declared.Aabb.{Aabb}
-use Rattle.geometry.specs.Domain.{aabbInDomain}
-use Rattle.box_tables.specs.Tables.{aabbAt, lowCell, highCell, covers}
+use Rattle.geometry.specs.Meaning.Domain.{aabbInDomain}
+use Rattle.box_tables.specs.Meaning.Tables.{aabbAt, lowCell, highCell, covers}
 use Rattle.box_tables.proofs.laws.BoxLaws.{low-near, high-near, corners-x, corners-y, item-slot}
-use Rattle.box_tables.specs.Way.{itemIn, behind, ToCome, trackOf, OnTrack, keyMost, Bounded, spanOf, wayOf, noWay, wayAt}
+use Rattle.box_tables.specs.Inner.Way.{itemIn, behind, ToCome, trackOf, OnTrack, keyMost, spanOf, wayOf, noWay, wayAt}
+use Rattle.box_tables.proofs.laws.Way.{Bounded}
 
 -- ---- a step goes on, so that what is to come is one list
 behind-up : (stop jump k : ℕ) → 1 ≤ jump → k < behind stop jump k

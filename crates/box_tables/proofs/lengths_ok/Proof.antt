@@ -1,7 +1,7 @@
 -- `box_tables::lengths_ok` meets its contract. Assumes nothing.
 use native.Mathlib.Omega.{arith}
 use borrow.Author.Tests.{leb-true, le-leb}
-use Rattle.basics.specs.Says.{says-no}
+use Rattle.basics.proofs.laws.Says.{says-no}
 use borrow.Author.Needs.{needs}
 use Rattle.box_tables.proofs.lengths_ok.Statement.{statement}
 use Rattle.box_tables.proofs.lengths_ok.Tie as tie

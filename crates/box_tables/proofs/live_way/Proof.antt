@@ -5,10 +5,10 @@ use native.Mathlib.Omega.{arith}
 use borrow.Author.Needs.{needs}
 use borrow.Author.Tests.{not-true, not-false}
 use lib.Dec.{T}
-use Rattle.geometry.specs.Domain.{aabbInDomain}
+use Rattle.geometry.specs.Meaning.Domain.{aabbInDomain}
 use Rattle.geometry.specs.declared.Aabb.{Aabb}
-use Rattle.box_tables.specs.Way.{spanOf, wayOf}
-use Rattle.box_tables.specs.Check.{BoxOk, Given}
+use Rattle.box_tables.specs.Inner.Way.{spanOf, wayOf}
+use Rattle.box_tables.specs.Inner.Check.{BoxOk, Given}
 use Rattle.box_tables.proofs.Shared.{given-none, given-some, jump-some, in-domain, box-refused}
 use Rattle.box_tables.proofs.laws.CornerLaws.{low-domain, one-covers, one-way}
 use Rattle.box_tables.proofs.live_way.Statement.{statement}

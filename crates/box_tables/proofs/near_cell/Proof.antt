@@ -3,8 +3,8 @@ use mathlib.Core.Path.{sym, ap, _∙_}
 use lib.IntN.{ℤ}
 use mir.Facts.{toZ-ofZ}
 use borrow.Author.Needs.{needs}
-use Rattle.cells.specs.CellRule.{cellOf}
-use Rattle.cells.specs.ReachLaws.{domain-reached}
+use Rattle.cells.specs.Meaning.CellRule.{cellOf}
+use Rattle.cells.proofs.laws.ReachLaws.{domain-reached}
 use Rattle.cells.proofs.Signs.{size-is, size-some}
 use Rattle.box_tables.proofs.near_cell.Statement.{statement}
 use Rattle.box_tables.proofs.near_cell.Tie as tie

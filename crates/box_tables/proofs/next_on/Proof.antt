@@ -4,8 +4,8 @@ use mathlib.Core.Path.{_≡_, sym, _∙_}
 use native.Mathlib.Omega.{arith}
 use borrow.Author.Needs.{needs}
 use borrow.Author.Tests.{eq-eqb, ne-eqb}
-use Rattle.cells.specs.Key.{columnOf}
-use Rattle.box_tables.specs.Way.{behind}
+use Rattle.cells.specs.Inner.Key.{columnOf}
+use Rattle.box_tables.specs.Inner.Way.{behind}
 use Rattle.box_tables.proofs.next_on.Statement.{statement}
 use Rattle.box_tables.proofs.next_on.Tie as tie
 

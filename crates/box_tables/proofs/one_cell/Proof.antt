@@ -1,8 +1,8 @@
 -- `box_tables::one_cell` meets its contract. Assumes nothing.
 use mathlib.Core.Path.{_∙_}
 use borrow.Author.Tests.{not-false}
-use Rattle.basics.specs.Says.{apart}
-use Rattle.cells.specs.Numbers.{cell-ext}
+use Rattle.basics.proofs.laws.Says.{apart}
+use Rattle.cells.proofs.laws.Numbers.{cell-ext}
 use Rattle.cells.proofs.Signs.{back}
 use Rattle.box_tables.proofs.laws.CornerLaws.{low-domain, high-domain}
 use Rattle.box_tables.proofs.one_cell.Statement.{statement}

@@ -4,8 +4,8 @@ use mathlib.Core.Path.{_≡_, subst}
 use native.Mathlib.Omega.{arith}
 use lib.ListN.{length}
 use borrow.Author.Needs.{needs}
-use Rattle.storage.specs.Packed.{second}
-use Rattle.box_tables.specs.Check.{Gone}
+use Rattle.storage.specs.Meaning.Packed.{second}
+use Rattle.box_tables.specs.Inner.Check.{Gone}
 use Rattle.box_tables.proofs.laws.PassLaws.{Going, going-none, going-more, next-ordered, next-key}
 use Rattle.box_tables.proofs.pass.Statement.{statement}
 use Rattle.box_tables.proofs.pass.Tie as tie

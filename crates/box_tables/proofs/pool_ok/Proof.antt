@@ -1,6 +1,6 @@
 -- `box_tables::pool_ok` meets its contract. Assumes nothing.
 use borrow.Author.Needs.{needs}
-use Rattle.basics.specs.Says.{says-no}
+use Rattle.basics.proofs.laws.Says.{says-no}
 use Rattle.box_tables.proofs.laws.PassLaws.{gone-all, gone-met}
 use Rattle.box_tables.proofs.pool_ok.Statement.{statement}
 use Rattle.box_tables.proofs.pool_ok.Tie as tie

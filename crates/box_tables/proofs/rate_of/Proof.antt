@@ -9,7 +9,7 @@ use mir.Syntax.{w64}
 use mir.Val.{toZ}
 use mir.ValLaws.{toZ-pos}
 use borrow.Author.Needs.{needs}
-use Rattle.geometry.specs.Domain.{inDomain}
+use Rattle.geometry.specs.Meaning.Domain.{inDomain}
 use Rattle.box_tables.proofs.rate_of.Statement.{statement}
 use Rattle.box_tables.proofs.rate_of.Tie as tie
 

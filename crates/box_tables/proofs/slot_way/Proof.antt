@@ -4,12 +4,13 @@ use mathlib.Core.List.{[], _∷_}
 use native.Mathlib.Omega.{arith}
 use borrow.Author.Needs.{needs}
 use borrow.Author.Tests.{not-true, not-false}
-use Rattle.basics.specs.Says.{Says, apart}
-use Rattle.slots.specs.Map.{usable}
-use Rattle.slots.specs.Slot.{versionAt, phaseAt, SlotHolds}
+use Rattle.basics.specs.Meaning.Says.{Says}
+use Rattle.basics.proofs.laws.Says.{apart}
+use Rattle.slots.specs.Meaning.Map.{usable}
+use Rattle.slots.specs.Meaning.Slot.{versionAt, phaseAt, SlotHolds}
 use Rattle.slots.proofs.Shared.{said-slot}
 use Rattle.box_tables.proofs.Shared.{given-none, given-some}
-use Rattle.box_tables.specs.Way.{jumpIn}
+use Rattle.box_tables.specs.Inner.Way.{jumpIn}
 use Rattle.box_tables.proofs.laws.WayLaws.{way-live, way-none}
 use Rattle.box_tables.proofs.slot_way.Statement.{statement}
 use Rattle.box_tables.proofs.slot_way.Tie as tie

@@ -5,9 +5,10 @@ use native.Mathlib.Omega.{arith}
 use lib.ListN.{length, getD}
 use borrow.Author.Count.{below-none, below-more}
 use borrow.Author.Needs.{needs}
-use Rattle.basics.specs.Says.{says-no, apart}
-use Rattle.box_tables.specs.Way.{itemIn, Bounded, wayAt}
-use Rattle.box_tables.specs.Check.{SlotOk, Ways}
+use Rattle.basics.proofs.laws.Says.{says-no, apart}
+use Rattle.box_tables.specs.Inner.Way.{itemIn, wayAt}
+use Rattle.box_tables.proofs.laws.Way.{Bounded}
+use Rattle.box_tables.specs.Inner.Check.{SlotOk, Ways}
 use Rattle.box_tables.proofs.laws.WayLaws.{slot-bounded}
 use Rattle.box_tables.proofs.Shared.{item-of-slot, ways-more}
 use Rattle.box_tables.proofs.slots_ok.Statement.{statement}

@@ -1,7 +1,7 @@
 -- `box_tables::span_of` meets its contract. Assumes nothing.
 use mathlib.Core.Path.{sym, _∙_, subst}
-use Rattle.cells.specs.Numbers.{Near}
-use Rattle.cells.specs.Range.{cellsIn}
+use Rattle.cells.specs.Inner.Numbers.{Near}
+use Rattle.cells.specs.Meaning.Range.{cellsIn}
 use Rattle.box_tables.proofs.laws.BoxLaws.{low-reached, high-reached, low-near, high-near}
 use Rattle.box_tables.proofs.span_of.Statement.{statement}
 use Rattle.box_tables.proofs.span_of.Tie as tie

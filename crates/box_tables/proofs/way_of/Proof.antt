@@ -3,8 +3,8 @@ use Prim.Native.Nat.{_+_, _-_, _*_, _≤_}
 use mathlib.Core.Path.{_≡_, refl}
 use native.Mathlib.Omega.{arith}
 use borrow.Author.Needs.{needs}
-use Rattle.cells.specs.Range.{cellsIn}
-use Rattle.box_tables.specs.Way.{spanBy, wayOf}
+use Rattle.cells.specs.Meaning.Range.{cellsIn}
+use Rattle.box_tables.specs.Inner.Way.{spanBy, wayOf}
 use Rattle.box_tables.proofs.Shared.{given-none, given-some, jump-some}
 use Rattle.box_tables.proofs.laws.CornerLaws as corners
 use Rattle.box_tables.proofs.way_of.Statement.{statement}

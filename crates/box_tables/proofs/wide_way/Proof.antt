@@ -1,8 +1,8 @@
 -- `box_tables::wide_way` meets its contract. Assumes nothing.
 use mathlib.Core.Path.{_∙_}
 use mir.Facts.{toZ-ofZ}
-use Rattle.cells.specs.Numbers.{cell-ext}
-use Rattle.box_tables.specs.Tables.{lowCell, highCell}
+use Rattle.cells.proofs.laws.Numbers.{cell-ext}
+use Rattle.box_tables.specs.Meaning.Tables.{lowCell, highCell}
 use Rattle.box_tables.proofs.laws.CornerLaws.{low-domain, high-domain, corners-upright, upright-by, given-by}
 use Rattle.box_tables.proofs.wide_way.Statement.{statement}
 use Rattle.box_tables.proofs.wide_way.Tie as tie

@@ -2,8 +2,8 @@
 use mathlib.Core.Path.{ap, _∙_}
 use lib.IntN.{ℤ}
 use mir.Facts.{toZ-ofZ}
-use Rattle.cells.specs.CellRule.{cellOf}
-use Rattle.cells.specs.Numbers.{cell-ext}
+use Rattle.cells.specs.Meaning.CellRule.{cellOf}
+use Rattle.cells.proofs.laws.Numbers.{cell-ext}
 use Rattle.cells.proofs.Signs.{size-is, size-some}
 use borrow.Author.Needs.{needs}
 use Rattle.cells.proofs.cell_at.Statement.{statement}

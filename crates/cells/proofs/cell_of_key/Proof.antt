@@ -2,8 +2,8 @@
 use mathlib.Core.Path.{ap, _∙_}
 use mir.Facts.{toZ-ofZ}
 use borrow.Author.Needs.{needs}
-use Rattle.cells.specs.Numbers.{cell-ext}
-use Rattle.cells.specs.Key.{downward, cellOfKey}
+use Rattle.cells.proofs.laws.Numbers.{cell-ext}
+use Rattle.cells.specs.Inner.Key.{downward, cellOfKey}
 use Rattle.cells.proofs.cell_of_key.Statement.{statement}
 use Rattle.cells.proofs.cell_of_key.Tie as tie
 

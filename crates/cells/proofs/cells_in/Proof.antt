@@ -7,8 +7,8 @@ use lib.Signed.{mag}
 use mir.Syntax.{w32}
 use mir.Val.{toZ, ofZ}
 use borrow.Author.Needs.{needs}
-use Rattle.cells.specs.Numbers.{near-fits}
-use Rattle.cells.specs.Range.{countFrom, cellsIn}
+use Rattle.cells.proofs.laws.Numbers.{near-fits}
+use Rattle.cells.specs.Meaning.Range.{countFrom, cellsIn}
 use Rattle.cells.proofs.laws.RangeKeyLaws.{near-cells}
 use Rattle.cells.proofs.Signs.{back}
 use Rattle.cells.proofs.cells_in.Statement.{statement}

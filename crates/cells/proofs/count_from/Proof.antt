@@ -3,7 +3,7 @@ use mathlib.Core.Path.{_≡_, sym, ap, _∙_}
 use native.Mathlib.Omega.{arith}
 use borrow.Author.Needs.{needs}
 use mir.Facts.{toZ-ofZ}
-use Rattle.cells.specs.Key.{upward}
+use Rattle.cells.specs.Meaning.Key.{upward}
 use Rattle.cells.proofs.laws.KeyLaws.{upward-lt}
 use Rattle.cells.proofs.laws.RangeKeyLaws.{count-up, count-none}
 use Rattle.cells.proofs.count_from.Statement.{statement}

@@ -4,7 +4,7 @@ use mathlib.Core.Path.{sym, subst}
 use native.Mathlib.Nat.{mod-lt}
 use lib.Pow.{pow-pos}
 use borrow.Author.Needs.{needs}
-use Rattle.cells.specs.Cut.{cutBits}
+use Rattle.cells.specs.Inner.Cut.{cutBits}
 use Rattle.cells.proofs.Fields.{cut-low, cut-high, cut-down, cut-up, scaled-fits}
 use Rattle.cells.proofs.cut.Statement.{statement}
 use Rattle.cells.proofs.cut.Tie as tie

@@ -4,8 +4,8 @@ use native.Mathlib.Omega.{arith}
 use lib.Ieee.{Float}
 use lib.Dec.{lit≤}
 use borrow.Author.Needs.{needs}
-use Rattle.cells.specs.Patterns.{number-pattern}
-use Rattle.cells.specs.Span.{FirstFrom}
+use Rattle.cells.proofs.laws.Patterns.{number-pattern}
+use Rattle.cells.specs.Inner.Span.{FirstFrom}
 use Rattle.cells.proofs.laws.SpanLaws.{first-zero, first-whole}
 use Rattle.cells.proofs.first_from.Statement.{statement}
 use Rattle.cells.proofs.first_from.Tie as tie

@@ -1,5 +1,5 @@
 -- `cells::in_span` meets its contract. Assumes nothing.
-use Rattle.basics.specs.Says.{also}
+use Rattle.basics.proofs.laws.Says.{also}
 use Rattle.cells.proofs.in_span.Statement.{statement}
 use Rattle.cells.proofs.in_span.Tie as tie
 

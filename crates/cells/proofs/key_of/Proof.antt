@@ -3,7 +3,7 @@ use Prim.Native.Nat.{ℕ, _<_}
 use mathlib.Core.Path.{_≡_, ap, _∙_, sym, subst}
 use native.Mathlib.Omega.{arith}
 use borrow.Author.Needs.{needs}
-use Rattle.cells.specs.Key.{upward, keyOf}
+use Rattle.cells.specs.Meaning.Key.{upward, keyOf}
 use Rattle.cells.proofs.laws.KeyLaws.{upward-lt}
 use Rattle.cells.proofs.Signs.{back}
 use Rattle.cells.proofs.key_of.Statement.{statement}

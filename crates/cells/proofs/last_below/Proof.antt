@@ -6,9 +6,9 @@ use mathlib.Core.Bool.{not}
 use lib.Dec.{T}
 use lib.Ieee.{Float, binary32, toBits, ofBits, isNan}
 use borrow.Author.Needs.{needs}
-use Rattle.cells.specs.Span.{LastBelow}
+use Rattle.cells.specs.Inner.Span.{LastBelow}
 use Rattle.cells.proofs.laws.SpanLaws.{last-far, last-near, whole-pattern, whole-number}
-use Rattle.cells.specs.Patterns.{number-pattern}
+use Rattle.cells.proofs.laws.Patterns.{number-pattern}
 use Rattle.cells.proofs.last_below.Statement.{statement}
 use Rattle.cells.proofs.last_below.Tie as tie
 

@@ -5,7 +5,7 @@ use Prim.Native.Nat.{ℕ}
 use lib.IntN.{ℤ, pos, negsuc}
 use lib.Signed.{leZ}
 use lib.Ieee.{binary32, ofBits}
-use Rattle.cells.specs.CellRule.{cellOf}
+use Rattle.cells.specs.Meaning.CellRule.{cellOf}
 
 pub record Row : Type 0 where
   pub size : ℕ

@@ -7,16 +7,16 @@ use lib.Dec.{T}
 use lib.IntN.{pos}
 use lib.Signed.{leZ}
 use lib.Ieee.{Float, le}
-use Rattle.basics.specs.Says.{says-t, and-true}
+use Rattle.basics.proofs.laws.Says.{says-t, and-true}
 use Rattle.geometry.specs.declared.Position.{Position}
-use Rattle.geometry.specs.Domain.{positionInDomain, radiusInDomain}
-use Rattle.geometry.specs.Circle.{inCircle, cornerBelow, cornerAbove}
+use Rattle.geometry.specs.Meaning.Domain.{positionInDomain, radiusInDomain}
+use Rattle.geometry.specs.Meaning.Circle.{inCircle, cornerBelow, cornerAbove}
 use Rattle.geometry.proofs.laws.CircleLaws.{found-in-range}
-use Rattle.geometry.specs.Rectangle.{lowerCorner, upperCorner, inRectangle}
+use Rattle.geometry.specs.Meaning.Rectangle.{lowerCorner, upperCorner, inRectangle}
 use Rattle.geometry.proofs.laws.RectangleLaws.{rectangle-between}
-use Rattle.cells.specs.CellRule.{cellOf, cellAt}
-use Rattle.cells.specs.CellRuleLaws.{mono}
-use Rattle.cells.specs.Range.{inRange}
+use Rattle.cells.specs.Meaning.CellRule.{cellOf, cellAt}
+use Rattle.cells.proofs.laws.CellRuleLaws.{mono}
+use Rattle.cells.proofs.laws.Range.{inRange}
 
 module _ (size : ℕ) (some : 1 ≤ size) where
   axis : (lo x hi : Float) → T (le lo x) → T (le x hi) → (leZ (cellOf (pos size) lo) (cellOf (pos size) x) && leZ (cellOf (pos size) x) (cellOf (pos size) hi)) ≡ true

@@ -8,8 +8,9 @@ use lib.IntN.{ℤ, pos, negsuc}
 use lib.Signed.{mag}
 use borrow.Author.Tests.{ltb-true, ltb-false}
 use Rattle.cells.specs.declared.Cell.{Cell}
-use Rattle.cells.specs.Numbers.{cell-ext, Fits}
-use Rattle.cells.specs.Key.{upward, downward, keyOf, columnOf, lineOf, cellOfKey}
+use Rattle.cells.proofs.laws.Numbers.{cell-ext, Fits}
+use Rattle.cells.specs.Meaning.Key.{upward, keyOf}
+use Rattle.cells.specs.Inner.Key.{downward, columnOf, lineOf, cellOfKey}
 
 -- ---- one number
 pub upward-lt : (z : ℤ) → mag z < 2147483648 → upward z < 4294967296

@@ -11,14 +11,19 @@ use lib.Dec.{ltb, leb}
 use lib.IntN.{ℤ, pos, negsuc, _+ℤ_, +ℤ-idr}
 use lib.Signed.{mag, leZ}
 use borrow.Author.Tests.{ltb-true, ltb-false, leb-true, le-leb, lt-leb}
-use Rattle.basics.specs.Says.{Says, says-same, says-via, d-le}
+use Rattle.basics.specs.Meaning.Says.{Says}
+use Rattle.basics.proofs.laws.Says.{says-same, says-via, d-le}
 use Rattle.cells.specs.declared.Cell.{Cell}
-use Rattle.cells.specs.Numbers.{Fits, Near}
-use Rattle.cells.specs.Range.{countFrom, cellsIn, row, rows, rangeCells, inRange}
-use Rattle.cells.specs.Key.{upward, keyOf, columnOf, lineOf}
+use Rattle.cells.proofs.laws.Numbers.{Fits}
+use Rattle.cells.specs.Inner.Numbers.{Near}
+use Rattle.cells.specs.Meaning.Range.{countFrom, cellsIn, row, rows, rangeCells}
+use Rattle.cells.proofs.laws.Range.{inRange}
+use Rattle.cells.specs.Meaning.Key.{upward, keyOf}
+use Rattle.cells.specs.Inner.Key.{columnOf, lineOf}
 use Rattle.cells.proofs.laws.KeyLaws.{upward-lt, key-column, key-row}
 use Rattle.cells.proofs.laws.StepLaws.{Compared, compare, add-steps, count-step, count-past}
-use Rattle.cells.specs.Rising.{Rising, run, runs, runs-rising}
+use Rattle.cells.specs.Inner.Rising.{Rising}
+use Rattle.cells.proofs.laws.Rising.{run, runs, runs-rising}
 
 pub upward-step : (z : ℤ) (i : ℕ) → mag z < 2147483648 → upward (z +ℤ pos i) ≡ upward z + i
 upward-step (pos n) i h = omega arith

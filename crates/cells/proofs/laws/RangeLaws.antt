@@ -9,10 +9,11 @@ use native.Mathlib.Nat.{mul-zero, mul-suc}
 use lib.IntN.{ℤ, pos, _+ℤ_, +ℤ-idr}
 use lib.ListN.{length, length-append}
 use lib.Signed.{leZ}
-use Rattle.basics.specs.Says.{both-true, and-true}
+use Rattle.basics.proofs.laws.Says.{both-true, and-true}
 use Rattle.cells.specs.declared.Cell.{Cell}
-use Rattle.cells.specs.Numbers.{cell-ext}
-use Rattle.cells.specs.Range.{countFrom, cellsIn, row, rows, rangeCells, inRange}
+use Rattle.cells.proofs.laws.Numbers.{cell-ext}
+use Rattle.cells.specs.Meaning.Range.{countFrom, cellsIn, row, rows, rangeCells}
+use Rattle.cells.proofs.laws.Range.{inRange}
 use Rattle.cells.proofs.laws.StepLaws.{add-steps, step-of, of-step, reversed}
 
 -- ---- how many

@@ -12,21 +12,25 @@ use lib.Signed.{mag}
 use lib.Ieee.{Float, nan, inf, fin, binary32, low, ofInt, ofBits, toBits, neg, lt, eq, le, fits, isNan}
 use lib.Ieee.Fits.{and-i, and-l, and-r, ofInt-fits}
 use lib.Ieee.Scale.{finite, overflow}
-use Rattle.basics.specs.Says.{Says, says-via}
-use Rattle.geometry.specs.Domain.{within, inDomain}
+use Rattle.basics.specs.Meaning.Says.{Says}
+use Rattle.basics.proofs.laws.Says.{says-via}
+use Rattle.geometry.specs.Meaning.Domain.{within, inDomain}
 use Rattle.geometry.proofs.laws.DomainLaws.{domain-fits, domain-within, domain-finite}
-use Rattle.geometry.specs.Value.{Num, le-num, either}
+use Rattle.geometry.specs.Inner.Value.{Num}
+use Rattle.geometry.proofs.laws.Value.{le-num, either}
 use Rattle.geometry.proofs.laws.Rounding.{number}
 use Rattle.geometry.proofs.laws.Sums.{neg-num}
 use Rattle.geometry.proofs.laws.Back.{num-le}
 use Rattle.geometry.proofs.laws.WithinLaws.{at, bounds, bounded, power}
-use Rattle.cells.specs.CellRule.{cellOf}
-use Rattle.cells.specs.Size.{SizeInDomain}
-use Rattle.cells.specs.ReachLaws.{domain-reached}
-use Rattle.cells.specs.EdgeLaws.{says-both, in-over, in-under, over-in, under-in}
-use Rattle.cells.specs.EdgeRule.{unit, whole-num, near-num, nought-num, room, none-past}
-use Rattle.cells.specs.Patterns.{Held, both-held, numberAt, under, own-pattern, under-num, under-least, under-less, pattern-num}
-use Rattle.cells.specs.Span.{Spans, LastBelow, FirstFrom}
+use Rattle.cells.specs.Meaning.CellRule.{cellOf}
+use Rattle.cells.specs.Meaning.Size.{SizeInDomain}
+use Rattle.cells.proofs.laws.ReachLaws.{domain-reached}
+use Rattle.cells.proofs.laws.EdgeLaws.{says-both, in-over, in-under, over-in, under-in}
+use Rattle.cells.specs.Inner.EdgeRule.{unit}
+use Rattle.cells.proofs.laws.EdgeRule.{whole-num, near-num, nought-num, room, none-past}
+use Rattle.cells.specs.Inner.Patterns.{Held, numberAt}
+use Rattle.cells.proofs.laws.Patterns.{both-held, under, own-pattern, under-num, under-least, under-less, pattern-num}
+use Rattle.cells.specs.Inner.Span.{Spans, LastBelow, FirstFrom}
 
 U : 0 < unit
 U = pow-pos (low binary32)

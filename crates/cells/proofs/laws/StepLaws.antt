@@ -9,8 +9,8 @@ use lib.Dec.{ltb}
 use lib.IntN.{ℤ, pos, negsuc, negℤ, _+ℤ_, _-ℤ_, +ℤ-comm, +ℤ-assoc, +ℤ-idl, +ℤ-invr, +ℤ-negℤ-cancel, -ℤ-+ℤ-cancel, negℤ-+ℤ, negℤ-negℤ}
 use lib.Signed.{leZ}
 use borrow.Author.Tests.{ltb-true, le-leb, lt-leb}
-use Rattle.basics.specs.Says.{apart}
-use Rattle.cells.specs.Range.{counted, countFrom}
+use Rattle.basics.proofs.laws.Says.{apart}
+use Rattle.cells.specs.Meaning.Range.{counted, countFrom}
 
 abbrev pub Compared : ℤ → ℤ → Type 0
 Compared a b = ((k : ℕ) × (b ≡ a +ℤ pos k)) ⊎ ((k : ℕ) × (a ≡ b +ℤ pos (suc k)))

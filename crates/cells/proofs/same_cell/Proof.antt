@@ -3,8 +3,8 @@ use mathlib.Core.Path.{sym, _∙_, ap}
 use mir.Syntax.{w32}
 use mir.Val.{toZ, ofZ}
 use Rattle.cells.specs.declared.Cell.{Cell}
-use Rattle.basics.specs.Says.{apart, says-no}
-use Rattle.cells.specs.Numbers.{cell-ext}
+use Rattle.basics.proofs.laws.Says.{apart, says-no}
+use Rattle.cells.proofs.laws.Numbers.{cell-ext}
 use Rattle.cells.proofs.Signs.{back}
 use Rattle.cells.proofs.same_cell.Statement.{statement}
 use Rattle.cells.proofs.same_cell.Tie as tie

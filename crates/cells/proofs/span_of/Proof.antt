@@ -6,7 +6,7 @@ use lib.IntN.{ℤ, pos, negsuc}
 use lib.Signed.{mag}
 use lib.Ieee.{Float, neg, ofInt, binary32}
 use borrow.Author.Needs.{needs}
-use Rattle.cells.specs.Span.{Spans, LastBelow, FirstFrom}
+use Rattle.cells.specs.Inner.Span.{Spans, LastBelow, FirstFrom}
 use Rattle.cells.proofs.laws.SpanLaws.{no-span, over-span, under-span}
 use Rattle.cells.proofs.Signs.{is-under, is-over}
 use Rattle.cells.proofs.Edges.{near-is, near-fits, read-sign}

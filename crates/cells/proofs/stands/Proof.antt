@@ -5,8 +5,8 @@ use lib.IntN.{pos}
 use lib.Signed.{mag}
 use lib.Ieee.{binary32, ofInt}
 use borrow.Author.Needs.{needs}
-use Rattle.basics.specs.Says.{says-no}
-use Rattle.cells.specs.EdgeRule.{none-past}
+use Rattle.basics.proofs.laws.Says.{says-no}
+use Rattle.cells.proofs.laws.EdgeRule.{none-past}
 use Rattle.cells.proofs.Edges.{near-is, near-fits, read-sign, over-edges, under-edges}
 use Rattle.cells.proofs.stands.Statement.{statement}
 use Rattle.cells.proofs.stands.Tie as tie

@@ -7,19 +7,21 @@ use native.Mathlib.Omega.{arith}
 use lib.ListN.{length, length-map}
 use borrow.Author.Tests.{eq-eqb, ne-eqb}
 use Rattle.cells.specs.declared.Cell.{Cell}
-use Rattle.cells.specs.Key.{keyOf}
-use Rattle.cells.specs.Numbers.{Near, near-fits}
-use Rattle.cells.specs.Range.{cellsIn, rangeCells}
+use Rattle.cells.specs.Meaning.Key.{keyOf}
+use Rattle.cells.specs.Inner.Numbers.{Near}
+use Rattle.cells.proofs.laws.Numbers.{near-fits}
+use Rattle.cells.specs.Meaning.Range.{cellsIn, rangeCells}
 use Rattle.cells.proofs.laws.RangeLaws.{range-length}
 use Rattle.cells.proofs.laws.RangeKeyLaws.{range-rising}
-use Rattle.cells.specs.Rising.{Above, Rising}
-use Rattle.storage.specs.Keyed.{All, filter, Sorted, appendAll}
-use Rattle.storage.specs.Entries.{rowKey, isItem}
-use Rattle.storage.specs.FilterLaws.{all-any, all-over, filter-whole, filter-none}
-use Rattle.storage.specs.AppendLaws.{sorted-appendAll, length-appendAll, all-appendAll}
+use Rattle.cells.specs.Inner.Rising.{Above, Rising}
+use Rattle.storage.specs.Meaning.Keyed.{All, filter, appendAll}
+use Rattle.storage.specs.Inner.Keyed.{Sorted}
+use Rattle.storage.specs.Meaning.Entries.{rowKey, isItem}
+use Rattle.storage.proofs.laws.FilterLaws.{all-any, all-over, filter-whole, filter-none}
+use Rattle.storage.proofs.laws.AppendLaws.{sorted-appendAll, length-appendAll, all-appendAll}
 use Rattle.storage.proofs.laws.MergeLaws.{appendAll-sort, sort-sorted}
-use Rattle.coverage.specs.Coverage.{rowIn, entered, Stands}
-use Rattle.coverage.specs.Walk.{rowAt}
+use Rattle.coverage.specs.Meaning.Coverage.{rowIn, entered, Stands}
+use Rattle.coverage.specs.Inner.Walk.{rowAt}
 use Rattle.coverage.proofs.laws.ListLaws.{filter-appendAll}
 
 -- ---- the rows of an item in the lists of some cells

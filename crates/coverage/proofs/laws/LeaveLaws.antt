@@ -8,22 +8,24 @@ use native.Mathlib.Omega.{arith}
 use lib.Dec.{eqb}
 use lib.ListN.{length, length-map, getD}
 use borrow.Author.Tests.{eq-eqb, eqb-true, ne-eqb}
-use Rattle.basics.specs.Refusals.{pick}
+use Rattle.basics.specs.Meaning.Refusals.{pick}
 use Rattle.cells.specs.declared.Cell.{Cell}
-use Rattle.cells.specs.Key.{keyOf}
-use Rattle.cells.specs.Numbers.{Near, near-fits}
-use Rattle.cells.specs.Range.{cellsIn, rangeCells}
+use Rattle.cells.specs.Meaning.Key.{keyOf}
+use Rattle.cells.specs.Inner.Numbers.{Near}
+use Rattle.cells.proofs.laws.Numbers.{near-fits}
+use Rattle.cells.specs.Meaning.Range.{cellsIn, rangeCells}
 use Rattle.cells.proofs.laws.RangeLaws.{range-length}
 use Rattle.cells.proofs.laws.RangeKeyLaws.{range-rising}
-use Rattle.cells.specs.Rising.{Rising}
-use Rattle.storage.specs.Keyed.{All, filter, Sorted, under, onList, takeOut}
-use Rattle.storage.specs.Entries.{rowKey, isItem}
-use Rattle.storage.specs.FilterLaws.{by-test, all-over, all-of, filter-all, filter-map}
-use Rattle.storage.specs.KeyedLaws.{all-under, sorted-filter, sorted-determined}
+use Rattle.cells.specs.Inner.Rising.{Rising}
+use Rattle.storage.specs.Meaning.Keyed.{All, filter, under, onList, takeOut}
+use Rattle.storage.specs.Inner.Keyed.{Sorted}
+use Rattle.storage.specs.Meaning.Entries.{rowKey, isItem}
+use Rattle.storage.proofs.laws.FilterLaws.{by-test, all-over, all-of, filter-all, filter-map}
+use Rattle.storage.proofs.laws.KeyedLaws.{all-under, sorted-filter, sorted-determined}
 use Rattle.storage.proofs.laws.KeepsLaws.{sorted-map}
-use Rattle.storage.specs.TakeOutLaws.{has, has-at, all-takeOut, takeOut-none}
-use Rattle.coverage.specs.Coverage.{leftFrom, left, Stands}
-use Rattle.coverage.specs.Taken.{takenFrom}
+use Rattle.storage.proofs.laws.TakeOutLaws.{has, has-at, all-takeOut, takeOut-none}
+use Rattle.coverage.specs.Meaning.Coverage.{leftFrom, left, Stands}
+use Rattle.coverage.specs.Inner.Taken.{takenFrom}
 use Rattle.coverage.proofs.laws.TakenLaws.{taken-all, taken-sorted, taken-under, taken-length}
 use Rattle.coverage.proofs.laws.ListLaws.{filter-swap, has-filter, has-map, filter-taken, length-filter-taken, alike, rising-once}
 

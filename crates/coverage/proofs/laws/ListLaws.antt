@@ -8,13 +8,14 @@ use native.Mathlib.Nat.{not-suc-le-zero, le-of-suc-le-suc, suc-inj}
 use lib.Dec.{eqb}
 use lib.ListN.{length, getD, length-append}
 use borrow.Author.Tests.{ne-eqb, eqb-true}
-use Rattle.basics.specs.Refusals.{pick}
-use Rattle.cells.specs.Rising.{Above, Rising}
-use Rattle.storage.specs.Keyed.{All, filter, Sorted, under, appendAll, last, front, close, takeOut}
-use Rattle.storage.specs.FilterLaws.{by-test, all-append, all-front, all-back, filter-append, filter-none}
-use Rattle.storage.specs.KeyedLaws.{sorted-filter, sorted-determined}
-use Rattle.storage.specs.AppendLaws.{sorted-appendAll, under-appendAll}
-use Rattle.storage.specs.TakeOutLaws.{has, front-last, all-close}
+use Rattle.basics.specs.Meaning.Refusals.{pick}
+use Rattle.cells.specs.Inner.Rising.{Above, Rising}
+use Rattle.storage.specs.Meaning.Keyed.{All, filter, under, appendAll, last, front, close, takeOut}
+use Rattle.storage.specs.Inner.Keyed.{Sorted}
+use Rattle.storage.proofs.laws.FilterLaws.{by-test, all-append, all-front, all-back, filter-append, filter-none}
+use Rattle.storage.proofs.laws.KeyedLaws.{sorted-filter, sorted-determined}
+use Rattle.storage.proofs.laws.AppendLaws.{sorted-appendAll, under-appendAll}
+use Rattle.storage.proofs.laws.TakeOutLaws.{has, front-last, all-close}
 
 -- ---- two tests
 module _ {A : Type 0} (p q : A → Bool) where

@@ -7,14 +7,16 @@ use native.Mathlib.Omega.{arith}
 use lib.Dec.{ltb, eqb}
 use lib.ListN.{length}
 use borrow.Author.Tests.{eqb-true, eqb-false}
-use Rattle.basics.specs.Refusals.{pick}
-use Rattle.cells.specs.Rising.{Rising}
-use Rattle.storage.specs.Keyed.{All, Sorted, under, below, above, onList, close, takeOut}
-use Rattle.storage.specs.Entries.{rowKey, isItem}
-use Rattle.storage.specs.FilterLaws.{by-test, all-map, all-both, all-append, filter-all, filter-append}
-use Rattle.storage.specs.KeyedLaws.{none-under, whole-under, sorted-flat, sorted-join, sorted-determined}
-use Rattle.storage.specs.TakeOutLaws.{has, has-none, all-close, all-takeOut, sorted-takeOut, under-takeOut, under-takeOut-other, length-onList-takeOut}
-use Rattle.coverage.specs.Taken.{takenFrom}
+use Rattle.basics.specs.Meaning.Refusals.{pick}
+use Rattle.cells.specs.Inner.Rising.{Rising}
+use Rattle.storage.specs.Meaning.Keyed.{All, under, below, above, onList, close, takeOut}
+use Rattle.storage.specs.Inner.Keyed.{Sorted}
+use Rattle.storage.specs.Meaning.Entries.{rowKey, isItem}
+use Rattle.storage.proofs.laws.FilterLaws.{by-test, all-map, all-both, all-append, filter-all, filter-append}
+use Rattle.storage.proofs.laws.KeyedLaws.{none-under, whole-under, sorted-flat, sorted-join, sorted-determined}
+use Rattle.storage.proofs.laws.TakeOutLaws.{has, has-none, all-close, all-takeOut, sorted-takeOut, under-takeOut, under-takeOut-other}
+use Rattle.storage.proofs.laws.TakeOutLaws.{length-onList-takeOut}
+use Rattle.coverage.specs.Inner.Taken.{takenFrom}
 use Rattle.coverage.proofs.laws.ListLaws.{takeOut-past, sorted-back, sorted-front-of, rising-out}
 
 -- whether a key is one of some

@@ -5,9 +5,9 @@ use mathlib.Core.List.{List, [], _∷_}
 use native.Mathlib.Omega.{arith}
 use lib.ListN.{length}
 use borrow.Author.Needs.{needs}
-use Rattle.decimals.specs.Text.{decimal}
+use Rattle.decimals.specs.Meaning.Text.{decimal}
 use Rattle.decimals.proofs.laws.TextLaws.{one-digit, last-digit, longer}
-use Rattle.decimals.specs.Written.{written, put}
+use Rattle.decimals.specs.Meaning.Written.{written, put}
 use Rattle.decimals.proofs.laws.WrittenLaws.{next-is, length-is, put-put}
 use borrow.Fn.Kinds.{In}
 use borrow.Fn.PlainCycle.{Measures, is, falls, and}

@@ -9,14 +9,15 @@ use lib.Dec.{eqb}
 use lib.IntN.{ℤ, pos, negsuc, natAbs}
 use lib.ListN.{getD}
 use borrow.Author.Tests.{eqb-true, ne-eqb}
-use Rattle.basics.specs.Refusals.{pick}
-use Rattle.basics.specs.Says.{d-lt}
+use Rattle.basics.specs.Meaning.Refusals.{pick}
+use Rattle.basics.proofs.laws.Says.{d-lt}
 use Rattle.decimals.specs.declared.Number.{Number}
 use Rattle.decimals.specs.declared.Number.the-variants.{Read, Unreadable}
 use Rattle.decimals.specs.declared.Count.the-variants.{Counted, NoCount}
-use Rattle.decimals.specs.Text.{decimal, signedText}
+use Rattle.decimals.specs.Meaning.Text.{decimal, signedText}
 use Rattle.decimals.proofs.laws.TextLaws.{one-digit, no-leading-zero}
-use Rattle.decimals.specs.Fields.{upTo, farthest, Short, plain, negative, countOf}
+use Rattle.decimals.specs.Meaning.Fields.{upTo, farthest, plain, negative, countOf}
+use Rattle.decimals.specs.Inner.Fields.{Short}
 use Rattle.decimals.proofs.laws.FieldLaws.{up-to-text, up-to-read}
 
 pub uncounted : {k : ℤ} → NoCount ≡ Counted k → ⊥

@@ -8,12 +8,12 @@ use native.Mathlib.Omega.{arith}
 use lib.Dec.{leb, eqb}
 use lib.ListN.{getD}
 use borrow.Author.Tests.{leb-true, eqb-false, le-leb, lt-leb, ne-eqb}
-use Rattle.basics.specs.Refusals.{pick}
-use Rattle.basics.specs.Says.{d-lt}
+use Rattle.basics.specs.Meaning.Refusals.{pick}
+use Rattle.basics.proofs.laws.Says.{d-lt}
 use Rattle.decimals.specs.declared.Number.the-variants.{Read, Unreadable}
-use Rattle.decimals.specs.Text.{decimal}
+use Rattle.decimals.specs.Meaning.Text.{decimal}
 use Rattle.decimals.proofs.laws.TextLaws.{one-digit, last-digit, next-digit, by-digits, no-leading-zero}
-use Rattle.decimals.specs.Fields.{more, digitsFrom, upTo, largest, numberOf}
+use Rattle.decimals.specs.Meaning.Fields.{more, digitsFrom, upTo, largest, numberOf}
 
 -- ---- one byte more
 module _ (most v c : ℕ) (l : List ℕ) where

@@ -4,8 +4,8 @@ use mathlib.Core.List.{[], _∷_}
 use lib.IntN.{pos, negsuc}
 use Rattle.decimals.specs.declared.Number.the-variants.{Read, Unreadable}
 use Rattle.decimals.specs.declared.Count.the-variants.{Counted, NoCount}
-use Rattle.decimals.specs.Text.{decimal, signedText}
-use Rattle.decimals.specs.Fields.{numberOf, countOf}
+use Rattle.decimals.specs.Meaning.Text.{decimal, signedText}
+use Rattle.decimals.specs.Meaning.Fields.{numberOf, countOf}
 
 zero-text : decimal 0 ≡ 48 ∷ []
 unfolding decimal

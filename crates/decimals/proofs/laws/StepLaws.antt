@@ -9,7 +9,7 @@ use lib.Seq.{slice, slice-empty, slice-cons}
 use borrow.Author.Tests.{ne-eqb, eq-eqb}
 use Rattle.decimals.specs.declared.Number.the-variants.{Read, Unreadable}
 use Rattle.decimals.specs.declared.Count.the-variants.{NoCount}
-use Rattle.decimals.specs.Fields.{more, digitsFrom, upTo, farthest, plain, negative, countOf}
+use Rattle.decimals.specs.Meaning.Fields.{more, digitsFrom, upTo, farthest, plain, negative, countOf}
 use Rattle.decimals.proofs.laws.FieldLaws.{takes, refuses-low, refuses-high, refuses-large}
 
 -- nothing is left

@@ -6,8 +6,8 @@ use mathlib.Core.Logic.{⊎-elim}
 use native.Mathlib.Nat.{pow-suc}
 use native.Mathlib.Omega.{arith}
 use lib.ListN.{length, length-append, getD}
-use Rattle.basics.specs.Says.{d-lt}
-use Rattle.decimals.specs.Text.{leading, decimal}
+use Rattle.basics.proofs.laws.Says.{d-lt}
+use Rattle.decimals.specs.Meaning.Text.{leading, decimal}
 
 -- how many digits there may be is no matter where they are enough
 leading-same : (f g n : ℕ) → n ≤ f → n ≤ g → leading f n ≡ leading g n

@@ -6,7 +6,7 @@ use native.Mathlib.Numerals.{add-one}
 use native.Mathlib.Omega.{arith}
 use lib.ListN.{length, take, drop, set, length-append, length-drop}
 use lib.Seq.{length-take-le, take-at, drop-append-add, drop-drop, set-split}
-use Rattle.decimals.specs.Written.{Written, written, put, putAt}
+use Rattle.decimals.specs.Meaning.Written.{Written, written, put, putAt}
 
 pub one-byte : (l : List ℕ) (at c : ℕ) → at < length l → written (set l at c) (at + 1) ≡ put (written l at) (c ∷ [])
 unfolding put

@@ -3,7 +3,8 @@ use Prim.Native.Nat.{ℕ, _≤_}
 use mathlib.Core.Path.{sym, ap, _∙_, subst}
 use native.Mathlib.Omega.{arith}
 use borrow.Author.Needs.{needs}
-use Rattle.decimals.specs.Fields.{Short, farthest, negative}
+use Rattle.decimals.specs.Inner.Fields.{Short}
+use Rattle.decimals.specs.Meaning.Fields.{farthest, negative}
 use Rattle.decimals.proofs.Signs.{minus-fits, minus-read}
 use Rattle.decimals.proofs.negative.Statement.{statement}
 use Rattle.decimals.proofs.negative.Tie as tie

@@ -6,7 +6,8 @@ use mir.Syntax.{w32}
 use mir.ValLaws.{toZ-pos}
 use borrow.Author.Needs.{needs}
 use Rattle.decimals.specs.declared.Count.the-variants.{Counted}
-use Rattle.decimals.specs.Fields.{Short, farthest, plain}
+use Rattle.decimals.specs.Inner.Fields.{Short}
+use Rattle.decimals.specs.Meaning.Fields.{farthest, plain}
 use Rattle.decimals.proofs.plain.Statement.{statement}
 use Rattle.decimals.proofs.plain.Tie as tie
 

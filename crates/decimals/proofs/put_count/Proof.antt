@@ -11,9 +11,9 @@ use mir.Val.{toZ, ofZ}
 use mir.ValLaws.{toZ-ofZ}
 use borrow.Author.Needs.{needs}
 use borrow.Author.Tests.{ltb-true}
-use Rattle.basics.specs.Says.{apart}
-use Rattle.decimals.specs.Text.{decimal, signedText}
-use Rattle.decimals.specs.Written.{written, put}
+use Rattle.basics.proofs.laws.Says.{apart}
+use Rattle.decimals.specs.Meaning.Text.{decimal, signedText}
+use Rattle.decimals.specs.Meaning.Written.{written, put}
 use Rattle.decimals.proofs.laws.WrittenLaws.{next-is, length-is, put-put}
 use Rattle.decimals.proofs.put_count.Statement.{statement}
 use Rattle.decimals.proofs.put_count.Tie as tie

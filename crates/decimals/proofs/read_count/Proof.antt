@@ -2,7 +2,8 @@
 use mathlib.Core.Path.{sym, ap, _∙_, subst}
 use native.Mathlib.Omega.{arith}
 use borrow.Author.Needs.{needs}
-use Rattle.decimals.specs.Fields.{Short, plain, negative}
+use Rattle.decimals.specs.Inner.Fields.{Short}
+use Rattle.decimals.specs.Meaning.Fields.{plain, negative}
 use Rattle.decimals.proofs.laws.CountLaws.{short}
 use Rattle.decimals.proofs.laws.StepLaws.{no-byte, minus, no-minus}
 use Rattle.decimals.proofs.read_count.Statement.{statement}

@@ -3,7 +3,7 @@ use Prim.Native.Nat.{_-_, _≤_}
 use mathlib.Core.Path.{_≡_, refl, _∙_}
 use native.Mathlib.Omega.{arith}
 use lib.Seq.{slice}
-use Rattle.decimals.specs.Fields.{digitsFrom}
+use Rattle.decimals.specs.Meaning.Fields.{digitsFrom}
 use Rattle.decimals.proofs.laws.StepLaws.{all-read, low-stops, high-stops, large-stops, step}
 use Rattle.decimals.proofs.read_digits.Statement.{statement}
 use Rattle.decimals.proofs.read_digits.Tie as tie

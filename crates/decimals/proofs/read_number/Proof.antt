@@ -1,6 +1,6 @@
 -- `decimals::read_number` meets its contract. Assumes nothing.
 use borrow.Author.Needs.{needs}
-use Rattle.decimals.specs.Fields.{numberOf}
+use Rattle.decimals.specs.Meaning.Fields.{numberOf}
 use Rattle.decimals.proofs.read_number.Statement.{statement}
 use Rattle.decimals.proofs.read_number.Tie as tie
 

@@ -1,7 +1,7 @@
 -- `geometry::greater` meets its contract. Assumes nothing.
 use mathlib.Core.Path.{sym, ap}
 use mathlib.Core.Bool.{Bool}
-use Rattle.basics.specs.Refusals.{pick}
+use Rattle.basics.specs.Meaning.Refusals.{pick}
 use Rattle.geometry.proofs.greater.Statement.{statement}
 use Rattle.geometry.proofs.greater.Tie as tie
 

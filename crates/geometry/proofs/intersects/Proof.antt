@@ -1,6 +1,6 @@
 -- `geometry::intersects` meets its contract. Assumes nothing.
 use borrow.Author.Needs.{needs}
-use Rattle.geometry.specs.Intersects.{intersects}
+use Rattle.geometry.specs.Meaning.Intersects.{intersects}
 use Rattle.geometry.proofs.Tests.{both}
 use Rattle.geometry.proofs.intersects.Statement.{statement}
 use Rattle.geometry.proofs.intersects.Tie as tie

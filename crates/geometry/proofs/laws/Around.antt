@@ -11,7 +11,8 @@ use lib.Dec.{T, leb, leb→le, nleb→lt, not-T}
 use lib.Pow.{pow-pos}
 use lib.Ieee.{Float, fin, Format, emax, low, add, sub, lt, le, fits}
 use lib.Ieee.Scale.{finite}
-use Rattle.geometry.specs.Value.{Num, lt-num, le-num, either}
+use Rattle.geometry.specs.Inner.Value.{Num}
+use Rattle.geometry.proofs.laws.Value.{lt-num, le-num, either}
 use Rattle.geometry.proofs.laws.Rounding.{R, R-mono, fixed}
 use Rattle.geometry.proofs.laws.Sums.{add-num, sub-num}
 use Rattle.geometry.proofs.laws.Back.{not-lt→le}

@@ -10,7 +10,8 @@ use lib.Pow.{pow-pos}
 use lib.Ieee.{Float, nan, inf, fin, Format, emax, low, up, down, lt, eq, le}
 use lib.Ieee.Fits.{down-pos, and-i}
 use lib.Ieee.Scale.{overflow}
-use Rattle.geometry.specs.Value.{Num, scaled-le, scaled-zero, common, common', eq-num}
+use Rattle.geometry.specs.Inner.Value.{Num}
+use Rattle.geometry.proofs.laws.Value.{scaled-le, scaled-zero, common, common', eq-num}
 
 or-l : (a b : Bool) → T a → T (a || b)
 or-l true b t = tt

@@ -5,7 +5,7 @@ use lib.Dec.{T}
 use lib.Ieee.{Float, nan, inf, fin, ne, isNan, fits, binary32, ofBits, toBits}
 use lib.Ieee.Compare.{differs-from-itself, nan-differs}
 use lib.Ieee.Bits.{ofBits-toBits}
-use Rattle.basics.specs.Says.{apart}
+use Rattle.basics.proofs.laws.Says.{apart}
 use Rattle.geometry.specs.declared.Position.{Position}
 
 pub same-by-bits : (a b : Float) → T (fits binary32 a) → T (fits binary32 b) → toBits binary32 a ≡ toBits binary32 b → a ≡ b

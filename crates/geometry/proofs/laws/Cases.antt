@@ -6,10 +6,10 @@ use mathlib.Core.List.{List, [], _∷_}
 use lib.Ieee.{binary32, ofBits, lt, le, eq, add, sub, mul, neg}
 use Rattle.geometry.specs.declared.Position.{Position}
 use Rattle.geometry.specs.declared.Aabb.{Aabb}
-use Rattle.geometry.specs.Domain.{inDomain, radiusInDomain}
-use Rattle.geometry.specs.Circle.{inCircle}
-use Rattle.geometry.specs.Rectangle.{lowerCorner, upperCorner, inRectangle}
-use Rattle.geometry.specs.Intersects.{overlaps, intersects}
+use Rattle.geometry.specs.Meaning.Domain.{inDomain, radiusInDomain}
+use Rattle.geometry.specs.Meaning.Circle.{inCircle}
+use Rattle.geometry.specs.Meaning.Rectangle.{lowerCorner, upperCorner, inRectangle}
+use Rattle.geometry.specs.Meaning.Intersects.{overlaps, intersects}
 
 pub record Point : Type 0 where
   pub x : ℕ

@@ -6,9 +6,9 @@ use lib.IntN.{pos}
 use lib.Dec.{T}
 use lib.Ieee.{Float, fin, binary32, le, sub}
 use Rattle.geometry.specs.declared.Position.{Position}
-use Rattle.geometry.specs.Domain.{inDomain, positionInDomain, radiusInDomain}
+use Rattle.geometry.specs.Meaning.Domain.{inDomain, positionInDomain, radiusInDomain}
 use Rattle.geometry.proofs.laws.DomainLaws.{domain-fits, domain-finite, position-parts, radius-forward, radius-in-domain}
-use Rattle.geometry.specs.Circle.{inCircle}
+use Rattle.geometry.specs.Meaning.Circle.{inCircle}
 use Rattle.geometry.proofs.laws.Rounding.{number}
 use Rattle.geometry.proofs.laws.Sums.{sub-num}
 use Rattle.geometry.proofs.laws.Near.{x-near, y-near}

@@ -11,7 +11,7 @@ use lib.Ieee.{Float, nan, inf, fin, binary32, up, down, lt, eq, le, add, sub, fi
 use lib.Ieee.Fits.{and-i, and-l, and-r}
 use lib.Ieee.Scale.{finite}
 use Rattle.geometry.specs.declared.Position.{Position}
-use Rattle.geometry.specs.Domain.{within, reach, inDomain, positionInDomain, radiusInDomain}
+use Rattle.geometry.specs.Meaning.Domain.{within, reach, inDomain, positionInDomain, radiusInDomain}
 use Rattle.geometry.proofs.laws.Back.{le-tt, le-tf}
 use Rattle.geometry.proofs.laws.WithinLaws.{within-finite, add-within, sub-within}
 

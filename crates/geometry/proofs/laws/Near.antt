@@ -9,7 +9,8 @@ use lib.Pow.{pow-pos}
 use lib.Ieee.{Float, nan, inf, fin, Format, emax, low, add, mul, lt}
 use lib.Ieee.Fits.{mul-fits}
 use lib.Ieee.Scale.{finite, overflow}
-use Rattle.geometry.specs.Value.{Num, lt-num}
+use Rattle.geometry.specs.Inner.Value.{Num}
+use Rattle.geometry.proofs.laws.Value.{lt-num}
 use Rattle.geometry.proofs.laws.Rounding.{R, R-mono, R-zero, fixed}
 use Rattle.geometry.proofs.laws.Sums.{add-num, sq-num, square, square-mono}
 

@@ -6,10 +6,10 @@ use lib.Dec.{T}
 use lib.Ieee.{Float, le}
 use lib.Ieee.Fits.{and-i, and-l, and-r}
 use lib.Ieee.Scale.{finite}
-use Rattle.basics.specs.Refusals.{pick}
+use Rattle.basics.specs.Meaning.Refusals.{pick}
 use Rattle.geometry.specs.declared.Position.{Position}
-use Rattle.geometry.specs.Domain.{inDomain, positionInDomain}
-use Rattle.geometry.specs.Rectangle.{lesser, greater, lowerCorner, upperCorner, inRectangle}
+use Rattle.geometry.specs.Meaning.Domain.{inDomain, positionInDomain}
+use Rattle.geometry.specs.Meaning.Rectangle.{lesser, greater, lowerCorner, upperCorner, inRectangle}
 use Rattle.geometry.proofs.laws.OrderLaws.{le-refl, le-total}
 use Rattle.geometry.proofs.laws.DomainLaws.{domain-finite, position-parts}
 

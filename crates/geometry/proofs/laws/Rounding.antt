@@ -13,7 +13,8 @@ use lib.Ieee.Fits.{down-pos, and-l, and-r, round-is}
 use lib.Ieee.Exact.{HasValue, odd-sign, round-exact}
 use lib.Ieee.Order.{round-mono, kept, drop}
 use lib.Ieee.Scale.{grid, overflow, finite}
-use Rattle.geometry.specs.Value.{Num, le-num, over-pos}
+use Rattle.geometry.specs.Inner.Value.{Num}
+use Rattle.geometry.proofs.laws.Value.{le-num, over-pos}
 
 module _ (f : Format) where
   abbrev l : ℕ

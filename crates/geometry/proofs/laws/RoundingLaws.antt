@@ -5,8 +5,9 @@ use native.Mathlib.Omega.{arith}
 use mathlib.Core.Bool.{true, false}
 use lib.Dec.{T}
 use lib.Ieee.{Float, nan, inf, fin, Format, add, sub, mul, le}
-use Rattle.geometry.specs.Intersects.{absolute}
-use Rattle.geometry.specs.Value.{Num, le-num, cast}
+use Rattle.geometry.specs.Meaning.Intersects.{absolute}
+use Rattle.geometry.specs.Inner.Value.{Num}
+use Rattle.geometry.proofs.laws.Value.{le-num, cast}
 use Rattle.geometry.proofs.laws.Rounding.{R, R-mono, number}
 use Rattle.geometry.proofs.laws.Sums.{add-num, sub-num, sq-num, square, square-mono}
 use Rattle.geometry.proofs.laws.Back.{num-le}

@@ -11,7 +11,8 @@ use lib.Ieee.Fits.{down-pos}
 use lib.Ieee.Order.{transfer}
 use lib.Ieee.Scale.{finite, round-same}
 use lib.Ieee.Positive.{num, den, den-pos}
-use Rattle.geometry.specs.Value.{Num, cast, scaled-lt, scaled-le, common, common'}
+use Rattle.geometry.specs.Inner.Value.{Num}
+use Rattle.geometry.proofs.laws.Value.{cast, scaled-lt, scaled-le, common, common'}
 use Rattle.geometry.proofs.laws.Rounding.{rnd, rnd-mono, round-num, R, R-zero}
 
 module _ (f : Format) where

@@ -10,8 +10,9 @@ use lib.Dec.{T}
 use lib.Ieee.{Float, nan, inf, fin, Format, low, lt, eq, le, add, sub, fits}
 use lib.Ieee.Fits.{and-i, and-l, and-r}
 use lib.Ieee.Scale.{finite, overflow}
-use Rattle.geometry.specs.Domain.{within}
-use Rattle.geometry.specs.Value.{Num, le-num, either}
+use Rattle.geometry.specs.Meaning.Domain.{within}
+use Rattle.geometry.specs.Inner.Value.{Num}
+use Rattle.geometry.proofs.laws.Value.{le-num, either}
 use Rattle.geometry.proofs.laws.Rounding.{R, R-mono, number, fixed}
 use Rattle.geometry.proofs.laws.Sums.{add-num, sub-num}
 use Rattle.geometry.proofs.laws.Back.{num-le}

@@ -2,7 +2,7 @@
 use mathlib.Core.Path.{ap}
 use lib.Ieee.{Float, binary32, le, add, sub}
 use borrow.Author.Needs.{needs}
-use Rattle.geometry.specs.Intersects.{overlaps}
+use Rattle.geometry.specs.Meaning.Intersects.{overlaps}
 use Rattle.geometry.proofs.overlaps.Statement.{statement}
 use Rattle.geometry.proofs.overlaps.Tie as tie
 

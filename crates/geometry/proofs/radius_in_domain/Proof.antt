@@ -1,7 +1,7 @@
 -- `geometry::radius_in_domain` meets its contract. Assumes nothing.
 use mathlib.Core.Path.{ap, _∙_}
 use lib.Ieee.{Float, le}
-use Rattle.basics.specs.Says.{also}
+use Rattle.basics.proofs.laws.Says.{also}
 use Rattle.geometry.proofs.Tests.{both, nought, most}
 use Rattle.geometry.proofs.radius_in_domain.Statement.{statement}
 use Rattle.geometry.proofs.radius_in_domain.Tie as tie

@@ -4,7 +4,7 @@ use mathlib.Core.Bool.{false, not}
 use lib.Dec.{T}
 use lib.Ieee.{Float, isNan, binary32, toBits}
 use borrow.Author.Tests.{eq-eqb, eqb-true}
-use Rattle.basics.specs.Says.{says-no}
+use Rattle.basics.proofs.laws.Says.{says-no}
 use Rattle.geometry.proofs.laws.BitsLaws.{same-by-bits, nan-if-unlike, number-if-alike}
 use Rattle.geometry.proofs.same_bits.Statement.{statement}
 use Rattle.geometry.proofs.same_bits.Tie as tie

@@ -7,16 +7,17 @@ use mathlib.Core.Logic.{inl, inr}
 use native.Mathlib.Omega.{arith}
 use lib.Dec.{eqb}
 use borrow.Author.Tests.{eqb-false}
-use Rattle.basics.specs.Says.{d-le}
-use Rattle.storage.specs.Keyed.{All, Sorted, under, onList, append1}
-use Rattle.storage.specs.Entries.{rowKey}
-use Rattle.storage.specs.CellTable.{rowOr, entered}
-use Rattle.storage.specs.Packed.{first, Packed}
-use Rattle.storage.specs.FilterLaws.{by-test, all-map}
-use Rattle.storage.specs.KeyedLaws.{onList-same}
-use Rattle.storage.specs.AppendLaws.{sorted-append1, under-append1, all-append1}
+use Rattle.basics.proofs.laws.Says.{d-le}
+use Rattle.storage.specs.Meaning.Keyed.{All, under, onList, append1}
+use Rattle.storage.specs.Inner.Keyed.{Sorted}
+use Rattle.storage.specs.Meaning.Entries.{rowKey}
+use Rattle.storage.specs.Meaning.CellTable.{rowOr, entered}
+use Rattle.storage.specs.Meaning.Packed.{first, Packed}
+use Rattle.storage.proofs.laws.FilterLaws.{by-test, all-map}
+use Rattle.storage.proofs.laws.KeyedLaws.{onList-same}
+use Rattle.storage.proofs.laws.AppendLaws.{sorted-append1, under-append1, all-append1}
 use Rattle.storage.proofs.laws.StorageLaws.{own-filled}
-use Rattle.storage.specs.Store.{Filled}
+use Rattle.storage.specs.Inner.Store.{Filled}
 use Rattle.point_tables.proofs.laws.Members.{pairs-append1}
 use Rattle.point_tables.proofs.laws.RowLaws.{Single, PackedRows}
 

@@ -6,25 +6,25 @@ use mathlib.Core.Logic.{inl, inr}
 use native.Mathlib.Omega.{arith}
 use lib.ListN.{length, getD, drop, List·getD-append}
 use lib.Seq.{getD-set-same, getD-set-other}
-use Rattle.basics.specs.Says.{d-eq}
+use Rattle.basics.proofs.laws.Says.{d-eq}
 use Rattle.geometry.specs.declared.Position.{Position}
-use Rattle.cells.specs.CellRule.{cellAt}
-use Rattle.cells.specs.Key.{keyOf}
-use Rattle.slots.specs.Slot.{free, live, phaseAt}
-use Rattle.storage.specs.Keyed.{All, under}
-use Rattle.storage.specs.Entries.{Entry, rowKey, rowItem, entryKey}
-use Rattle.storage.specs.Packed.{first, second}
-use Rattle.storage.specs.Store.{Filled}
-use Rattle.storage.specs.FilterLaws.{all-at, all-both}
-use Rattle.storage.specs.AppendLaws.{all-append1}
+use Rattle.cells.specs.Meaning.CellRule.{cellAt}
+use Rattle.cells.specs.Meaning.Key.{keyOf}
+use Rattle.slots.specs.Meaning.Slot.{free, live, phaseAt}
+use Rattle.storage.specs.Meaning.Keyed.{All, under}
+use Rattle.storage.specs.Meaning.Entries.{Entry, rowKey, rowItem, entryKey}
+use Rattle.storage.specs.Meaning.Packed.{first, second}
+use Rattle.storage.specs.Inner.Store.{Filled}
+use Rattle.storage.proofs.laws.FilterLaws.{all-at, all-both}
+use Rattle.storage.proofs.laws.AppendLaws.{all-append1}
 use Rattle.storage.proofs.laws.PackedLaws.{all-first, place-filled}
 use Rattle.objects.specs.declared.Record.{Record}
-use Rattle.objects.specs.Columns.{tagOf, numsOf}
-use Rattle.objects.specs.Occupied.{InDomain}
-use Rattle.point_tables.specs.Tables.{Tables, sizeOf, rowsOf, slotsOf, recordOn, entriesIn, cellRows, slotOf}
-use Rattle.point_tables.specs.Holds.{RecordHolds, ListsHold, Pending, Holds}
+use Rattle.objects.specs.Meaning.Columns.{tagOf, numsOf}
+use Rattle.objects.specs.Meaning.Occupied.{InDomain}
+use Rattle.point_tables.specs.Meaning.Tables.{Tables, sizeOf, rowsOf, slotsOf, recordOn, entriesIn, cellRows, slotOf}
+use Rattle.point_tables.specs.Meaning.Holds.{RecordHolds, ListsHold, Pending, Holds}
 use Rattle.point_tables.proofs.laws.HoldsLaws.{rows-in-cells, entries-sorted}
-use Rattle.inserts.specs.Insert.{newRecord, newEntry, entriesWith, rowsWith, put}
+use Rattle.inserts.specs.Meaning.Insert.{newRecord, newEntry, entriesWith, rowsWith, put}
 use Rattle.point_tables.proofs.laws.Members.{some-append1, new-append1, pairs-append1}
 use Rattle.inserts.proofs.laws.EnterLaws.{all-entered}
 use Rattle.point_tables.proofs.laws.ListedLaws.{Named, Listing, from-listing, listing, unnamed, rows-in}

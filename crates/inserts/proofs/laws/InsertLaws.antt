@@ -3,24 +3,25 @@ use Prim.Native.Nat.{ℕ}
 use mathlib.Core.Path.{_≡_, refl, _∙_}
 use mathlib.Core.Bool.{Bool, true, false}
 use lib.Dec.{eqb}
-use Rattle.basics.specs.Says.{says-t, not-said}
-use Rattle.basics.specs.Refusals.{pick}
-use Rattle.geometry.specs.Domain.{positionInDomain}
+use Rattle.basics.proofs.laws.Says.{says-t, not-said}
+use Rattle.basics.specs.Meaning.Refusals.{pick}
+use Rattle.geometry.specs.Meaning.Domain.{positionInDomain}
 use Rattle.geometry.specs.declared.Position.{Position}
 use Rattle.slots.specs.declared.Usable.{Usable}
 use Rattle.slots.specs.declared.Usable.the-variants.{At, Nothing}
-use Rattle.slots.specs.Map.{lowestUsable, slotIn}
-use Rattle.slots.specs.Slot.{versionAt}
+use Rattle.slots.specs.Meaning.Map.{lowestUsable, slotIn}
+use Rattle.slots.specs.Meaning.Slot.{versionAt}
 use Rattle.slots.proofs.laws.SlotLaws.{lowest-free}
-use Rattle.objects.specs.Occupied.{InDomain}
-use Rattle.point_tables.specs.Tables.{Tables, slotsOf}
-use Rattle.point_tables.specs.Holds.{Holds}
-use Rattle.point_tables.specs.Decide.{holds, holds-says}
-use Rattle.point_tables.specs.Outcome.{Outcome, outcome}
+use Rattle.objects.specs.Meaning.Occupied.{InDomain}
+use Rattle.point_tables.specs.Meaning.Tables.{Tables, slotsOf}
+use Rattle.point_tables.specs.Meaning.Holds.{Holds}
+use Rattle.point_tables.specs.Meaning.Decide.{holds, holds-says}
+use Rattle.point_tables.specs.Meaning.Outcome.{Outcome, outcome}
 use Rattle.replies.specs.declared.Inserted.{Inserted}
-use Rattle.inserts.specs.Insert.{usableSlot, put, insertAnswer, insertOf, answerBy}
+use Rattle.inserts.specs.Meaning.Insert.{usableSlot, put, insertAnswer, insertOf}
+use Rattle.inserts.proofs.laws.Insert.{answerBy}
 use Rattle.inserts.proofs.laws.InsertKeeps.{put-keeps}
-use Rattle.replies.specs.Replies.{inserted}
+use Rattle.replies.specs.Meaning.Replies.{inserted}
 
 pub insert-keeps : (t : Tables) (s : ℕ) (p : Position) (d : ℕ) → Holds t → InDomain p → lowestUsable (t .map) (slotsOf t) ≡ At s → Holds (put t s p d)
 insert-keeps t s p d h i e =

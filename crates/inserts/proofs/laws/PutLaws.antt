@@ -5,23 +5,23 @@ use mathlib.Core.List.{map}
 use native.Mathlib.Omega.{arith}
 use lib.ListN.{length, set, length-set, length-map}
 use Rattle.geometry.specs.declared.Position.{Position}
-use Rattle.slots.specs.Map.{head, taken}
+use Rattle.slots.specs.Meaning.Map.{head, taken}
 use Rattle.slots.proofs.laws.MapLaws.{taken-length, taken-head}
-use Rattle.slots.specs.Slot.{free, live, phaseAt, SlotsHold}
+use Rattle.slots.specs.Meaning.Slot.{free, live, phaseAt, SlotsHold}
 use Rattle.slots.proofs.laws.SlotLaws.{taken-holds}
-use Rattle.storage.specs.Entries.{rowOf, spotOf, entryKey, entriesOf}
-use Rattle.storage.specs.Packed.{Packed}
-use Rattle.storage.specs.AppendLaws.{length-append1}
+use Rattle.storage.specs.Meaning.Entries.{rowOf, spotOf, entryKey, entriesOf}
+use Rattle.storage.specs.Meaning.Packed.{Packed}
+use Rattle.storage.proofs.laws.AppendLaws.{length-append1}
 use Rattle.storage.proofs.laws.ColumnLaws.{rows-append1}
 use Rattle.storage.proofs.laws.WrittenLaws.{length-written}
-use Rattle.objects.specs.Columns.{numsOf}
+use Rattle.objects.specs.Meaning.Columns.{numsOf}
 use Rattle.objects.proofs.laws.ColumnLaws.{stored-same, stored-other}
-use Rattle.point_tables.specs.Tables.{Tables, sizeOf, usedOf, rowsOf, slotsOf, recordOn, entriesIn, cellRows, Sized}
-use Rattle.point_tables.specs.Holds.{Counted, Holds}
+use Rattle.point_tables.specs.Meaning.Tables.{Tables, sizeOf, usedOf, rowsOf, slotsOf, recordOn, entriesIn, cellRows, Sized}
+use Rattle.point_tables.specs.Meaning.Holds.{Counted, Holds}
 use Rattle.point_tables.proofs.laws.HoldsLaws.{entry-rows, entries-length}
-use Rattle.inserts.specs.Insert.{newRecord, newEntry, entriesWith, rowsWith, put}
+use Rattle.inserts.specs.Meaning.Insert.{newRecord, newEntry, entriesWith, rowsWith, put}
 use Rattle.point_tables.proofs.laws.HeadLaws.{counted-used, counted-rows, counted-size, counted-length, counted-slots}
-use Rattle.point_tables.specs.EntryLaws.{written-entries}
+use Rattle.point_tables.proofs.laws.EntryLaws.{written-entries}
 use Rattle.point_tables.proofs.laws.RowLaws.{PackedRows, from-rows}
 use Rattle.inserts.proofs.laws.EnterLaws.{packed-append, rows-least}
 use Rattle.point_tables.proofs.laws.ListedLaws.{rows-in}

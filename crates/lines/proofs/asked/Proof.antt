@@ -1,6 +1,6 @@
 -- `lines::asked` meets its contract, part by part of the table. Assumes nothing.
 use borrow.Author.Needs.{needs}
-use Rattle.lines.specs.Words.{askedBy}
+use Rattle.lines.specs.Meaning.Words.{askedBy}
 use Rattle.lines.proofs.asked.Statement.{statement}
 use Rattle.lines.proofs.asked.Tie as tie
 

@@ -10,11 +10,11 @@ use lib.Dec.{eqb, ltb}
 use lib.ListN.{length, take, drop, getD, length-drop, drop-of-length-le}
 use lib.Seq.{slice, take-add, drop-at, drop-drop, drop-cons, length-take-le}
 use borrow.Author.Tests.{eq-eqb, ne-eqb, lt-ltb, le-ltb, le-leb, lt-leb}
-use Rattle.basics.specs.Refusals.{pick}
-use Rattle.basics.specs.Says.{d-lt}
-use Rattle.splits.specs.Records.{onto}
-use Rattle.lines.specs.Fields.{comma, fieldsOf}
-use Rattle.lines.specs.Cursor.{untilComma, endFrom, fieldsFrom}
+use Rattle.basics.specs.Meaning.Refusals.{pick}
+use Rattle.basics.proofs.laws.Says.{d-lt}
+use Rattle.splits.specs.Meaning.Records.{onto}
+use Rattle.lines.specs.Meaning.Fields.{comma, fieldsOf}
+use Rattle.lines.specs.Inner.Cursor.{untilComma, endFrom, fieldsFrom}
 
 -- ---- where a field ends, byte by byte
 module _ (b : List ℕ) (i : ℕ) where

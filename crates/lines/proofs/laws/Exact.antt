@@ -10,16 +10,18 @@ use Rattle.decimals.specs.declared.Number.{Number}
 use Rattle.decimals.specs.declared.Number.the-variants as read
 use Rattle.decimals.specs.declared.Count.{Count}
 use Rattle.decimals.specs.declared.Count.the-variants.{Counted, NoCount}
-use Rattle.decimals.specs.Text.{decimal, signedText}
-use Rattle.decimals.specs.Fields.{numberOf, countOf}
+use Rattle.decimals.specs.Meaning.Text.{decimal, signedText}
+use Rattle.decimals.specs.Meaning.Fields.{numberOf, countOf}
 use Rattle.decimals.proofs.laws.FieldLaws.{number-text, number-read}
 use Rattle.decimals.proofs.laws.CountLaws.{count-text, count-read}
 use Rattle.lines.specs.declared.Line.{Line}
 use Rattle.lines.specs.declared.Asks.{Asks}
 use Rattle.lines.specs.declared.Request.{Request}
-use Rattle.lines.specs.Taken.{Taken, taken, missing, Taker, bind, both, made, numberThen, countThen, takeNumber, takeCount, spotOf, handleOf, takeSpot, takeHandle, ifAsked, nobody, origin}
-use Rattle.lines.specs.Requests.{Arguments, request, unreadable, takeArguments, argumentsOf, whole}
-use Rattle.lines.specs.Texts.{number, count, spot, handle, only, argumentTexts, NumberInRange, CountInRange, SpotInRange, HandleInRange, AsAsked, ArgumentsInRange}
+use Rattle.lines.specs.Meaning.Taken.{Taken, taken, missing, Taker, bind, both, made, numberThen, countThen, takeNumber, takeCount, spotOf}
+use Rattle.lines.specs.Meaning.Taken.{handleOf, takeSpot, takeHandle, ifAsked, nobody, origin}
+use Rattle.lines.specs.Meaning.Requests.{Arguments, request, unreadable, takeArguments, argumentsOf, whole}
+use Rattle.lines.specs.Inner.Texts.{number, count, spot, handle, only, argumentTexts, NumberInRange, CountInRange, SpotInRange, HandleInRange}
+use Rattle.lines.specs.Inner.Texts.{AsAsked, ArgumentsInRange}
 
 pub record Exact {A : Type 0} (p : Taker A) (text : A → List (List ℕ)) (InRange : A → Type 0) : Type 0 where
   pub reads : (a : A) (rest : List (List ℕ)) → InRange a → p (text a ++ rest) ≡ taken a rest

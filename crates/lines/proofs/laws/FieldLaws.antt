@@ -7,10 +7,11 @@ use native.Mathlib.Omega.{arith}
 use lib.Dec.{eqb}
 use lib.ListN.{length, length-append}
 use borrow.Author.Tests.{eqb-true}
-use Rattle.basics.specs.Refusals.{pick}
-use Rattle.basics.specs.Says.{apart}
-use Rattle.splits.specs.Records.{onto}
-use Rattle.lines.specs.Fields.{comma, fieldsOf, joined}
+use Rattle.basics.specs.Meaning.Refusals.{pick}
+use Rattle.basics.proofs.laws.Says.{apart}
+use Rattle.splits.specs.Meaning.Records.{onto}
+use Rattle.lines.specs.Meaning.Fields.{comma, fieldsOf}
+use Rattle.lines.specs.Inner.Fields.{joined}
 
 -- ---- the fields of a record, joined, are the record
 pub record Some (fs : List (List ℕ)) : Type 0 where

@@ -8,17 +8,18 @@ use native.Mathlib.Omega.{arith}
 use lib.ListN.{length, take, length-take}
 use lib.Seq.{take-all}
 use borrow.Author.Tests.{le-leb, lt-leb}
-use Rattle.basics.specs.Refusals.{pick}
-use Rattle.basics.specs.Says.{d-le}
-use Rattle.splits.specs.Records.{recordsOf}
-use Rattle.splits.specs.Sofar.{begun, recordsFrom}
+use Rattle.basics.specs.Meaning.Refusals.{pick}
+use Rattle.basics.proofs.laws.Says.{d-le}
+use Rattle.splits.specs.Inner.Records.{recordsOf}
+use Rattle.splits.specs.Meaning.Sofar.{begun}
+use Rattle.splits.proofs.laws.Sofar.{recordsFrom}
 use Rattle.splits.proofs.laws.SplitLaws.{splits-records}
 use Rattle.lines.specs.declared.Asks.{Asks}
 use Rattle.lines.specs.declared.Request.{Request}
-use Rattle.lines.specs.Fields.{fieldsOf}
-use Rattle.lines.specs.Words.{askedBy}
-use Rattle.lines.specs.Requests.{unreadable, argumentsOf, whole, ofFields, requestOf}
-use Rattle.lines.specs.Cursor.{endFrom, fieldsFrom}
+use Rattle.lines.specs.Meaning.Fields.{fieldsOf}
+use Rattle.lines.specs.Meaning.Words.{askedBy}
+use Rattle.lines.specs.Meaning.Requests.{unreadable, argumentsOf, whole, ofFields, requestOf}
+use Rattle.lines.specs.Inner.Cursor.{endFrom, fieldsFrom}
 use Rattle.lines.proofs.laws.CursorLaws.{field-at, fields-from-start}
 
 pub too-long : (bytes : List ℕ) → 128 < length bytes → requestOf bytes ≡ unreadable

@@ -7,14 +7,15 @@ use native.Mathlib.Omega.{arith}
 use lib.Dec.{leb}
 use lib.ListN.{length}
 use borrow.Author.Tests.{le-leb}
-use Rattle.basics.specs.Refusals.{pick}
+use Rattle.basics.specs.Meaning.Refusals.{pick}
 use Rattle.lines.specs.declared.Line.{Line}
 use Rattle.lines.specs.declared.Line.the-variants.{Unreadable}
 use Rattle.lines.specs.declared.Request.{Request}
-use Rattle.lines.specs.Fields.{fieldsOf, joined}
-use Rattle.lines.specs.Words.{askedBy}
-use Rattle.lines.specs.Requests.{unreadable, ofFields, requestOf}
-use Rattle.lines.specs.Texts.{argumentTexts, textOf, ArgumentsInRange, Proper}
+use Rattle.lines.specs.Meaning.Fields.{fieldsOf}
+use Rattle.lines.specs.Inner.Fields.{joined}
+use Rattle.lines.specs.Meaning.Words.{askedBy}
+use Rattle.lines.specs.Meaning.Requests.{unreadable, ofFields, requestOf}
+use Rattle.lines.specs.Inner.Texts.{argumentTexts, textOf, ArgumentsInRange, Proper}
 use Rattle.lines.proofs.laws.FieldLaws.{joined-fields, fields-joined, joined-length}
 use Rattle.lines.proofs.laws.WordLaws.{is-word}
 use Rattle.lines.proofs.laws.TextLaws.{arguments-clear, arguments-size}

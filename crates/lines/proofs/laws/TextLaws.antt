@@ -9,15 +9,16 @@ use lib.IntN.{ℤ, pos, negsuc}
 use lib.ListN.{length}
 use borrow.Author.Tests.{ne-eqb}
 use Rattle.slots.specs.declared.Handle.{Handle}
-use Rattle.decimals.specs.Text.{decimal, signedText}
+use Rattle.decimals.specs.Meaning.Text.{decimal, signedText}
 use Rattle.decimals.proofs.laws.TextLaws.{one-digit, last-digit, by-digits, number-length}
 use Rattle.lines.specs.declared.Spot.{Spot}
 use Rattle.lines.specs.declared.Asks.{Asks}
 use Rattle.lines.specs.declared.Request.{Request}
-use Rattle.lines.specs.Fields.{comma}
+use Rattle.lines.specs.Meaning.Fields.{comma}
 use Rattle.lines.proofs.laws.FieldLaws.{clear, AllClear, clear-append, all-clear-append, size, size-append}
-use Rattle.lines.specs.Texts.{number, count, spot, handle, only, argumentTexts, NumberInRange, CountInRange, SpotInRange, HandleInRange, AsAsked, ArgumentsInRange}
-use Rattle.lines.specs.Taken.{nobody, origin}
+use Rattle.lines.specs.Inner.Texts.{number, count, spot, handle, only, argumentTexts, NumberInRange, CountInRange, SpotInRange, HandleInRange}
+use Rattle.lines.specs.Inner.Texts.{AsAsked, ArgumentsInRange}
+use Rattle.lines.specs.Meaning.Taken.{nobody, origin}
 
 digit-clear : (d : ℕ) → clear ((48 + d) ∷ []) ≡ true
 unfolding clear

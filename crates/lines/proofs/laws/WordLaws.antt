@@ -8,12 +8,12 @@ use lib.Dec.{eqb, leb}
 use lib.ListN.{length, getD}
 use lib.Seq.{ext-getD}
 use borrow.Author.Tests.{eqb-true, eq-eqb, leb-true}
-use Rattle.basics.specs.Refusals.{pick}
-use Rattle.basics.specs.Says.{apart}
+use Rattle.basics.specs.Meaning.Refusals.{pick}
+use Rattle.basics.proofs.laws.Says.{apart}
 use Rattle.lines.specs.declared.Line.the-variants.{Unreadable}
 use Rattle.lines.specs.declared.Asks.{Asks}
 use Rattle.lines.proofs.laws.FieldLaws.{clear}
-use Rattle.lines.specs.Words.{Row, asks, table, sameBytes, rowSays, foundIn, askedBy}
+use Rattle.lines.specs.Meaning.Words.{Row, asks, table, sameBytes, rowSays, foundIn, askedBy}
 
 pub same-true : (a b : List ℕ) → sameBytes a b ≡ true → a ≡ b
 same-true [] [] e = refl

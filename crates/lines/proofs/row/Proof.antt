@@ -1,7 +1,7 @@
 -- `lines::row` meets its contract. Assumes nothing.
 use mathlib.Core.Path.{sym, _∙_}
 use borrow.Author.Needs.{needs}
-use Rattle.lines.specs.Words.{row}
+use Rattle.lines.specs.Meaning.Words.{row}
 use Rattle.lines.proofs.Shared.{hit, miss}
 use Rattle.lines.proofs.row.Statement.{statement}
 use Rattle.lines.proofs.row.Tie as tie

@@ -2,25 +2,25 @@
 -- Assumes nothing.
 use mathlib.Core.Path.{_≡_, refl, ap, _∙_}
 use mathlib.Core.Bool.{true}
-use Rattle.basics.specs.Says.{says-t}
-use Rattle.geometry.specs.Domain.{positionInDomain}
+use Rattle.basics.proofs.laws.Says.{says-t}
+use Rattle.geometry.specs.Meaning.Domain.{positionInDomain}
 use Rattle.geometry.specs.declared.Position.{Position}
 use Rattle.slots.specs.declared.Handle.{Handle}
-use Rattle.slots.specs.Slot.{good}
+use Rattle.slots.specs.Meaning.Slot.{good}
 use Rattle.slots.proofs.laws.HandleLaws.{good-says}
 use Rattle.objects.specs.declared.State.the-variants.{Removed}
 use Rattle.objects.specs.declared.Record.{Record}
-use Rattle.objects.specs.Occupied.{InDomain}
-use Rattle.objects.specs.States.{isRemoved}
-use Rattle.point_tables.specs.Tables.{Tables, recordOn}
-use Rattle.point_tables.specs.Holds.{Holds}
-use Rattle.point_tables.specs.Decide.{holds-says}
-use Rattle.moves.specs.Moves.{pended, setPositionAnswer, removeAnswer, removeOf}
+use Rattle.objects.specs.Meaning.Occupied.{InDomain}
+use Rattle.objects.specs.Meaning.States.{isRemoved}
+use Rattle.point_tables.specs.Meaning.Tables.{Tables, recordOn}
+use Rattle.point_tables.specs.Meaning.Holds.{Holds}
+use Rattle.point_tables.specs.Meaning.Decide.{holds-says}
+use Rattle.moves.specs.Meaning.Moves.{pended, setPositionAnswer, removeAnswer, removeOf}
 use Rattle.moves.proofs.laws.ReadyLaws.{holds-ready}
 use Rattle.moves.proofs.laws.PendedLaws.{nums-long, record-same, kept}
 use Rattle.moves.proofs.laws.MovesLaws.{remove-accepted, remove-done}
 use Rattle.moves.proofs.laws.MovesKeeps.{pended-holds}
-use Rattle.replies.specs.Replies.{reply}
+use Rattle.replies.specs.Meaning.Replies.{reply}
 
 module _ (t : Tables) (h : Handle) (e : removeAnswer t h ≡ 0) where
   abbrev gone : Tables

@@ -6,20 +6,21 @@ use mathlib.Core.List.{List, [], _∷_}
 use mathlib.Core.Logic.{_⊎_, inl, inr, ⊎-elim}
 use native.Mathlib.Omega.{arith}
 use lib.Dec.{eqb}
-use Rattle.basics.specs.Says.{Says, apart, says-yes, says-no, d-eq}
-use Rattle.basics.specs.Refusals.{orElse, pick}
-use Rattle.geometry.specs.Domain.{positionInDomain}
+use Rattle.basics.specs.Meaning.Says.{Says}
+use Rattle.basics.proofs.laws.Says.{apart, says-yes, says-no, d-eq}
+use Rattle.basics.specs.Meaning.Refusals.{orElse, pick}
+use Rattle.geometry.specs.Meaning.Domain.{positionInDomain}
 use Rattle.geometry.specs.declared.Position.{Position}
 use Rattle.slots.specs.declared.Handle.{Handle}
-use Rattle.slots.specs.Slot.{good}
-use Rattle.objects.specs.States.{isRemoved}
-use Rattle.point_tables.specs.Tables.{Tables, recordOn}
-use Rattle.point_tables.specs.Holds.{Holds}
-use Rattle.point_tables.specs.Decide.{holds, holds-says}
-use Rattle.point_tables.specs.Outcome.{Outcome}
+use Rattle.slots.specs.Meaning.Slot.{good}
+use Rattle.objects.specs.Meaning.States.{isRemoved}
+use Rattle.point_tables.specs.Meaning.Tables.{Tables, recordOn}
+use Rattle.point_tables.specs.Meaning.Holds.{Holds}
+use Rattle.point_tables.specs.Meaning.Decide.{holds, holds-says}
+use Rattle.point_tables.specs.Meaning.Outcome.{Outcome}
 use Rattle.replies.specs.declared.Reply.{Reply}
-use Rattle.moves.specs.Moves.{setPositionAnswer, setPositionOf, removeAnswer, removeOf}
-use Rattle.moves.specs.Batch.{Call, callOf}
+use Rattle.moves.specs.Meaning.Moves.{setPositionAnswer, setPositionOf, removeAnswer, removeOf}
+use Rattle.moves.specs.Meaning.Batch.{Call, callOf}
 use Rattle.moves.proofs.laws.MovesLaws.{set-refused, set-done, remove-refused, remove-done}
 
 -- one of the numbers of a list

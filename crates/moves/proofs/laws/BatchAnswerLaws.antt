@@ -9,14 +9,14 @@ use lib.Dec.{eqb, leb}
 use lib.Ieee.{Float}
 use lib.ListN.{length}
 use borrow.Author.Tests.{eqb-true, leb-true, ne-eqb}
-use Rattle.basics.specs.Says.{apart, d-eq}
-use Rattle.basics.specs.Refusals.{orElse}
-use Rattle.storage.specs.Keyed.{written}
-use Rattle.point_tables.specs.Tables.{Tables}
-use Rattle.point_tables.specs.Holds.{Holds}
-use Rattle.point_tables.specs.Decide.{holds}
-use Rattle.point_tables.specs.Outcome.{Outcome, outcome}
-use Rattle.moves.specs.Batch.{callsOf, replies, tablesAfter, replyRows, even, batchAnswer, Batched, batched, batchOf}
+use Rattle.basics.proofs.laws.Says.{apart, d-eq}
+use Rattle.basics.specs.Meaning.Refusals.{orElse}
+use Rattle.storage.specs.Meaning.Keyed.{written}
+use Rattle.point_tables.specs.Meaning.Tables.{Tables}
+use Rattle.point_tables.specs.Meaning.Holds.{Holds}
+use Rattle.point_tables.specs.Meaning.Decide.{holds}
+use Rattle.point_tables.specs.Meaning.Outcome.{Outcome, outcome}
+use Rattle.moves.specs.Meaning.Batch.{callsOf, replies, tablesAfter, replyRows, even, batchAnswer, Batched, batched, batchOf}
 use Rattle.moves.proofs.laws.MovesKeeps.{calls-keep}
 
 module _ (t : Tables) (kinds : List ℕ) (handles : List (List ℕ)) (positions : List (List Float)) (out : List (List ℕ)) where

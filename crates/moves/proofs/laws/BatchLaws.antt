@@ -8,13 +8,13 @@ use native.Mathlib.Numerals.{add-one}
 use lib.Ieee.{Float}
 use lib.ListN.{length, getD, set, drop, length-set, drop-of-length-le}
 use lib.Seq.{sets, sets-eq, drop-cons}
-use Rattle.storage.specs.Keyed.{written}
-use Rattle.point_tables.specs.Tables.{Tables}
-use Rattle.point_tables.specs.Outcome.{Outcome, outcome}
+use Rattle.storage.specs.Meaning.Keyed.{written}
+use Rattle.point_tables.specs.Meaning.Tables.{Tables}
+use Rattle.point_tables.specs.Meaning.Outcome.{Outcome, outcome}
 use Rattle.replies.specs.declared.Reply.{Reply}
-use Rattle.moves.specs.Batch.{Call, callsOf, handleOf, positionOf, replyRows}
-use Rattle.moves.specs.Ready.{Ready}
-use Rattle.moves.specs.Held.{call, heldOf, heldAfter, heldReplies}
+use Rattle.moves.specs.Meaning.Batch.{Call, callsOf, handleOf, positionOf, replyRows}
+use Rattle.moves.specs.Inner.Ready.{Ready}
+use Rattle.moves.specs.Inner.Held.{call, heldOf, heldAfter, heldReplies}
 use Rattle.moves.proofs.laws.HeldLaws.{held-ready, SameLong, held-long}
 
 module _ (kinds : List ℕ) (handles : List (List ℕ)) (positions : List (List Float)) where

@@ -10,26 +10,27 @@ use lib.Dec.{T, eqb}
 use lib.Ieee.{Float}
 use lib.ListN.{length}
 use borrow.Author.Tests.{eqb-false, eq-eqb, ne-eqb}
-use Rattle.basics.specs.Says.{d-eq}
-use Rattle.basics.specs.Refusals.{orElse}
-use Rattle.geometry.specs.Domain.{positionInDomain}
+use Rattle.basics.proofs.laws.Says.{d-eq}
+use Rattle.basics.specs.Meaning.Refusals.{orElse}
+use Rattle.geometry.specs.Meaning.Domain.{positionInDomain}
 use Rattle.geometry.specs.declared.Position.{Position}
 use Rattle.slots.specs.declared.Handle.{Handle}
-use Rattle.slots.specs.Slot.{good}
-use Rattle.objects.specs.States.{isRemoved}
-use Rattle.point_tables.specs.Tables.{Tables, sizeOf, recordOn}
-use Rattle.point_tables.specs.Holds.{Holds}
-use Rattle.point_tables.specs.Decide.{holds, holds-says}
-use Rattle.point_tables.specs.Outcome.{Outcome, outcome}
+use Rattle.slots.specs.Meaning.Slot.{good}
+use Rattle.objects.specs.Meaning.States.{isRemoved}
+use Rattle.point_tables.specs.Meaning.Tables.{Tables, sizeOf, recordOn}
+use Rattle.point_tables.specs.Meaning.Holds.{Holds}
+use Rattle.point_tables.specs.Meaning.Decide.{holds, holds-says}
+use Rattle.point_tables.specs.Meaning.Outcome.{Outcome, outcome}
 use Rattle.replies.specs.declared.Reply.{Reply}
-use Rattle.moves.specs.Moves.{pended, setPositionAnswer, setPositionOf, removeAnswer, removeOf}
-use Rattle.moves.specs.Batch.{Call, callOf, tablesAfter, replies}
-use Rattle.moves.specs.Ready.{Ready, Workable}
+use Rattle.moves.specs.Meaning.Moves.{pended, setPositionAnswer, setPositionOf, removeAnswer, removeOf}
+use Rattle.moves.specs.Meaning.Batch.{Call, callOf, tablesAfter, replies}
+use Rattle.moves.specs.Inner.Ready.{Ready, Workable}
 use Rattle.moves.proofs.laws.PendedLaws.{nums-long, reals-long, ints-long, cells-long, pended-ready}
 use Rattle.moves.proofs.laws.MovesLaws.{named}
 use Rattle.moves.proofs.laws.MovesKeeps.{call-keeps}
-use Rattle.moves.specs.Held.{withPool, setRefusal, removeRefusal, heldAnswer, nextState, worked, heldOf, heldAfter, heldReplies}
-use Rattle.replies.specs.Replies.{reply}
+use Rattle.moves.proofs.laws.Held.{withPool}
+use Rattle.moves.specs.Inner.Held.{setRefusal, removeRefusal, heldAnswer, nextState, worked, heldOf, heldAfter, heldReplies}
+use Rattle.replies.specs.Meaning.Replies.{reply}
 
 -- ---- the answers past the check
 module _ (t : Tables) (g : holds t ≡ true) where

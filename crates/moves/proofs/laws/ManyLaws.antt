@@ -10,36 +10,38 @@ use lib.IntN.{ℤ}
 use lib.Ieee.{Float}
 use lib.ListN.{length, getD, set}
 use lib.Seq.{ext-getD}
-use Rattle.basics.specs.Says.{d-eq, said}
-use Rattle.basics.specs.Refusals.{pick}
+use Rattle.basics.proofs.laws.Says.{d-eq}
+use Rattle.basics.specs.Meaning.Says.{said}
+use Rattle.basics.specs.Meaning.Refusals.{pick}
 use Rattle.geometry.specs.declared.Position.{Position}
-use Rattle.cells.specs.CellRule.{cellAt}
-use Rattle.cells.specs.Key.{keyOf}
-use Rattle.slots.specs.Slot.{live, phaseAt}
-use Rattle.storage.specs.Keyed.{written}
-use Rattle.storage.specs.FilterLaws.{by-test}
-use Rattle.storage.specs.Packed.{first, second, Packed}
+use Rattle.cells.specs.Meaning.CellRule.{cellAt}
+use Rattle.cells.specs.Meaning.Key.{keyOf}
+use Rattle.slots.specs.Meaning.Slot.{live, phaseAt}
+use Rattle.storage.specs.Meaning.Keyed.{written}
+use Rattle.storage.proofs.laws.FilterLaws.{by-test}
+use Rattle.storage.specs.Meaning.Packed.{first, second, Packed}
 use Rattle.objects.specs.declared.State.{State}
 use Rattle.objects.specs.declared.State.the-variants.{NewPos, Relocate, Removed}
 use Rattle.objects.specs.declared.Record.{Record}
-use Rattle.objects.specs.Columns.{tagOf}
-use Rattle.objects.specs.Decide.{d-cell}
-use Rattle.objects.specs.States.{aimed}
-use Rattle.point_tables.specs.Tables.{Tables, tables, sizeOf, usedOf, rowsOf, slotsOf, recordOn}
-use Rattle.point_tables.specs.Holds.{Holds, Pending}
-use Rattle.point_tables.specs.Outcome.{Outcome, outcome}
+use Rattle.objects.specs.Meaning.Columns.{tagOf}
+use Rattle.objects.specs.Inner.Decide.{d-cell}
+use Rattle.objects.specs.Meaning.States.{aimed}
+use Rattle.point_tables.specs.Meaning.Tables.{Tables, tables, sizeOf, usedOf, rowsOf, slotsOf, recordOn}
+use Rattle.point_tables.specs.Meaning.Holds.{Holds, Pending}
+use Rattle.point_tables.specs.Meaning.Outcome.{Outcome, outcome}
 use Rattle.point_tables.proofs.laws.CheckLaws.{tag-zero, zero-tag}
 use Rattle.replies.specs.declared.Reply.{Reply}
-use Rattle.moves.specs.Moves.{pended}
-use Rattle.moves.specs.Batch.{Call, callsOf, replyRows}
-use Rattle.moves.specs.Ready.{Ready}
+use Rattle.moves.specs.Meaning.Moves.{pended}
+use Rattle.moves.specs.Meaning.Batch.{Call, callsOf, replyRows}
+use Rattle.moves.specs.Inner.Ready.{Ready}
 use Rattle.moves.proofs.laws.ReadyLaws.{holds-ready, ready-pool}
 use Rattle.moves.proofs.laws.PendedLaws.{nums-long, record-same, record-other, kept, row-same, row-other}
 use Rattle.moves.proofs.laws.MovesKeeps.{calls-keep}
-use Rattle.moves.specs.Held.{poolless, withPool, nextState, worked, heldAnswer, heldOf, heldAfter, heldReplies, pendedOnly, unmarkedOf}
+use Rattle.moves.specs.Inner.Held.{poolless, nextState, worked, heldAnswer, heldOf, heldAfter, heldReplies, pendedOnly, unmarkedOf}
+use Rattle.moves.proofs.laws.Held.{withPool}
 use Rattle.moves.proofs.laws.HeldLaws.{held-accepted, held-done, held-refused, after-worked}
 use Rattle.moves.proofs.laws.BatchLaws.{Running, callAt, calls, start, step, finish}
-use Rattle.moves.specs.Marks.{tagAt, Walkable, SetRow, MarkedTo}
+use Rattle.moves.specs.Inner.Marks.{tagAt, Walkable, SetRow, MarkedTo}
 
 -- ---- tags
 next-tag : (size : ℕ) (r : Record) (kind : ℕ) (at : Position) → tagOf (nextState size r kind at) ≡ 0 → ⊥

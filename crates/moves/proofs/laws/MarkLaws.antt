@@ -7,9 +7,9 @@ use native.Mathlib.Omega.{arith}
 use native.Mathlib.Nat.{not-suc-le-zero}
 use lib.ListN.{length, getD, set, length-set}
 use lib.Seq.{getD-set-same, getD-set-other}
-use Rattle.basics.specs.Says.{d-eq, d-lt}
-use Rattle.storage.specs.Packed.{first, second, Packed}
-use Rattle.moves.specs.Marks.{tagAt, Walkable, SetRow, MarkedTo}
+use Rattle.basics.proofs.laws.Says.{d-eq, d-lt}
+use Rattle.storage.specs.Meaning.Packed.{first, second, Packed}
+use Rattle.moves.specs.Inner.Marks.{tagAt, Walkable, SetRow, MarkedTo}
 
 module _ (nums pool : List (List ℕ)) (used : ℕ) (cells : List (List ℕ)) (rows : ℕ) (w : Walkable nums pool used cells rows) where
   -- row c is not past the row of entry j

@@ -7,26 +7,26 @@ use mathlib.Core.Logic.{⊎-elim}
 use native.Mathlib.Omega.{arith}
 use lib.Dec.{eqb}
 use lib.ListN.{getD}
-use Rattle.basics.specs.Says.{d-eq, d-lt}
-use Rattle.basics.specs.Refusals.{pick}
+use Rattle.basics.proofs.laws.Says.{d-eq, d-lt}
+use Rattle.basics.specs.Meaning.Refusals.{pick}
 use Rattle.geometry.specs.declared.Position.{Position}
-use Rattle.cells.specs.Key.{keyOf}
+use Rattle.cells.specs.Meaning.Key.{keyOf}
 use Rattle.slots.specs.declared.Handle.{Handle}
-use Rattle.slots.specs.Slot.{live, phaseAt, SlotsHold}
+use Rattle.slots.specs.Meaning.Slot.{live, phaseAt, SlotsHold}
 use Rattle.slots.proofs.laws.SlotLaws.{row-holds}
-use Rattle.storage.specs.Packed.{first, second, Packed}
+use Rattle.storage.specs.Meaning.Packed.{first, second, Packed}
 use Rattle.objects.specs.declared.State.{State}
 use Rattle.objects.specs.declared.State.the-variants.{Unchanged, NewPos, Relocate, Removed}
 use Rattle.objects.specs.declared.Record.{Record}
-use Rattle.objects.specs.Columns.{tagOf, numsOf}
-use Rattle.objects.specs.Occupied.{Agrees, Occupied}
+use Rattle.objects.specs.Meaning.Columns.{tagOf, numsOf}
+use Rattle.objects.specs.Meaning.Occupied.{Agrees, Occupied}
 use Rattle.objects.proofs.laws.OccupiedLaws.{aimed-agrees}
-use Rattle.objects.specs.States.{aimed, withState}
-use Rattle.point_tables.specs.Tables.{Tables, sizeOf, usedOf, rowsOf, slotsOf, recordOn}
-use Rattle.point_tables.specs.Holds.{ListsHold, Pending, Holds}
-use Rattle.moves.specs.Moves.{pended, setPositionAnswer, setPositionOf, removeAnswer, removeOf}
-use Rattle.moves.specs.Batch.{Call, callOf, tablesAfter}
-use Rattle.moves.specs.Ready.{Ready}
+use Rattle.objects.specs.Meaning.States.{aimed, withState}
+use Rattle.point_tables.specs.Meaning.Tables.{Tables, sizeOf, usedOf, rowsOf, slotsOf, recordOn}
+use Rattle.point_tables.specs.Meaning.Holds.{ListsHold, Pending, Holds}
+use Rattle.moves.specs.Meaning.Moves.{pended, setPositionAnswer, setPositionOf, removeAnswer, removeOf}
+use Rattle.moves.specs.Meaning.Batch.{Call, callOf, tablesAfter}
+use Rattle.moves.specs.Inner.Ready.{Ready}
 use Rattle.moves.proofs.laws.ReadyLaws.{holds-ready}
 use Rattle.moves.proofs.laws.PendedLaws.{nums-long, reals-long, ints-long, record-same, record-other, kept, tag-same, tag-other, cells-long, key-kept, mark-set, mark-kept}
 use Rattle.moves.proofs.laws.MovesLaws.{set-accepted, remove-accepted, set-refused, set-done, remove-refused, remove-done}

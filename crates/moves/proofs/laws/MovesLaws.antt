@@ -5,22 +5,22 @@ use mathlib.Core.Bool.{Bool, true, false, not}
 use native.Mathlib.Omega.{arith}
 use lib.Dec.{T}
 use borrow.Author.Tests.{eq-eqb, ne-eqb}
-use Rattle.basics.specs.Refusals.{orElse}
-use Rattle.basics.specs.Says.{untrue}
-use Rattle.geometry.specs.Domain.{positionInDomain}
+use Rattle.basics.specs.Meaning.Refusals.{orElse}
+use Rattle.basics.proofs.laws.Says.{untrue}
+use Rattle.geometry.specs.Meaning.Domain.{positionInDomain}
 use Rattle.geometry.specs.declared.Position.{Position}
 use Rattle.slots.specs.declared.Handle.{Handle}
-use Rattle.slots.specs.Slot.{live, phaseAt, versionAt, good}
+use Rattle.slots.specs.Meaning.Slot.{live, phaseAt, versionAt, good}
 use Rattle.slots.proofs.laws.HandleLaws.{good-says}
 use Rattle.objects.specs.declared.State.the-variants.{Removed}
-use Rattle.objects.specs.Occupied.{InDomain}
-use Rattle.objects.specs.States.{isRemoved, aimed}
-use Rattle.point_tables.specs.Tables.{Tables, sizeOf, slotsOf, recordOn}
-use Rattle.point_tables.specs.Holds.{Holds}
-use Rattle.point_tables.specs.Decide.{holds, holds-says}
-use Rattle.point_tables.specs.Outcome.{outcome}
-use Rattle.moves.specs.Moves.{pended, setPositionAnswer, setPositionOf, removeAnswer, removeOf}
-use Rattle.replies.specs.Replies.{reply}
+use Rattle.objects.specs.Meaning.Occupied.{InDomain}
+use Rattle.objects.specs.Meaning.States.{isRemoved, aimed}
+use Rattle.point_tables.specs.Meaning.Tables.{Tables, sizeOf, slotsOf, recordOn}
+use Rattle.point_tables.specs.Meaning.Holds.{Holds}
+use Rattle.point_tables.specs.Meaning.Decide.{holds, holds-says}
+use Rattle.point_tables.specs.Meaning.Outcome.{outcome}
+use Rattle.moves.specs.Meaning.Moves.{pended, setPositionAnswer, setPositionOf, removeAnswer, removeOf}
+use Rattle.replies.specs.Meaning.Replies.{reply}
 
 -- ---- the handle is that of an object
 pub record Named (t : Tables) (h : Handle) : Type 0 where

@@ -6,18 +6,18 @@ use mathlib.Core.Logic.{⊎-elim}
 use native.Mathlib.Omega.{arith}
 use lib.ListN.{length, getD, set, length-set}
 use lib.Seq.{getD-set-same, getD-set-other}
-use Rattle.basics.specs.Says.{d-eq}
-use Rattle.cells.specs.Key.{keyOf}
-use Rattle.slots.specs.Slot.{live, phaseAt}
-use Rattle.storage.specs.Packed.{first, second}
+use Rattle.basics.proofs.laws.Says.{d-eq}
+use Rattle.cells.specs.Meaning.Key.{keyOf}
+use Rattle.slots.specs.Meaning.Slot.{live, phaseAt}
+use Rattle.storage.specs.Meaning.Packed.{first, second}
 use Rattle.objects.specs.declared.State.{State}
 use Rattle.objects.specs.declared.Record.{Record}
-use Rattle.objects.specs.Columns.{numsOf, tagOf}
+use Rattle.objects.specs.Meaning.Columns.{numsOf, tagOf}
 use Rattle.objects.proofs.laws.ColumnLaws.{stored-same, stored-other}
-use Rattle.objects.specs.States.{withState}
-use Rattle.point_tables.specs.Tables.{Tables, slotsOf, recordOn}
-use Rattle.moves.specs.Moves.{pended}
-use Rattle.moves.specs.Ready.{Ready}
+use Rattle.objects.specs.Meaning.States.{withState}
+use Rattle.point_tables.specs.Meaning.Tables.{Tables, slotsOf, recordOn}
+use Rattle.moves.specs.Meaning.Moves.{pended}
+use Rattle.moves.specs.Inner.Ready.{Ready}
 use Rattle.moves.proofs.laws.ReadyLaws.{marked-is}
 
 module _ (t : Tables) (s : ℕ) (state : State) where

@@ -6,18 +6,18 @@ use native.Mathlib.Omega.{arith}
 use lib.Ieee.{Float}
 use lib.ListN.{set}
 use lib.Seq.{length-take-le, getD-take}
-use Rattle.cells.specs.Key.{keyOf}
-use Rattle.storage.specs.Keyed.{written}
-use Rattle.storage.specs.Entries.{rowKey}
-use Rattle.storage.specs.CellTable.{marked}
-use Rattle.storage.specs.Tables.{Rising}
-use Rattle.storage.specs.Packed.{first}
+use Rattle.cells.specs.Meaning.Key.{keyOf}
+use Rattle.storage.specs.Meaning.Keyed.{written}
+use Rattle.storage.specs.Meaning.Entries.{rowKey}
+use Rattle.storage.specs.Meaning.CellTable.{marked}
+use Rattle.storage.specs.Inner.Tables.{Rising}
+use Rattle.storage.specs.Meaning.Packed.{first}
 use Rattle.storage.proofs.laws.PackedLaws.{ascending-rising}
 use Rattle.storage.proofs.laws.CellTableLaws.{marked-set}
 use Rattle.storage.proofs.laws.PlaceLaws.{written-set}
-use Rattle.point_tables.specs.Tables.{Tables, tables, rowsOf, recordOn, cellRows}
-use Rattle.point_tables.specs.Holds.{Holds}
-use Rattle.moves.specs.Ready.{Ready}
+use Rattle.point_tables.specs.Meaning.Tables.{Tables, tables, rowsOf, recordOn, cellRows}
+use Rattle.point_tables.specs.Meaning.Holds.{Holds}
+use Rattle.moves.specs.Inner.Ready.{Ready}
 
 pub holds-ready : (t : Tables) → Holds t → Ready t
 holds-ready t h =

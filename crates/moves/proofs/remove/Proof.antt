@@ -3,10 +3,10 @@ use mathlib.Core.Path.{_≡_, sym, _∙_}
 use mathlib.Core.Bool.{true}
 use borrow.Author.Tests.{not-true, not-false}
 use borrow.Author.Needs.{needs}
-use Rattle.point_tables.specs.Tables.{Tables, tables}
-use Rattle.point_tables.specs.Decide.{holds, holds-says}
+use Rattle.point_tables.specs.Meaning.Tables.{Tables, tables}
+use Rattle.point_tables.specs.Meaning.Decide.{holds, holds-says}
 use Rattle.moves.proofs.laws.ReadyLaws.{holds-ready, ready-pool}
-use Rattle.moves.specs.Held.{poolless}
+use Rattle.moves.specs.Inner.Held.{poolless}
 use Rattle.moves.proofs.Shared.{remove-no-grid, remove-held}
 use Rattle.moves.proofs.remove.Statement.{statement}
 use Rattle.moves.proofs.remove.Tie as tie

@@ -4,9 +4,10 @@ use mathlib.Core.Path.{_≡_, sym, subst}
 use mathlib.Core.Bool.{Bool}
 use native.Mathlib.Omega.{arith}
 use borrow.Author.Needs.{needs}
-use Rattle.basics.specs.Says.{Says, says-yes, says-no, says-via}
-use Rattle.objects.specs.Columns.{stateOf}
-use Rattle.objects.specs.Occupied.{Agrees}
+use Rattle.basics.specs.Meaning.Says.{Says}
+use Rattle.basics.proofs.laws.Says.{says-yes, says-no, says-via}
+use Rattle.objects.specs.Meaning.Columns.{stateOf}
+use Rattle.objects.specs.Meaning.Occupied.{Agrees}
 use Rattle.objects.proofs.agrees.Statement.{statement}
 use Rattle.objects.proofs.agrees.Tie as tie
 

@@ -6,9 +6,9 @@ use mir.Syntax.{w32}
 use mir.Val.{toZ, ofZ}
 use borrow.Author.Tests.{not-true, not-false}
 use borrow.Author.Needs.{needs}
-use Rattle.basics.specs.Says.{says-no, says-via, apart}
+use Rattle.basics.proofs.laws.Says.{says-no, says-via, apart}
 use Rattle.cells.specs.declared.Cell.{Cell}
-use Rattle.cells.specs.Numbers.{cell-ext}
+use Rattle.cells.proofs.laws.Numbers.{cell-ext}
 use Rattle.objects.proofs.Shared.{back}
 use Rattle.objects.proofs.in_cell.Statement.{statement}
 use Rattle.objects.proofs.in_cell.Tie as tie

@@ -11,7 +11,7 @@ use Rattle.objects.specs.declared.State.the-variants.{Unchanged, NewPos,
 use Rattle.objects.specs.declared.Record.{Record}
 use Rattle.geometry.specs.declared.Position.{Position}
 use Rattle.cells.specs.declared.Cell.{Cell}
-use Rattle.objects.specs.Columns.{recordAt, recordOf, stateOf, tagOf, pendingOf, targetOf, numsOf, realsOf, intsOf}
+use Rattle.objects.specs.Meaning.Columns.{recordAt, recordOf, stateOf, tagOf, pendingOf, targetOf, numsOf, realsOf, intsOf}
 
 pub state-back : (s : State) (p : Position) (c : Cell) → stateOf (tagOf s) (pendingOf s p) (targetOf s c) ≡ s
 state-back Unchanged p c = refl

@@ -11,11 +11,13 @@ use lib.ListN.{getD, set, replicate, length-set, length-replicate, getD-replicat
 use lib.Seq.{getD-set-same, getD-set-other}
 use mir.Syntax.{w32}
 use mir.Val.{toZ, ofZ, hbits}
-use Rattle.basics.specs.Says.{Decided, d-eq}
-use Rattle.cells.specs.Key.{upward, downward, columnOf, cellOfKey}
-use Rattle.cells.specs.Span.{Spans}
+use Rattle.basics.specs.Meaning.Says.{Decided}
+use Rattle.basics.proofs.laws.Says.{d-eq}
+use Rattle.cells.specs.Meaning.Key.{upward}
+use Rattle.cells.specs.Inner.Key.{downward, columnOf, cellOfKey}
+use Rattle.cells.specs.Inner.Span.{Spans}
 use Rattle.cells.proofs.laws.KeyLaws.{upward-lt, downward-upward}
-use Rattle.objects.specs.Kept.{Kept}
+use Rattle.objects.specs.Inner.Kept.{Kept}
 use Rattle.objects.proofs.Shared.{back}
 
 -- ---- the span of a number

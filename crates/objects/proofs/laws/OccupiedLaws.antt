@@ -6,16 +6,17 @@ use lib.IntN.{ℤ}
 use lib.Ieee.{Float}
 use lib.ListN.{getD}
 use mathlib.Core.Logic.{inl, inr}
-use Rattle.basics.specs.Says.{Decided, said}
-use Rattle.basics.specs.Refusals.{pick}
+use Rattle.basics.specs.Meaning.Says.{Decided, said}
+use Rattle.basics.specs.Meaning.Refusals.{pick}
 use Rattle.geometry.specs.declared.Position.{Position}
 use Rattle.cells.specs.declared.Cell.{Cell}
-use Rattle.cells.specs.CellRule.{cellAt}
+use Rattle.cells.specs.Meaning.CellRule.{cellAt}
 use Rattle.objects.specs.declared.State.the-variants.{NewPos, Relocate}
-use Rattle.objects.specs.Columns.{pendingIn, recordOf}
-use Rattle.objects.specs.Occupied.{InDomain, Agrees, Occupied, InCell}
-use Rattle.objects.specs.Decide.{d-cell}
-use Rattle.objects.specs.States.{aimed}
+use Rattle.objects.specs.Meaning.Columns.{pendingIn, recordOf}
+use Rattle.objects.specs.Meaning.Occupied.{InDomain, Agrees, Occupied}
+use Rattle.objects.specs.Inner.Occupied.{InCell}
+use Rattle.objects.specs.Inner.Decide.{d-cell}
+use Rattle.objects.specs.Meaning.States.{aimed}
 
 pick-agrees : (size : ℕ) (c : Cell) (p : Position) → InDomain p → (x : Decided (cellAt size p ≡ c)) → Agrees size c (pick (said x) (NewPos p) (Relocate p (cellAt size p)))
 pick-agrees size c p d (inl e) = (d, e)

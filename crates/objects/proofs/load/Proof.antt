@@ -6,7 +6,7 @@ use lib.Ieee.{Float, nan}
 use lib.IntN.{pos}
 use Rattle.objects.specs.declared.State.{State}
 use Rattle.objects.specs.declared.Record.{Record}
-use Rattle.objects.specs.Columns.{recordOf, stateOf}
+use Rattle.objects.specs.Meaning.Columns.{recordOf, stateOf}
 use mathlib.Core.Path.{_≡_}
 use lib.IntN.{ℤ}
 use Rattle.objects.proofs.Shared.{back}

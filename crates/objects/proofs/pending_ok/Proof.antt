@@ -8,13 +8,13 @@ use lib.ListN.{getD}
 use mir.Syntax.{w32}
 use mir.Val.{toZ, ofZ}
 use borrow.Author.Needs.{needs}
-use Rattle.basics.specs.Says.{Says}
+use Rattle.basics.specs.Meaning.Says.{Says}
 use Rattle.geometry.specs.declared.Position.{Position}
 use Rattle.cells.specs.declared.Cell.{Cell}
-use Rattle.cells.specs.Span.{Spans}
-use Rattle.cells.specs.Numbers.{cell-ext}
-use Rattle.objects.specs.Columns.{recordOf, pendingIn, stateOf}
-use Rattle.objects.specs.Occupied.{Agrees}
+use Rattle.cells.specs.Inner.Span.{Spans}
+use Rattle.cells.proofs.laws.Numbers.{cell-ext}
+use Rattle.objects.specs.Meaning.Columns.{recordOf, pendingIn, stateOf}
+use Rattle.objects.specs.Meaning.Occupied.{Agrees}
 use Rattle.objects.proofs.Shared.{back}
 use Rattle.objects.proofs.pending_ok.Statement.{statement}
 use Rattle.objects.proofs.pending_ok.Tie as tie

@@ -1,9 +1,9 @@
 -- `objects::relocated` meets its contract. Assumes nothing.
 use mathlib.Core.Path.{sym, _∙_, subst}
 use lib.IntN.{ℤ}
-use Rattle.basics.specs.Says.{says-no, apart}
+use Rattle.basics.proofs.laws.Says.{says-no, apart}
 use borrow.Author.Needs.{needs}
-use Rattle.cells.specs.Span.{Spans}
+use Rattle.cells.specs.Inner.Span.{Spans}
 use Rattle.objects.proofs.laws.KeptLaws.{counted}
 use Rattle.objects.proofs.relocated.Statement.{statement}
 use Rattle.objects.proofs.relocated.Tie as tie

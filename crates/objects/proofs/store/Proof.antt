@@ -8,7 +8,7 @@ use lib.IntN.{ℤ}
 use Rattle.objects.specs.declared.Record.{Record}
 use Rattle.geometry.specs.declared.Position.{Position}
 use Rattle.cells.specs.declared.Cell.{Cell}
-use Rattle.objects.specs.Columns.{tagOf, pendingOf, targetOf, numsOf, realsOf, intsOf}
+use Rattle.objects.specs.Meaning.Columns.{tagOf, pendingOf, targetOf, numsOf, realsOf, intsOf}
 use Rattle.objects.proofs.Shared.{back}
 use borrow.Author.Needs.{needs}
 use Rattle.objects.proofs.store.Statement.{statement}

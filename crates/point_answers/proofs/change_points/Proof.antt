@@ -4,9 +4,9 @@ use mathlib.Core.Path.{_≡_, sym, ap, _∙_}
 use Rattle.slots.specs.declared.Handle.{Handle}
 use Rattle.lines.specs.declared.Spot.{Spot}
 use Rattle.lines.specs.declared.PointChange.{PointChange}
-use Rattle.point_tables.specs.Tables.{Tables}
-use Rattle.point_tables.specs.Lent.{lent}
-use Rattle.point_answers.specs.Changes.{changeOf}
+use Rattle.point_tables.specs.Meaning.Tables.{Tables}
+use Rattle.point_tables.specs.Meaning.Lent.{lent}
+use Rattle.point_answers.specs.Meaning.Changes.{changeOf}
 use borrow.Author.Needs.{needs}
 use Rattle.point_answers.proofs.change_points.Statement.{statement}
 use Rattle.point_answers.proofs.change_points.Tie as tie

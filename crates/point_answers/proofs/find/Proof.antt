@@ -5,9 +5,9 @@ use mathlib.Core.List.{List}
 use lib.Ieee.{Float}
 use Rattle.geometry.specs.declared.Position.{Position}
 use Rattle.lines.specs.declared.PointSearch.{PointSearch}
-use Rattle.point_tables.specs.Tables.{Tables}
-use Rattle.point_tables.specs.Lent.{lent}
-use Rattle.point_answers.specs.Searches.{findingsOf}
+use Rattle.point_tables.specs.Meaning.Tables.{Tables}
+use Rattle.point_tables.specs.Meaning.Lent.{lent}
+use Rattle.point_answers.specs.Meaning.Searches.{findingsOf}
 use borrow.Author.Needs.{needs}
 use Rattle.point_answers.proofs.find.Statement.{statement}
 use Rattle.point_answers.proofs.find.Tie as tie

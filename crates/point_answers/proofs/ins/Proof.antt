@@ -1,6 +1,6 @@
 -- `point_answers::ins` meets its contract. Assumes nothing.
 use Rattle.point_answers.proofs.laws.ChangeLaws.{inserted-said}
-use Rattle.point_tables.specs.Lent.{lent}
+use Rattle.point_tables.specs.Meaning.Lent.{lent}
 use borrow.Author.Needs.{needs}
 use Rattle.point_answers.proofs.ins.Statement.{statement}
 use Rattle.point_answers.proofs.ins.Tie as tie

@@ -2,18 +2,18 @@
 use Prim.Native.Nat.{ℕ}
 use mathlib.Core.Path.{_≡_, ap, _∙_}
 use Rattle.slots.specs.declared.Handle.{Handle}
-use Rattle.point_tables.specs.Tables.{Tables}
-use Rattle.point_tables.specs.Outcome.{Outcome, outcome}
+use Rattle.point_tables.specs.Meaning.Tables.{Tables}
+use Rattle.point_tables.specs.Meaning.Outcome.{Outcome, outcome}
 use Rattle.geometry.specs.declared.Position.{Position}
 use Rattle.replies.specs.declared.Inserted.{Inserted}
-use Rattle.inserts.specs.Insert.{insertOf}
+use Rattle.inserts.specs.Meaning.Insert.{insertOf}
 use Rattle.replies.specs.declared.Reply.{Reply}
-use Rattle.moves.specs.Moves.{setPositionOf}
-use Rattle.telling.specs.Places.{placeOf}
-use Rattle.telling.specs.Tells.{doneOr, twoOr}
+use Rattle.moves.specs.Meaning.Moves.{setPositionOf}
+use Rattle.telling.specs.Meaning.Places.{placeOf}
+use Rattle.telling.specs.Meaning.Tells.{doneOr, twoOr}
 use Rattle.printing.specs.declared.Said.{Said}
 use Rattle.lines.specs.declared.Spot.{Spot}
-use Rattle.point_answers.specs.Changes.{said, insertedOf, movedOf}
+use Rattle.point_answers.specs.Meaning.Changes.{said, insertedOf, movedOf}
 
 -- x is what the call told
 pub said-of : {R : Type 0} (tell : R → Said) {r : R} {u : Tables} {o : Outcome R} {x : Said} → x ≡ tell r → outcome r u ≡ o → outcome x u ≡ said tell o

@@ -5,16 +5,16 @@ use mathlib.Core.List.{List}
 use lib.Ieee.{Float}
 use lib.IntN.{ℤ}
 use Rattle.geometry.specs.declared.Position.{Position}
-use Rattle.point_tables.specs.Tables.{Tables}
+use Rattle.point_tables.specs.Meaning.Tables.{Tables}
 use Rattle.replies.specs.declared.Count.{Count}
-use Rattle.queries.specs.Queries.{findings}
-use Rattle.sixteenths.specs.Sixteenth.{sixteenth}
+use Rattle.queries.specs.Meaning.Queries.{findings}
+use Rattle.sixteenths.specs.Meaning.Sixteenth.{sixteenth}
 use Rattle.printing.specs.declared.Said.{Said}
 use Rattle.lines.specs.declared.Spot.{Spot}
 use Rattle.lines.specs.declared.PointSearch.{PointSearch}
-use Rattle.telling.specs.Places.{placeOf}
-use Rattle.telling.specs.Tells.{pointsOr}
-use Rattle.point_answers.specs.Searches.{searched, said, findingsOf, searchOf}
+use Rattle.telling.specs.Meaning.Places.{placeOf}
+use Rattle.telling.specs.Meaning.Tells.{pointsOr}
+use Rattle.point_answers.specs.Meaning.Searches.{searched, said, findingsOf, searchOf}
 
 -- x is what the query told, which was given the places and the radius that the record names
 pub searched-said : (t : Tables) (s : PointSearch) (p q : Spot) (k : ℤ) (h′ : List (List ℕ)) (l′ : List (List Float)) {x : Said} {c : Count} {h : List (List ℕ)} {l : List (List Float)} {a b : Position} {far : Float}

@@ -10,30 +10,31 @@ use lib.Ieee.{Float}
 use lib.IntN.{ℤ}
 use lib.ListN.{length, length-map}
 use borrow.Author.Tests.{eqb-true, leb-true}
-use Rattle.basics.specs.Refusals.{pick}
+use Rattle.basics.specs.Meaning.Limits.{mostCells}
+use Rattle.basics.specs.Meaning.Refusals.{pick}
 use Rattle.geometry.specs.declared.Position.{Position}
-use Rattle.geometry.specs.Domain.{positionInDomain, radiusInDomain}
-use Rattle.geometry.specs.Rectangle.{lowerCorner, upperCorner}
-use Rattle.geometry.specs.Circle.{cornerBelow, cornerAbove}
-use Rattle.cells.specs.CellRule.{cellAt}
-use Rattle.cells.specs.Range.{cellsIn}
-use Rattle.storage.specs.Keyed.{written}
+use Rattle.geometry.specs.Meaning.Domain.{positionInDomain, radiusInDomain}
+use Rattle.geometry.specs.Meaning.Rectangle.{lowerCorner, upperCorner}
+use Rattle.geometry.specs.Meaning.Circle.{cornerBelow, cornerAbove}
+use Rattle.cells.specs.Meaning.CellRule.{cellAt}
+use Rattle.cells.specs.Meaning.Range.{cellsIn}
+use Rattle.storage.specs.Meaning.Keyed.{written}
 use Rattle.storage.proofs.laws.WrittenLaws.{length-written}
-use Rattle.point_tables.specs.Tables.{Tables, sizeOf}
-use Rattle.point_tables.specs.Decide.{holds}
-use Rattle.inserts.specs.Insert.{insertOf}
-use Rattle.moves.specs.Moves.{setPositionOf, removeOf}
+use Rattle.point_tables.specs.Meaning.Tables.{Tables, sizeOf}
+use Rattle.point_tables.specs.Meaning.Decide.{holds}
+use Rattle.inserts.specs.Meaning.Insert.{insertOf}
+use Rattle.moves.specs.Meaning.Moves.{setPositionOf, removeOf}
 use Rattle.removals.specs.Meaning.RemoveMaintain.{removeMaintainOf}
-use Rattle.maintain.specs.Maintain.{maintainOf}
-use Rattle.sixteenths.specs.Sixteenth.{sixteenth}
-use Rattle.telling.specs.Places.{placeOf}
+use Rattle.maintain.specs.Meaning.Maintain.{maintainOf}
+use Rattle.sixteenths.specs.Meaning.Sixteenth.{sixteenth}
+use Rattle.telling.specs.Meaning.Places.{placeOf}
 use Rattle.queries.specs.declared.Test.{Test}
 use Rattle.queries.specs.declared.Test.the-variants.{Any, Circle, Rectangle}
-use Rattle.queries.specs.Queries as query
+use Rattle.queries.specs.Meaning.Queries as query
 use Rattle.printing.specs.declared.Said.{Said}
 use Rattle.printing.specs.declared.Said.the-variants.{Refused, Done, One, Two, Points}
-use Rattle.printing.specs.Said.{Told}
-use Rattle.replies.specs.Replies.{count}
+use Rattle.printing.specs.Inner.Said.{Told}
+use Rattle.replies.specs.Meaning.Replies.{count}
 use Rattle.slots.specs.declared.Handle.{Handle}
 use Rattle.lines.specs.declared.Spot.{Spot}
 use Rattle.lines.specs.declared.PointChange.{PointChange}
@@ -41,9 +42,9 @@ use Rattle.lines.specs.declared.PointChange.the-variants.{Ins, Pos, Rem, Now, M
 use Rattle.lines.specs.declared.PointSearch.{PointSearch}
 use Rattle.lines.specs.declared.PointSearch.the-variants.{Cir, Rec, Cel}
 use Rattle.telling.proofs.laws.RoomLaws.{had-room}
-use Rattle.telling.specs.Tells.{told-tells}
-use Rattle.point_answers.specs.Changes.{changeOf}
-use Rattle.point_answers.specs.Searches.{Searched, said, findingsOf, searchOf}
+use Rattle.telling.proofs.laws.Tells.{told-tells}
+use Rattle.point_answers.specs.Meaning.Changes.{changeOf}
+use Rattle.point_answers.specs.Meaning.Searches.{Searched, said, findingsOf, searchOf}
 
 -- what there is to tell is there: as many findings as the trace's grids can give, and all in the outputs
 abbrev pub IsTold : ℕ → Searched → Type 0
@@ -53,7 +54,7 @@ room-of : (t : Tables) (ok : Bool) (ll ur : Position) (test : Test) (room : ℕ)
 unfolding query.searchAnswer
 room-of t ok ll ur test room h =
     let n = length (query.found t ll ur test) in
-    leb-true n room (had-room (holds t) ok (leb (cellsIn (cellAt (sizeOf t) ll) (cellAt (sizeOf t) ur)) query.mostCells) (leb n room) h)
+    leb-true n room (had-room (holds t) ok (leb (cellsIn (cellAt (sizeOf t) ll) (cellAt (sizeOf t) ur)) mostCells) (leb n room) h)
 
 module _ (boxes : ℕ) (handles : List (List ℕ)) (places : List (List Float)) (few : length handles ≤ 256) where
   told-found : {A : Type 0} (es : List A) (f : A → List ℕ) (g : A → List Float) → length es ≤ min (length handles) (length places)

@@ -1,5 +1,5 @@
 -- `point_answers::mnt` meets its contract. Assumes nothing.
-use Rattle.telling.specs.Tells.{twoOr}
+use Rattle.telling.specs.Meaning.Tells.{twoOr}
 use Rattle.point_answers.proofs.laws.ChangeLaws.{said-of}
 use borrow.Author.Needs.{needs}
 use Rattle.point_answers.proofs.mnt.Statement.{statement}

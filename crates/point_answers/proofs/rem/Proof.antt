@@ -1,5 +1,5 @@
 -- `point_answers::rem` meets its contract. Assumes nothing.
-use Rattle.telling.specs.Tells.{oneOr}
+use Rattle.telling.specs.Meaning.Tells.{oneOr}
 use Rattle.point_answers.proofs.laws.ChangeLaws.{said-of}
 use borrow.Author.Needs.{needs}
 use Rattle.point_answers.proofs.rem.Statement.{statement}

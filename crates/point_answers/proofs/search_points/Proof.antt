@@ -2,8 +2,8 @@
 use mathlib.Core.Path.{ap, _∙_}
 use mir.Syntax.{w32}
 use mir.ValLaws.{toZ-ofZ}
-use Rattle.sixteenths.specs.Sixteenth.{sixteenth}
-use Rattle.point_tables.specs.Lent.{lent}
+use Rattle.sixteenths.specs.Meaning.Sixteenth.{sixteenth}
+use Rattle.point_tables.specs.Meaning.Lent.{lent}
 use Rattle.point_answers.proofs.laws.SearchLaws.{searched-said}
 use borrow.Author.Needs.{needs}
 use Rattle.point_answers.proofs.search_points.Statement.{statement}

@@ -4,11 +4,11 @@ use mathlib.Core.Path.{_≡_, refl, sym, _∙_, subst}
 use native.Mathlib.Omega.{arith}
 use lib.ListN.{length}
 use borrow.Author.Tests.{not-true, not-false}
-use Rattle.basics.specs.Says.{says-no, apart}
-use Rattle.pool_pass.specs.Pass as Pass
-use Rattle.pool_pass.specs.Pass.{Passes}
-use Rattle.point_tables.specs.Tables.{Tables, tables, sizeOf, usedOf, rowsOf, slotsOf, Sized}
-use Rattle.point_tables.specs.Check.{Counts, Listed}
+use Rattle.basics.proofs.laws.Says.{says-no, apart}
+use Rattle.pool_pass.specs.Inner.Pass
+use Rattle.pool_pass.specs.Inner.Pass.{Passes}
+use Rattle.point_tables.specs.Meaning.Tables.{Tables, tables, sizeOf, usedOf, rowsOf, slotsOf, Sized}
+use Rattle.point_tables.specs.Inner.Check.{Counts, Listed}
 use Rattle.point_tables.proofs.laws.CheckLaws.{CountsOf, PassesOf, pool-room, slot-room, listed, whole, counts-of, passes-of, slots-of}
 use Rattle.point_tables.proofs.Shared.{moved, named-all, said-holds}
 use borrow.Author.Needs.{needs}

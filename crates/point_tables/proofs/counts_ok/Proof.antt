@@ -2,7 +2,7 @@
 use mathlib.Core.Path.{sym, _∙_}
 use native.Mathlib.Omega.{arith}
 use borrow.Author.Tests.{leb-true, le-leb, not-true, not-false}
-use Rattle.basics.specs.Says.{says-no, apart}
+use Rattle.basics.proofs.laws.Says.{says-no, apart}
 use borrow.Author.Needs.{needs}
 use Rattle.point_tables.proofs.counts_ok.Statement.{statement}
 use Rattle.point_tables.proofs.counts_ok.Tie as tie

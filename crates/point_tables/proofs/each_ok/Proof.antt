@@ -6,8 +6,8 @@ use native.Mathlib.Omega.{arith}
 use lib.ListN.{length, getD}
 use borrow.Author.Count.{below-none, below-more}
 use borrow.Author.Tests.{not-true, not-false}
-use Rattle.basics.specs.Says.{says-yes, says-no, apart}
-use Rattle.point_tables.specs.Check.{SlotOk}
+use Rattle.basics.proofs.laws.Says.{says-yes, says-no, apart}
+use Rattle.point_tables.specs.Inner.Check.{SlotOk}
 use borrow.Author.Needs.{needs}
 use Rattle.point_tables.proofs.each_ok.Statement.{statement}
 use Rattle.point_tables.proofs.each_ok.Tie as tie

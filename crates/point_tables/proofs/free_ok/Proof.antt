@@ -6,8 +6,8 @@ use native.Mathlib.Omega.{arith}
 use lib.ListN.{length}
 use borrow.Author.Tests.{not-true, not-false}
 use borrow.Author.Needs.{needs}
-use Rattle.basics.specs.Says.{says-yes, says-no, apart, d-eq, d-lt}
-use Rattle.point_tables.specs.Check.{FreeAt}
+use Rattle.basics.proofs.laws.Says.{says-yes, says-no, apart, d-eq, d-lt}
+use Rattle.point_tables.specs.Inner.Check.{FreeAt}
 use Rattle.point_tables.proofs.free_ok.Statement.{statement}
 use Rattle.point_tables.proofs.free_ok.Tie as tie
 

@@ -10,21 +10,21 @@ use lib.Ieee.Scale.{finite}
 use lib.ListN.{length, getD}
 use borrow.Author.Tests.{eqb-true}
 use Rattle.geometry.specs.declared.Position.{Position}
-use Rattle.geometry.specs.Domain.{inDomain}
+use Rattle.geometry.specs.Meaning.Domain.{inDomain}
 use Rattle.geometry.proofs.laws.DomainLaws.{domain-finite, position-parts}
 use Rattle.cells.specs.declared.Cell.{Cell}
-use Rattle.cells.specs.Key.{keyOf}
-use Rattle.basics.specs.Counting.{named-count}
-use Rattle.slots.specs.Slot.{live, versionAt, phaseAt}
-use Rattle.storage.specs.Packed.{first, second}
+use Rattle.cells.specs.Meaning.Key.{keyOf}
+use Rattle.basics.proofs.laws.Counting.{named-count}
+use Rattle.slots.specs.Meaning.Slot.{live, versionAt, phaseAt}
+use Rattle.storage.specs.Meaning.Packed.{first, second}
 use Rattle.objects.specs.declared.State.the-variants.{Unchanged, NewPos, Relocate, Removed}
-use Rattle.objects.specs.Columns.{tagOf, stateOf, pickState}
-use Rattle.pool_pass.specs.Pass as Pass
-use Rattle.objects.specs.Listed.{listedAt}
-use Rattle.pool_pass.specs.Pass.{Fits, tagAt, Passes, Named}
-use Rattle.point_tables.specs.Tables.{Tables, sizeOf, usedOf, rowsOf, slotsOf, recordOn, Sized}
-use Rattle.point_tables.specs.Holds.{Counted, RecordHolds, EntryHolds, ListsHold, Pending, Holds}
-use Rattle.point_tables.specs.Check.{Counts, SlotsOk, Room, Listed}
+use Rattle.objects.specs.Meaning.Columns.{tagOf, stateOf, pickState}
+use Rattle.pool_pass.specs.Inner.Pass
+use Rattle.objects.specs.Inner.Listed.{listedAt}
+use Rattle.pool_pass.specs.Inner.Pass.{Fits, tagAt, Passes, Named}
+use Rattle.point_tables.specs.Meaning.Tables.{Tables, sizeOf, usedOf, rowsOf, slotsOf, recordOn, Sized}
+use Rattle.point_tables.specs.Meaning.Holds.{Counted, RecordHolds, EntryHolds, ListsHold, Pending, Holds}
+use Rattle.point_tables.specs.Inner.Check.{Counts, SlotsOk, Room, Listed}
 
 -- ---- a tag of 0 is that of a state that is unchanged, and no other is
 tag-pick : (b c d : Bool) (p : Position) (q : Cell) → tagOf (pickState b Unchanged (pickState c (NewPos p) (pickState d (Relocate p q) Removed))) ≡ 0 → b ≡ true

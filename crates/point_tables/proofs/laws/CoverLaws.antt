@@ -8,13 +8,14 @@ use native.Mathlib.Omega.{arith}
 use lib.Dec.{eqb}
 use lib.ListN.{length, getD}
 use borrow.Author.Tests.{eq-eqb, eqb-true, ne-eqb}
-use Rattle.basics.specs.Says.{apart, d-eq}
-use Rattle.basics.specs.Refusals.{pick}
-use Rattle.basics.specs.Counting.{one, countBelow}
-use Rattle.slots.specs.Map.{usable, usableBelow, NonePast}
+use Rattle.basics.proofs.laws.Says.{apart, d-eq}
+use Rattle.basics.specs.Meaning.Refusals.{pick}
+use Rattle.basics.specs.Inner.Counting.{one, countBelow}
+use Rattle.slots.specs.Meaning.Map.{usable}
+use Rattle.slots.specs.Inner.Map.{usableBelow, NonePast}
 use Rattle.slots.proofs.laws.MapLaws.{not-usable}
-use Rattle.slots.specs.Slot.{free, live, retired, lastVersion, versionAt, phaseAt, SlotHolds}
-use Rattle.point_tables.specs.Check.{SlotOk, EachOk, FreeAt, Listed}
+use Rattle.slots.specs.Meaning.Slot.{free, live, retired, lastVersion, versionAt, phaseAt, SlotHolds}
+use Rattle.point_tables.specs.Inner.Check.{SlotOk, EachOk, FreeAt, Listed}
 
 module _ (f g : ℕ → Bool) where
   at-most : (a b : Bool) → (a ≡ true → b ≡ true → ⊥) → one a + one b ≤ 1

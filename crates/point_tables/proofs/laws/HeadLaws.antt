@@ -5,9 +5,9 @@ use mathlib.Core.List.{List}
 use native.Mathlib.Omega.{arith}
 use lib.ListN.{length, getD, set, length-set}
 use lib.Seq.{getD-set-same, getD-set-other}
-use Rattle.slots.specs.Map.{head, usable}
-use Rattle.slots.specs.Slot.{SlotsHold}
-use Rattle.point_tables.specs.Tables.{counting}
+use Rattle.slots.specs.Meaning.Map.{head, usable}
+use Rattle.slots.specs.Meaning.Slot.{SlotsHold}
+use Rattle.point_tables.specs.Meaning.Tables.{counting}
 
 module _ (m : List ℕ) (used rows : ℕ) (h : head ≤ length m) where
   pub counted-used : getD (counting m used rows) 1 0 ≡ used

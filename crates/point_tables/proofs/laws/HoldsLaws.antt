@@ -5,13 +5,13 @@ use mathlib.Core.List.{map}
 use native.Mathlib.Omega.{arith}
 use lib.ListN.{length, take, length-map}
 use lib.Seq.{length-take-le}
-use Rattle.storage.specs.Keyed.{Sorted}
-use Rattle.storage.specs.Entries.{rowKey, rowOf, entryKey}
+use Rattle.storage.specs.Inner.Keyed.{Sorted}
+use Rattle.storage.specs.Meaning.Entries.{rowKey, rowOf, entryKey}
 use Rattle.storage.proofs.laws.ColumnLaws.{zipped-rows}
 use Rattle.storage.proofs.laws.PackedLaws.{ordered-sorted}
 use Rattle.storage.proofs.laws.KeepsLaws.{map-sorted}
-use Rattle.point_tables.specs.Tables.{Tables, usedOf, rowsOf, entriesIn, cellRows}
-use Rattle.point_tables.specs.Holds.{Holds}
+use Rattle.point_tables.specs.Meaning.Tables.{Tables, usedOf, rowsOf, entriesIn, cellRows}
+use Rattle.point_tables.specs.Meaning.Holds.{Holds}
 
 module _ (t : Tables) (h : Holds t) where
   -- ---- lengths

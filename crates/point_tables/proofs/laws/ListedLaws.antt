@@ -6,16 +6,17 @@ use mathlib.Core.List.{List}
 use native.Mathlib.Omega.{arith}
 use lib.Ieee.{nan}
 use lib.ListN.{length, getD, take}
-use Rattle.cells.specs.Key.{keyOf}
-use Rattle.slots.specs.Slot.{live, phaseAt}
-use Rattle.storage.specs.Keyed.{All}
-use Rattle.storage.specs.Entries.{Entry, rowKey, rowItem}
-use Rattle.storage.specs.FilterLaws.{all-map}
-use Rattle.point_tables.specs.Tables.{Tables, usedOf, rowsOf, slotsOf, recordOn, entriesIn, cellRows, slotOf}
-use Rattle.point_tables.specs.Holds.{ListsHold, Holds}
+use Rattle.cells.specs.Meaning.Key.{keyOf}
+use Rattle.slots.specs.Meaning.Slot.{live, phaseAt}
+use Rattle.storage.specs.Meaning.Keyed.{All}
+use Rattle.storage.specs.Meaning.Entries.{Entry, rowKey, rowItem}
+use Rattle.storage.proofs.laws.FilterLaws.{all-map}
+use Rattle.point_tables.specs.Meaning.Tables.{Tables, usedOf, rowsOf, slotsOf, recordOn, entriesIn, cellRows, slotOf}
+use Rattle.point_tables.specs.Meaning.Holds.{ListsHold, Holds}
 use Rattle.point_tables.proofs.laws.HoldsLaws.{used-in-pool, used-in-spots, rows-in-cells}
 use Rattle.point_tables.proofs.laws.Members.{Some, Pairs, some-at, some-of, pairs-at, pairs-of}
-use Rattle.point_tables.specs.EntryLaws.{entryAt, entries-length, entries-at, all-entries, entries-all, noEntry}
+use Rattle.point_tables.specs.Inner.Entry.{entryAt}
+use Rattle.point_tables.proofs.laws.EntryLaws.{entries-length, entries-at, all-entries, entries-all, noEntry}
 use Rattle.point_tables.proofs.laws.RowLaws.{PackedRows, to-rows}
 
 -- an entry names an occupied slot, under the key of its cell, with its recorded position

@@ -7,9 +7,11 @@ use native.Mathlib.Omega.{arith}
 use native.Mathlib.Nat.{not-suc-le-zero, le-of-suc-le-suc}
 use lib.Dec.{ltb}
 use lib.ListN.{length, getD}
-use Rattle.storage.specs.Keyed.{All, Sorted, filter, append1}
-use Rattle.storage.specs.FilterLaws.{by-test, all-map, all-at, all-of, filter-all}
-use Rattle.storage.specs.AppendLaws.{insert1, append1-is}
+use Rattle.storage.specs.Meaning.Keyed.{All, filter, append1}
+use Rattle.storage.specs.Inner.Keyed.{Sorted}
+use Rattle.storage.proofs.laws.FilterLaws.{by-test, all-map, all-at, all-of, filter-all}
+use Rattle.storage.specs.Inner.Append.{insert1}
+use Rattle.storage.proofs.laws.AppendLaws.{append1-is}
 
 abbrev pub Some : {A : Type 0} → (A → Type 0) → List A → Type 0
 Some P [] = ⊥

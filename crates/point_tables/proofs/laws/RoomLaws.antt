@@ -5,12 +5,13 @@ use mathlib.Core.Bool.{Bool, true, false}
 use mathlib.Core.Logic.{inl, inr}
 use native.Mathlib.Omega.{arith}
 use borrow.Author.Tests.{ne-eqb}
-use Rattle.basics.specs.Says.{d-eq}
-use Rattle.basics.specs.Counting.{one, countBelow}
-use Rattle.slots.specs.Slot.{live, phaseAt}
-use Rattle.point_tables.specs.Tables.{Tables, usedOf, slotsOf}
-use Rattle.point_tables.specs.Holds.{Holds}
-use Rattle.point_tables.specs.CountLaws.{isLive, live-count}
+use Rattle.basics.proofs.laws.Says.{d-eq}
+use Rattle.basics.specs.Inner.Counting.{one, countBelow}
+use Rattle.slots.specs.Meaning.Slot.{live, phaseAt}
+use Rattle.point_tables.specs.Meaning.Tables.{Tables, usedOf, slotsOf}
+use Rattle.point_tables.specs.Meaning.Holds.{Holds}
+use Rattle.point_tables.specs.Inner.Count.{isLive}
+use Rattle.point_tables.proofs.laws.CountLaws.{live-count}
 
 pub one-most : (b : Bool) → one b ≤ 1
 one-most true = omega arith

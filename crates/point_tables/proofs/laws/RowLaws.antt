@@ -6,12 +6,13 @@ use mathlib.Core.List.{List, [], _∷_}
 use native.Mathlib.Omega.{arith}
 use lib.ListN.{length, take, drop, length-append}
 use lib.Seq.{take-append-seam}
-use Rattle.storage.specs.Keyed.{All, Sorted, under, written}
-use Rattle.storage.specs.Entries.{rowKey, rowItem}
-use Rattle.storage.specs.Packed.{first, Packed}
-use Rattle.storage.specs.Store.{Filled}
-use Rattle.storage.specs.Tables.{Rising}
-use Rattle.storage.specs.FilterLaws.{all-map, all-both}
+use Rattle.storage.specs.Meaning.Keyed.{All, under, written}
+use Rattle.storage.specs.Inner.Keyed.{Sorted}
+use Rattle.storage.specs.Meaning.Entries.{rowKey, rowItem}
+use Rattle.storage.specs.Meaning.Packed.{first, Packed}
+use Rattle.storage.specs.Inner.Store.{Filled}
+use Rattle.storage.specs.Inner.Tables.{Rising}
+use Rattle.storage.proofs.laws.FilterLaws.{all-map, all-both}
 use Rattle.storage.proofs.laws.TableLaws.{rising-sorted}
 use Rattle.storage.proofs.laws.PackedLaws.{ordered-sorted, sorted-ordered, ascending-rising, rising-ascending, all-first, first-all, place-filled, filled-first}
 use Rattle.point_tables.proofs.laws.Members.{Pairs}

@@ -4,7 +4,7 @@ use mathlib.Core.Path.{_≡_, ap, _∙_}
 use native.Mathlib.Omega.{arith}
 use lib.ListN.{getD}
 use borrow.Author.Needs.{needs}
-use Rattle.slots.specs.Map.{head, bit}
+use Rattle.slots.specs.Meaning.Map.{head, bit}
 use Rattle.slots.proofs.laws.BitLaws.{bit-of-zero}
 use Rattle.point_tables.proofs.next_after.Statement.{statement}
 use Rattle.point_tables.proofs.next_after.Tie as tie

@@ -5,8 +5,9 @@ use lib.ListN.{length}
 use native.Mathlib.Omega.{arith}
 use borrow.Author.Tests.{not-true, not-false}
 use borrow.Author.Needs.{needs}
-use Rattle.basics.specs.Says.{says-no, apart}
-use Rattle.slots.specs.Map.{wordsFor, NonePast}
+use Rattle.basics.proofs.laws.Says.{says-no, apart}
+use Rattle.slots.specs.Meaning.Map.{wordsFor}
+use Rattle.slots.specs.Inner.Map.{NonePast}
 use Rattle.slots.proofs.laws.CountLaws.{usable-most, usable-of-n}
 use Rattle.point_tables.proofs.laws.CoverLaws.{each-of, each-free}
 use Rattle.point_tables.proofs.slots_ok.Statement.{statement}

@@ -6,13 +6,15 @@ use native.Mathlib.Omega.{arith}
 use lib.ListN.{getD}
 use borrow.Author.Tests.{not-true, not-false}
 use borrow.Author.Needs.{needs}
-use Rattle.basics.specs.Says.{Says, says-yes, says-no, apart}
+use Rattle.basics.specs.Meaning.Says.{Says}
+use Rattle.basics.proofs.laws.Says.{says-yes, says-no, apart}
 use Rattle.cells.specs.declared.Cell.{Cell}
-use Rattle.cells.specs.Span.{Spans}
-use Rattle.objects.specs.Columns.{recordAt, pendingIn}
-use Rattle.objects.specs.Occupied.{Agrees, InCell}
+use Rattle.cells.specs.Inner.Span.{Spans}
+use Rattle.objects.specs.Meaning.Columns.{recordAt, pendingIn}
+use Rattle.objects.specs.Meaning.Occupied.{Agrees}
+use Rattle.objects.specs.Inner.Occupied.{InCell}
 use Rattle.objects.proofs.laws.OccupiedLaws.{to-occupied, of-occupied}
-use Rattle.pool_pass.specs.Pass.{tagAt, Right}
+use Rattle.pool_pass.specs.Inner.Pass.{tagAt, Right}
 use Rattle.pool_pass.proofs.entry_ok.Statement.{statement}
 use Rattle.pool_pass.proofs.entry_ok.Tie as tie
 

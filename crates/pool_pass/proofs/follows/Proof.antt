@@ -2,7 +2,7 @@
 use native.Mathlib.Omega.{arith}
 use borrow.Author.Tests.{leb-true, le-leb}
 use borrow.Author.Needs.{needs}
-use Rattle.basics.specs.Says.{says-no}
+use Rattle.basics.proofs.laws.Says.{says-no}
 use Rattle.pool_pass.proofs.follows.Statement.{statement}
 use Rattle.pool_pass.proofs.follows.Tie as tie
 

@@ -8,9 +8,9 @@ use native.Mathlib.Omega.{arith}
 use lib.ListN.{length, getD, set, replicate}
 use lib.Seq.{getD-set-same}
 use borrow.Author.Count.{below-none, below-more}
-use Rattle.basics.specs.Says.{apart}
-use Rattle.storage.specs.Packed.{second}
-use Rattle.pool_pass.specs.Pass.{Named}
+use Rattle.basics.proofs.laws.Says.{apart}
+use Rattle.storage.specs.Meaning.Packed.{second}
+use Rattle.pool_pass.specs.Inner.Pass.{Named}
 
 none-set : (n m : ℕ) → getD (replicate n false) m false ≡ false
 none-set zero m = refl

@@ -11,9 +11,10 @@ use lib.IntN.{ℤ}
 use lib.Ieee.{Float}
 use borrow.Author.Count.{below-none, below-more}
 use borrow.Author.Tests.{ltb-true, ltb-false}
-use Rattle.storage.specs.Packed.{first, second, Packed}
-use Rattle.objects.specs.Listed.{listedAt}
-use Rattle.pool_pass.specs.Pass.{Fits, Step, stays, steps, Marked, Whole, Turn, Passes}
+use Rattle.storage.specs.Meaning.Packed.{first, second, Packed}
+use Rattle.objects.specs.Inner.Listed.{listedAt}
+use Rattle.pool_pass.specs.Inner.Pass.{Fits, Marked, Whole, Passes}
+use Rattle.pool_pass.proofs.laws.Pass.{Step, stays, steps, Turn}
 
 pub below-or : (i j : ℕ) → (i < j) ⊎ (j ≤ i)
 below-or i j = go (ltb i j) refl

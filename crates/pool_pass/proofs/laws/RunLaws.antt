@@ -9,14 +9,17 @@ use lib.IntN.{ℤ, pos, negsuc}
 use lib.Signed.{mag}
 use lib.Ieee.{Float}
 use Rattle.cells.specs.declared.Cell.{Cell}
-use Rattle.cells.specs.Numbers.{Near, near-fits}
-use Rattle.cells.specs.CellRuleLaws.{cell-near}
-use Rattle.cells.specs.ReachLaws.{position-reached}
-use Rattle.cells.specs.Key.{upward, keyOf, cellOfKey}
+use Rattle.cells.specs.Inner.Numbers.{Near}
+use Rattle.cells.proofs.laws.Numbers.{near-fits}
+use Rattle.cells.proofs.laws.CellRuleLaws.{cell-near}
+use Rattle.cells.proofs.laws.ReachLaws.{position-reached}
+use Rattle.cells.specs.Meaning.Key.{upward, keyOf}
+use Rattle.cells.specs.Inner.Key.{cellOfKey}
 use Rattle.cells.proofs.laws.KeyLaws.{cell-key, key-cell}
-use Rattle.storage.specs.Packed.{first, second}
-use Rattle.objects.specs.Columns.{recordAt}
-use Rattle.pool_pass.specs.Pass.{Step, stays, steps, Marked, Whole, Right, Here, Run, Turn, Passes}
+use Rattle.storage.specs.Meaning.Packed.{first, second}
+use Rattle.objects.specs.Meaning.Columns.{recordAt}
+use Rattle.pool_pass.proofs.laws.Pass.{Step, stays, steps, Turn}
+use Rattle.pool_pass.specs.Inner.Pass.{Marked, Whole, Right, Here, Run, Passes}
 use Rattle.pool_pass.proofs.laws.PassLaws.{below-or, Met, met-next, met-short, Passed, passed-more}
 
 -- ---- the key of a cell near 0 is not 0

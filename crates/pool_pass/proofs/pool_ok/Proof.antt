@@ -12,16 +12,16 @@ use lib.Signed.{mag}
 use lib.Ieee.{Float}
 use lib.ListN.{length, length-replicate}
 use borrow.Author.Tests.{eqb-true, eq-eqb, not-true, not-false}
-use Rattle.basics.specs.Says.{says-no, apart}
+use Rattle.basics.proofs.laws.Says.{says-no, apart}
 use Rattle.cells.specs.declared.Cell.{Cell}
-use Rattle.cells.specs.Size.{SizeInDomain}
-use Rattle.cells.specs.Key.{downward, lineOf, cellOfKey}
-use Rattle.cells.specs.Span.{Spans}
+use Rattle.cells.specs.Meaning.Size.{SizeInDomain}
+use Rattle.cells.specs.Inner.Key.{downward, lineOf, cellOfKey}
+use Rattle.cells.specs.Inner.Span.{Spans}
 use Rattle.cells.proofs.laws.SpanLaws.{no-span}
-use Rattle.storage.specs.Packed.{first, second}
-use Rattle.objects.specs.Kept.{Kept}
+use Rattle.storage.specs.Meaning.Packed.{first, second}
+use Rattle.objects.specs.Inner.Kept.{Kept}
 use Rattle.objects.proofs.laws.KeptLaws.{kept-same, counted}
-use Rattle.pool_pass.specs.Pass.{Here, Passes, Named}
+use Rattle.pool_pass.specs.Inner.Pass.{Here, Passes, Named}
 use Rattle.pool_pass.proofs.laws.MarkLaws.{named-none}
 use Rattle.pool_pass.proofs.laws.PassLaws.{below-or, Passed, passed-none, passed-all}
 use Rattle.pool_pass.proofs.laws.RunLaws.{passed-run, row-some, next-row, next-entry}

@@ -9,16 +9,17 @@ use lib.IntN.{ℤ}
 use lib.ListN.{length, length-set}
 use borrow.Author.Tests.{not-true, not-false}
 use borrow.Author.Needs.{needs}
-use Rattle.basics.specs.Says.{Says, apart}
+use Rattle.basics.specs.Meaning.Says.{Says}
+use Rattle.basics.proofs.laws.Says.{apart}
 use Rattle.cells.specs.declared.Cell.{Cell}
-use Rattle.cells.specs.Key.{cellOfKey}
-use Rattle.cells.specs.Span.{Spans}
-use Rattle.storage.specs.Packed.{second}
+use Rattle.cells.specs.Inner.Key.{cellOfKey}
+use Rattle.cells.specs.Inner.Span.{Spans}
+use Rattle.storage.specs.Meaning.Packed.{second}
 use Rattle.objects.specs.declared.Entry.{Entry}
-use Rattle.objects.specs.Listed.{listedAt}
-use Rattle.objects.specs.Kept.{Kept}
+use Rattle.objects.specs.Inner.Listed.{listedAt}
+use Rattle.objects.specs.Inner.Kept.{Kept}
 use Rattle.objects.proofs.laws.KeptLaws.{column-of}
-use Rattle.pool_pass.specs.Pass.{Right, Here, Run, Named}
+use Rattle.pool_pass.specs.Inner.Pass.{Right, Here, Run, Named}
 use Rattle.pool_pass.proofs.laws.MarkLaws.{named-more, named-new}
 use Rattle.pool_pass.proofs.laws.PassLaws.{below-or}
 use Rattle.pool_pass.proofs.run_end.Statement.{statement}

@@ -7,9 +7,9 @@ use lib.Ieee.Casts.{toSigned-in}
 use lib.ListN.{length}
 use mir.Syntax.{w32}
 use mir.Val.{SFits}
-use Rattle.decimals.specs.Text.{signedText}
+use Rattle.decimals.specs.Meaning.Text.{signedText}
 use Rattle.decimals.proofs.laws.TextLaws.{number-length}
-use Rattle.sixteenths.specs.Sixteenth.{sixteenthsOf}
+use Rattle.sixteenths.specs.Meaning.Sixteenth.{sixteenthsOf}
 
 pub count-fits : (x : Float) → SFits w32 (sixteenthsOf x)
 unfolding sixteenthsOf

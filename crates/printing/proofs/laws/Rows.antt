@@ -3,11 +3,11 @@ use mathlib.Core.Path.{_≡_, refl}
 use mathlib.Core.List.{[], _∷_}
 use lib.IntN.{pos, negsuc}
 use native.Mathlib.Omega.{arith}
-use Rattle.sixteenths.specs.Sixteenth.{sixteenth}
+use Rattle.sixteenths.specs.Meaning.Sixteenth.{sixteenth}
 use Rattle.sixteenths.proofs.laws.SixteenthLaws.{count-back}
-use Rattle.decimals.specs.Text.{decimal, signedText}
+use Rattle.decimals.specs.Meaning.Text.{decimal, signedText}
 use Rattle.printing.specs.declared.Said.the-variants.{Refused, One, Two, Points}
-use Rattle.printing.specs.Said.{recordText}
+use Rattle.printing.specs.Meaning.Said.{recordText}
 
 -- 5
 refused : recordText (Refused 5) [] [] [] ≡ 53 ∷ 13 ∷ 10 ∷ []

@@ -3,10 +3,11 @@ use Prim.Native.Nat.{ℕ, _≤_}
 use mathlib.Core.Path.{_≡_, sym, ap, _∙_, subst}
 use mathlib.Core.List.{List, _++_, append-assoc}
 use lib.Ieee.{Float}
-use Rattle.decimals.specs.Text.{decimal}
+use Rattle.decimals.specs.Meaning.Text.{decimal}
 use Rattle.printing.specs.declared.Said.{Said}
 use Rattle.printing.specs.declared.Said.the-variants.{Refused, Done, One, Two, Points, Boxes}
-use Rattle.printing.specs.Said.{numberField, pointsText, boxesText, saidText, Told}
+use Rattle.printing.specs.Meaning.Said.{numberField, pointsText, boxesText, saidText}
+use Rattle.printing.specs.Inner.Said.{Told}
 
 module _ {said : Said} (handles : List (List ℕ)) (places boxes : List (List Float)) where
   text-of : {s : Said} → said ≡ s → saidText s handles places boxes ≡ saidText said handles places boxes

@@ -9,10 +9,10 @@ use mir.Syntax.{w32}
 use mir.Val.{SFits, toZ, ofZ}
 use mir.ValLaws.{toZ-ofZ}
 use Rattle.decimals.proofs.laws.WrittenLaws.{next-is}
-use Rattle.decimals.specs.Text.{signedText}
-use Rattle.sixteenths.specs.Sixteenth.{sixteenthsOf}
+use Rattle.decimals.specs.Meaning.Text.{signedText}
+use Rattle.sixteenths.specs.Meaning.Sixteenth.{sixteenthsOf}
 use Rattle.printing.proofs.laws.Lengths.{count-fits, coordinate-length}
-use Rattle.printing.specs.Puts.{puts-is, puts-then, puts-as}
+use Rattle.printing.proofs.laws.Puts.{puts-is, puts-then, puts-as}
 use borrow.Author.Needs.{needs}
 use Rattle.printing.proofs.put_coordinate.Statement.{statement}
 use Rattle.printing.proofs.put_coordinate.Tie as tie

@@ -1,6 +1,6 @@
 -- `printing::put_corners` meets its contract. Assumes nothing.
 use native.Mathlib.Omega.{arith}
-use Rattle.printing.specs.Puts.{puts-then}
+use Rattle.printing.proofs.laws.Puts.{puts-then}
 use borrow.Author.Needs.{needs}
 use Rattle.printing.proofs.put_corners.Statement.{statement}
 use Rattle.printing.proofs.put_corners.Tie as tie

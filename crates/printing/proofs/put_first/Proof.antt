@@ -1,7 +1,7 @@
 -- `printing::put_first` meets its contract: the text has at most 10 digits. Assumes nothing.
 use native.Mathlib.Omega.{arith}
 use Rattle.decimals.proofs.laws.TextLaws.{number-length}
-use Rattle.printing.specs.Puts.{puts-is}
+use Rattle.printing.proofs.laws.Puts.{puts-is}
 use borrow.Author.Needs.{needs}
 use Rattle.printing.proofs.put_first.Statement.{statement}
 use Rattle.printing.proofs.put_first.Tie as tie

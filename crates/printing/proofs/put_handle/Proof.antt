@@ -1,6 +1,6 @@
 -- `printing::put_handle` meets its contract. Assumes nothing.
 use native.Mathlib.Omega.{arith}
-use Rattle.printing.specs.Puts.{puts-then}
+use Rattle.printing.proofs.laws.Puts.{puts-then}
 use borrow.Author.Needs.{needs}
 use Rattle.printing.proofs.put_handle.Statement.{statement}
 use Rattle.printing.proofs.put_handle.Tie as tie

@@ -3,7 +3,7 @@ use mathlib.Core.List.{[], _∷_}
 use native.Mathlib.Omega.{arith}
 use Rattle.decimals.proofs.laws.TextLaws.{number-length}
 use Rattle.decimals.proofs.laws.WrittenLaws.{next-is}
-use Rattle.printing.specs.Puts.{puts-is, puts-then}
+use Rattle.printing.proofs.laws.Puts.{puts-is, puts-then}
 use borrow.Author.Needs.{needs}
 use Rattle.printing.proofs.put_number.Statement.{statement}
 use Rattle.printing.proofs.put_number.Tie as tie

@@ -3,8 +3,9 @@ use Prim.Native.Nat.{_*_, _-_, _≤_}
 use mathlib.Core.Path.{_≡_, sym, ap}
 use native.Mathlib.Numerals.{add-one}
 use native.Mathlib.Omega.{arith}
-use Rattle.printing.specs.Said.{pointsText}
-use Rattle.printing.specs.Puts.{Puts, puts-none, puts-length, puts-then, puts-as}
+use Rattle.printing.specs.Meaning.Said.{pointsText}
+use Rattle.printing.specs.Inner.Puts.{Puts}
+use Rattle.printing.proofs.laws.Puts.{puts-none, puts-length, puts-then, puts-as}
 use Rattle.printing.proofs.put_points.Statement.{statement}
 use Rattle.printing.proofs.put_points.Tie as tie
 

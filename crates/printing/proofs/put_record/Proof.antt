@@ -1,8 +1,8 @@
 -- `printing::put_record` meets its contract. Assumes nothing.
 use mathlib.Core.Path.{refl}
 use native.Mathlib.Omega.{arith}
-use Rattle.printing.specs.Said.{recordText}
-use Rattle.printing.specs.Puts.{puts-is, puts-then, puts-as}
+use Rattle.printing.specs.Meaning.Said.{recordText}
+use Rattle.printing.proofs.laws.Puts.{puts-is, puts-then, puts-as}
 use borrow.Author.Needs.{needs}
 use Rattle.printing.proofs.put_record.Statement.{statement}
 use Rattle.printing.proofs.put_record.Tie as tie

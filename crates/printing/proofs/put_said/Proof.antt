@@ -2,7 +2,7 @@
 use native.Mathlib.Omega.{arith}
 use lib.ListN.{length}
 use Rattle.printing.proofs.laws.SaidLaws.{refused-text, done-text, one-text, two-text, points-text, boxes-text, points-told, boxes-told}
-use Rattle.printing.specs.Puts.{puts-then, puts-as}
+use Rattle.printing.proofs.laws.Puts.{puts-then, puts-as}
 use borrow.Author.Needs.{needs}
 use Rattle.printing.proofs.put_said.Statement.{statement}
 use Rattle.printing.proofs.put_said.Tie as tie

@@ -9,19 +9,20 @@ use native.Mathlib.Numerals.{add-one}
 use lib.ListN.{length, getD, set, take, length-append, length-take}
 use lib.Seq.{length-take-le, take-suc}
 use Rattle.cells.specs.declared.Cell.{Cell}
-use Rattle.cells.specs.Numbers.{Near}
-use Rattle.cells.specs.Key.{keyOf, columnOf, lineOf}
+use Rattle.cells.specs.Inner.Numbers.{Near}
+use Rattle.cells.specs.Meaning.Key.{keyOf}
+use Rattle.cells.specs.Inner.Key.{columnOf, lineOf}
 use Rattle.storage.specs.declared.Run.{Run}
-use Rattle.storage.specs.Keyed.{written}
-use Rattle.storage.specs.Run.{NextRun}
-use Rattle.storage.specs.FilterLaws.{all-map}
+use Rattle.storage.specs.Meaning.Keyed.{written}
+use Rattle.storage.specs.Inner.Run.{NextRun}
+use Rattle.storage.proofs.laws.FilterLaws.{all-map}
 use Rattle.storage.proofs.laws.WrittenLaws.{length-written, written-next}
 use Rattle.storage.proofs.laws.KeepsLaws.{written-take}
 use Rattle.storage.proofs.laws.PlaceLaws.{written-same}
 use Rattle.storage.proofs.laws.RunLaws.{run-onward}
 use Rattle.queries.specs.declared.Test.{Test}
-use Rattle.queries.specs.Places.{placesIn, spotPasses, placesOf}
-use Rattle.queries.specs.Begun.{Gathered, Begun}
+use Rattle.queries.specs.Inner.Places.{placesIn, spotPasses, placesOf}
+use Rattle.queries.specs.Inner.Begun.{Gathered, Begun}
 use Rattle.queries.proofs.laws.PlacesLaws.{places-append, places-length}
 use Rattle.queries.proofs.laws.StretchLaws.{places-most, places-run}
 use Rattle.queries.proofs.laws.FillLaws.{places-used, array-each}

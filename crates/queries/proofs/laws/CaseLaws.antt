@@ -10,20 +10,20 @@ use lib.Dec.{leb}
 use lib.Ieee.{Float, ofBits, lt, le, eq, fits}
 use lib.ListN.{length}
 use borrow.Author.Tests.{leb-true, leb-false}
-use Rattle.basics.specs.Limits.{mostCells}
+use Rattle.basics.specs.Meaning.Limits.{mostCells}
 use Rattle.geometry.specs.declared.Position.{Position}
-use Rattle.geometry.specs.Domain.{positionInDomain}
-use Rattle.cells.specs.CellRule.{cellOf, cellAt}
-use Rattle.cells.specs.Range.{cellsIn}
-use Rattle.storage.specs.FilterLaws.{by-test}
-use Rattle.point_tables.specs.Tables.{Tables, sizeOf}
-use Rattle.point_tables.specs.Decide.{holds}
+use Rattle.geometry.specs.Meaning.Domain.{positionInDomain}
+use Rattle.cells.specs.Meaning.CellRule.{cellOf, cellAt}
+use Rattle.cells.specs.Meaning.Range.{cellsIn}
+use Rattle.storage.proofs.laws.FilterLaws.{by-test}
+use Rattle.point_tables.specs.Meaning.Tables.{Tables, sizeOf}
+use Rattle.point_tables.specs.Meaning.Decide.{holds}
 use Rattle.queries.specs.declared.Test.the-variants.{Any}
-use Rattle.queries.specs.Queries.{Findings, findings, found, searchOf, queryOf}
-use Rattle.queries.specs.Cases.{origin, square, wider}
+use Rattle.queries.specs.Meaning.Queries.{Findings, findings, found, searchOf, queryOf}
+use Rattle.queries.specs.Inner.Cases.{origin, square, wider}
 use Rattle.queries.proofs.laws.FindLaws.{search-7, search-9, search-0}
 use Rattle.queries.proofs.laws.CornerLaws.{query-is}
-use Rattle.replies.specs.Replies.{count}
+use Rattle.replies.specs.Meaning.Replies.{count}
 
 -- the cells from (0, 0) to a corner, at a cell size
 abbrev cellsTo : ℕ → Position → ℕ

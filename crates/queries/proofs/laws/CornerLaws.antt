@@ -6,17 +6,17 @@ use mathlib.Core.List.{List}
 use Prim.Native.Nat.{ℕ}
 use lib.Dec.{T}
 use lib.Ieee.{Float}
-use Rattle.basics.specs.Says.{both-true, says-t}
+use Rattle.basics.proofs.laws.Says.{both-true, says-t}
 use Rattle.geometry.specs.declared.Position.{Position}
-use Rattle.geometry.specs.Domain.{positionInDomain, radiusInDomain}
-use Rattle.geometry.specs.Rectangle.{lowerCorner, upperCorner}
+use Rattle.geometry.specs.Meaning.Domain.{positionInDomain, radiusInDomain}
+use Rattle.geometry.specs.Meaning.Rectangle.{lowerCorner, upperCorner}
 use Rattle.geometry.proofs.laws.RectangleLaws.{lower-in-domain, upper-in-domain}
-use Rattle.geometry.specs.Circle.{cornerBelow, cornerAbove}
-use Rattle.cells.specs.CellRule.{Reached}
-use Rattle.cells.specs.ReachLaws.{position-reached, low-reached, high-reached}
-use Rattle.point_tables.specs.Tables.{Tables}
+use Rattle.geometry.specs.Meaning.Circle.{cornerBelow, cornerAbove}
+use Rattle.cells.specs.Inner.CellRule.{Reached}
+use Rattle.cells.proofs.laws.ReachLaws.{position-reached, low-reached, high-reached}
+use Rattle.point_tables.specs.Meaning.Tables.{Tables}
 use Rattle.queries.specs.declared.Test.the-variants.{Any, Circle, Rectangle}
-use Rattle.queries.specs.Queries.{Findings, searchOf, queryOf, aroundOf, aabbOf}
+use Rattle.queries.specs.Meaning.Queries.{Findings, searchOf, queryOf, aroundOf, aabbOf}
 
 -- both of two tests that were run
 both : (p q u v : Bool) → p ≡ u → q ≡ v → (p && q) ≡ true → T u × T v

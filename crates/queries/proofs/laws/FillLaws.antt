@@ -8,25 +8,26 @@ use lib.Dec.{leb}
 use lib.Ieee.{Float}
 use lib.ListN.{length, getD, take, drop, length-map, List·getD-append}
 use borrow.Author.Tests.{leb-true, leb-false, le-leb, lt-leb}
-use Rattle.basics.specs.Limits.{mostCells}
+use Rattle.basics.specs.Meaning.Limits.{mostCells}
 use Rattle.geometry.specs.declared.Position.{Position}
 use Rattle.cells.specs.declared.Cell.{Cell}
-use Rattle.cells.specs.CellRule.{cellAt, Reached}
-use Rattle.cells.specs.Range.{cellsIn}
-use Rattle.storage.specs.Keyed.{All, written}
-use Rattle.storage.specs.FilterLaws.{by-test, all-map, all-at}
-use Rattle.point_tables.specs.Tables.{Tables, sizeOf, usedOf}
-use Rattle.point_tables.specs.Holds.{Holds}
-use Rattle.point_tables.specs.Decide.{holds, holds-says}
+use Rattle.cells.specs.Meaning.CellRule.{cellAt}
+use Rattle.cells.specs.Inner.CellRule.{Reached}
+use Rattle.cells.specs.Meaning.Range.{cellsIn}
+use Rattle.storage.specs.Meaning.Keyed.{All, written}
+use Rattle.storage.proofs.laws.FilterLaws.{by-test, all-map, all-at}
+use Rattle.point_tables.specs.Meaning.Tables.{Tables, sizeOf, usedOf}
+use Rattle.point_tables.specs.Meaning.Holds.{Holds}
+use Rattle.point_tables.specs.Meaning.Decide.{holds, holds-says}
 use Rattle.queries.specs.declared.Test.{Test}
-use Rattle.queries.specs.Queries.{Findings, findings, handleRow, placeRow, found, searchOf}
-use Rattle.queries.specs.Places.{wantedAt, placesOf}
+use Rattle.queries.specs.Meaning.Queries.{Findings, findings, handleRow, placeRow, found, searchOf}
+use Rattle.queries.specs.Inner.Places.{wantedAt, placesOf}
 use Rattle.queries.proofs.laws.PlacesLaws.{places-inside}
-use Rattle.queries.specs.Fill.{handleAt, placeAt, filled, Stocked, Findable}
+use Rattle.queries.specs.Inner.Fill.{handleAt, placeAt, filled, Stocked, Findable}
 use Rattle.queries.proofs.laws.FoundLaws.{in-pool, in-spots, rows-sorted, found-places}
 use Rattle.queries.proofs.laws.FindLaws.{search-9, search-0}
-use Rattle.replies.specs.Replies.{count}
-use Rattle.point_tables.specs.EntryLaws.{entryAt}
+use Rattle.replies.specs.Meaning.Replies.{count}
+use Rattle.point_tables.specs.Inner.Entry.{entryAt}
 
 module _ (nums pool : List (List ℕ)) (spots : List (List Float)) (js : List ℕ) (handles : List (List ℕ)) (places : List (List Float)) where
   pub filled-0 : length js ≤ min (length handles) (length places)

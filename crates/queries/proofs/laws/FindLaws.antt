@@ -6,16 +6,16 @@ use mathlib.Core.List.{List, map}
 use lib.Ieee.{Float}
 use lib.ListN.{length}
 use borrow.Author.Tests.{le-leb, lt-leb}
-use Rattle.basics.specs.Limits.{mostCells}
+use Rattle.basics.specs.Meaning.Limits.{mostCells}
 use Rattle.geometry.specs.declared.Position.{Position}
-use Rattle.cells.specs.CellRule.{cellAt}
-use Rattle.cells.specs.Range.{cellsIn}
-use Rattle.storage.specs.Keyed.{written}
-use Rattle.point_tables.specs.Tables.{Tables, sizeOf}
-use Rattle.point_tables.specs.Decide.{holds}
+use Rattle.cells.specs.Meaning.CellRule.{cellAt}
+use Rattle.cells.specs.Meaning.Range.{cellsIn}
+use Rattle.storage.specs.Meaning.Keyed.{written}
+use Rattle.point_tables.specs.Meaning.Tables.{Tables, sizeOf}
+use Rattle.point_tables.specs.Meaning.Decide.{holds}
 use Rattle.queries.specs.declared.Test.{Test}
-use Rattle.queries.specs.Queries.{findings, handleRow, placeRow, found, searchAnswer, searchOf}
-use Rattle.replies.specs.Replies.{count}
+use Rattle.queries.specs.Meaning.Queries.{findings, handleRow, placeRow, found, searchAnswer, searchOf}
+use Rattle.replies.specs.Meaning.Replies.{count}
 
 module _ (t : Tables) (ok : Bool) (ll ur : Position) (test : Test) (handles : List (List ℕ)) (places : List (List Float)) where
   abbrev cellsOf : ℕ

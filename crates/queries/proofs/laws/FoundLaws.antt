@@ -7,32 +7,36 @@ use mathlib.Core.List.{List, [], _∷_, map}
 use native.Mathlib.Omega.{arith}
 use lib.Dec.{T}
 use lib.ListN.{length, take}
-use Rattle.geometry.specs.Domain.{positionInDomain}
+use Rattle.geometry.specs.Meaning.Domain.{positionInDomain}
 use Rattle.geometry.specs.declared.Position.{Position}
 use Rattle.cells.specs.declared.Cell.{Cell}
-use Rattle.cells.specs.CellRule.{cellAt, Reached}
-use Rattle.cells.specs.CellRuleLaws.{cell-near}
-use Rattle.cells.specs.ReachLaws.{position-reached}
-use Rattle.cells.specs.Numbers.{Fits, near-fits}
-use Rattle.cells.specs.Range.{inRange}
-use Rattle.cells.specs.Key.{keyOf}
+use Rattle.cells.specs.Meaning.CellRule.{cellAt}
+use Rattle.cells.specs.Inner.CellRule.{Reached}
+use Rattle.cells.proofs.laws.CellRuleLaws.{cell-near}
+use Rattle.cells.proofs.laws.ReachLaws.{position-reached}
+use Rattle.cells.proofs.laws.Numbers.{Fits, near-fits}
+use Rattle.cells.proofs.laws.Range.{inRange}
+use Rattle.cells.specs.Meaning.Key.{keyOf}
 use Rattle.cells.proofs.laws.KeyLaws.{key-lt}
-use Rattle.slots.specs.Slot.{live, phaseAt}
-use Rattle.storage.specs.Keyed.{All, filter, Sorted}
-use Rattle.storage.specs.Entries.{Entry, rowItem, rowKey, entryKey}
-use Rattle.storage.specs.Packed.{second}
+use Rattle.slots.specs.Meaning.Slot.{live, phaseAt}
+use Rattle.storage.specs.Meaning.Keyed.{All, filter}
+use Rattle.storage.specs.Inner.Keyed.{Sorted}
+use Rattle.storage.specs.Meaning.Entries.{Entry, rowItem, rowKey, entryKey}
+use Rattle.storage.specs.Meaning.Packed.{second}
 use Rattle.storage.proofs.laws.PackedLaws.{ordered-sorted}
 use Rattle.storage.proofs.laws.PoolLaws.{sorted-entries}
-use Rattle.storage.specs.FilterLaws.{by-test, all-map, filter-both}
-use Rattle.storage.specs.WindowLaws.{windowOf, window-cell}
+use Rattle.storage.proofs.laws.FilterLaws.{by-test, all-map, filter-both}
+use Rattle.storage.specs.Inner.WindowLaws.{windowOf}
+use Rattle.storage.proofs.laws.WindowLaws.{window-cell}
 use Rattle.storage.proofs.laws.WalkLaws.{walked-window}
-use Rattle.point_tables.specs.Tables.{Tables, sizeOf, usedOf, slotsOf, recordOn, entriesIn}
-use Rattle.point_tables.specs.Holds.{Holds}
+use Rattle.point_tables.specs.Meaning.Tables.{Tables, sizeOf, usedOf, slotsOf, recordOn, entriesIn}
+use Rattle.point_tables.specs.Meaning.Holds.{Holds}
 use Rattle.queries.specs.declared.Test.{Test}
-use Rattle.queries.specs.Queries.{passes, positionOf, found}
-use Rattle.queries.specs.Places.{wanted, placesOf}
+use Rattle.queries.specs.Meaning.Queries.{passes, positionOf, found}
+use Rattle.queries.specs.Inner.Places.{wanted, placesOf}
 use Rattle.queries.proofs.laws.PlacesLaws.{places-entries}
-use Rattle.point_tables.specs.EntryLaws.{entryAt, all-entries}
+use Rattle.point_tables.specs.Inner.Entry.{entryAt}
+use Rattle.point_tables.proofs.laws.EntryLaws.{all-entries}
 
 -- what an entry in use is: its position is in the domain, its key is that of the position's cell, and its slot is occupied
 pub record Standing (t : Tables) (e : Entry) : Type 0 where

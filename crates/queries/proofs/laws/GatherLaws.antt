@@ -6,10 +6,10 @@ use mathlib.Core.List.{List, [], _∷_, _++_, append-nil, append-assoc}
 use native.Mathlib.Omega.{arith}
 use lib.ListN.{length, set, take, length-append}
 use lib.Seq.{length-take-le}
-use Rattle.storage.specs.Keyed.{written}
+use Rattle.storage.specs.Meaning.Keyed.{written}
 use Rattle.storage.proofs.laws.WrittenLaws.{written-next}
 use Rattle.storage.proofs.laws.PlaceLaws.{written-same}
-use Rattle.queries.specs.Places.{placesIn}
+use Rattle.queries.specs.Inner.Places.{placesIn}
 use Rattle.queries.proofs.laws.PlacesLaws.{places-length, passed-more, passed-same}
 
 -- the first n of o, and behind them the places of a stretch up to j that pass

@@ -6,23 +6,25 @@ use mathlib.Core.List.{List, [], _∷_, _++_, List·Memᴰ, List·Memᴰ·head, 
 use mathlib.Core.Logic.{⊎-elim}
 use native.Mathlib.Omega.{arith}
 use borrow.Author.Tests.{lt-ltb, eq-eqb}
-use Rattle.basics.specs.Says.{d-eq}
-use Rattle.cells.specs.CellRule.{cellAt, Reached}
-use Rattle.cells.specs.Range.{inRange}
+use Rattle.basics.proofs.laws.Says.{d-eq}
+use Rattle.cells.specs.Meaning.CellRule.{cellAt}
+use Rattle.cells.specs.Inner.CellRule.{Reached}
+use Rattle.cells.proofs.laws.Range.{inRange}
 use Rattle.geometry.specs.declared.Position.{Position}
-use Rattle.slots.specs.Slot.{live, phaseAt, versionAt, good}
-use Rattle.storage.specs.Keyed.{All, filter}
-use Rattle.storage.specs.Entries.{Entry, entryKey, entriesOf}
-use Rattle.storage.specs.FilterLaws.{by-test, all-map, all-append, filter-all}
-use Rattle.storage.specs.WindowLaws.{windowOf}
-use Rattle.point_tables.specs.Tables.{Tables, sizeOf, usedOf, slotsOf, recordOn, entriesIn, slotOf}
-use Rattle.point_tables.specs.Holds.{Holds}
+use Rattle.slots.specs.Meaning.Slot.{live, phaseAt, versionAt, good}
+use Rattle.storage.specs.Meaning.Keyed.{All, filter}
+use Rattle.storage.specs.Meaning.Entries.{Entry, entryKey, entriesOf}
+use Rattle.storage.proofs.laws.FilterLaws.{by-test, all-map, all-append, filter-all}
+use Rattle.storage.specs.Inner.WindowLaws.{windowOf}
+use Rattle.point_tables.specs.Meaning.Tables.{Tables, sizeOf, usedOf, slotsOf, recordOn, entriesIn, slotOf}
+use Rattle.point_tables.specs.Meaning.Holds.{Holds}
 use Rattle.queries.specs.declared.Test.{Test}
-use Rattle.queries.specs.Queries.{passes, positionOf, found}
-use Rattle.queries.specs.Places.{wanted}
+use Rattle.queries.specs.Meaning.Queries.{passes, positionOf, found}
+use Rattle.queries.specs.Inner.Places.{wanted}
 use Rattle.queries.proofs.laws.PlacesLaws.{entries-next}
 use Rattle.queries.proofs.laws.FoundLaws.{Standing, in-pool, in-spots, standing, stands, window-own, found-wanted}
-use Rattle.point_tables.specs.EntryLaws.{entryAt, all-entries}
+use Rattle.point_tables.specs.Inner.Entry.{entryAt}
+use Rattle.point_tables.proofs.laws.EntryLaws.{all-entries}
 
 -- no two entries name the same slot
 abbrev pub Once : List Entry → Type 0

@@ -7,12 +7,12 @@ use native.Mathlib.Omega.{arith}
 use lib.Ieee.{Float}
 use lib.ListN.{length, getD, take, length-append}
 use lib.Seq.{take-suc, length-take-le}
-use Rattle.basics.specs.Refusals.{pick}
-use Rattle.storage.specs.Keyed.{All, filter}
-use Rattle.storage.specs.Entries.{Entry, entry, zipped, entriesOf}
-use Rattle.storage.specs.FilterLaws.{by-test, all-map, all-append, filter-append}
-use Rattle.queries.specs.Places.{placesIn}
-use Rattle.point_tables.specs.EntryLaws.{entryAt}
+use Rattle.basics.specs.Meaning.Refusals.{pick}
+use Rattle.storage.specs.Meaning.Keyed.{All, filter}
+use Rattle.storage.specs.Meaning.Entries.{Entry, entry, zipped, entriesOf}
+use Rattle.storage.proofs.laws.FilterLaws.{by-test, all-map, all-append, filter-append}
+use Rattle.queries.specs.Inner.Places.{placesIn}
+use Rattle.point_tables.specs.Inner.Entry.{entryAt}
 
 -- one place, if it passes
 abbrev one : Bool → ℕ → List ℕ

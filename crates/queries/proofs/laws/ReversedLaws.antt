@@ -10,18 +10,18 @@ use lib.Ieee.{Float}
 use lib.ListN.{length}
 use Rattle.geometry.specs.declared.Position.{Position}
 use Rattle.cells.specs.declared.Cell.{Cell}
-use Rattle.cells.specs.CellRule.{cellAt}
-use Rattle.cells.specs.Range.{cellsIn, rangeCells}
+use Rattle.cells.specs.Meaning.CellRule.{cellAt}
+use Rattle.cells.specs.Meaning.Range.{cellsIn, rangeCells}
 use Rattle.cells.proofs.laws.RangeLaws.{range-length, reversed-x, reversed-y}
-use Rattle.storage.specs.Keyed.{filter, written}
-use Rattle.storage.specs.Entries.{Entry, entryKey}
-use Rattle.storage.specs.Walk.{listsOf, walked}
-use Rattle.point_tables.specs.Tables.{Tables, sizeOf, entriesIn}
-use Rattle.point_tables.specs.Decide.{holds}
+use Rattle.storage.specs.Meaning.Keyed.{filter, written}
+use Rattle.storage.specs.Meaning.Entries.{Entry, entryKey}
+use Rattle.storage.specs.Meaning.Walk.{listsOf, walked}
+use Rattle.point_tables.specs.Meaning.Tables.{Tables, sizeOf, entriesIn}
+use Rattle.point_tables.specs.Meaning.Decide.{holds}
 use Rattle.queries.specs.declared.Test.{Test}
-use Rattle.queries.specs.Queries.{findings, passes, positionOf, handleRow, placeRow, found, searchOf}
+use Rattle.queries.specs.Meaning.Queries.{findings, passes, positionOf, handleRow, placeRow, found, searchOf}
 use Rattle.queries.proofs.laws.FindLaws.{search-0}
-use Rattle.replies.specs.Replies.{count}
+use Rattle.replies.specs.Meaning.Replies.{count}
 
 -- the range of two cells is reversed on an axis
 abbrev pub Reversed : Cell → Cell → Type 0

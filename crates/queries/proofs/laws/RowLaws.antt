@@ -6,10 +6,10 @@ use mathlib.Core.List.{List, [], _∷_, _++_, append-nil, append-assoc, map, map
 use native.Mathlib.Omega.{arith}
 use lib.ListN.{length, set, take, drop, length-append, length-map}
 use lib.Seq.{length-take-le, take-append-seam, drop-append-add, drop-drop}
-use Rattle.storage.specs.Keyed.{written}
+use Rattle.storage.specs.Meaning.Keyed.{written}
 use Rattle.storage.proofs.laws.WrittenLaws.{length-written, written-next}
 use Rattle.storage.proofs.laws.PlaceLaws.{written-same}
-use Rattle.queries.specs.Places.{placesIn}
+use Rattle.queries.specs.Inner.Places.{placesIn}
 use Rattle.queries.proofs.laws.PlacesLaws.{passed, passed-more, passed-same, places-length}
 
 -- ---- of a stretch up to j, behind the first n of a table o

@@ -4,23 +4,24 @@ use mathlib.Core.Bool.{Bool, true, false, _&&_}
 use lib.Dec.{T}
 use lib.Ieee.{Float}
 use Rattle.geometry.specs.declared.Position.{Position}
-use Rattle.geometry.specs.Domain.{positionInDomain, radiusInDomain}
-use Rattle.geometry.specs.Circle.{inCircle, cornerBelow, cornerAbove}
-use Rattle.geometry.specs.Rectangle.{lowerCorner, upperCorner, inRectangle}
+use Rattle.geometry.specs.Meaning.Domain.{positionInDomain, radiusInDomain}
+use Rattle.geometry.specs.Meaning.Circle.{inCircle, cornerBelow, cornerAbove}
+use Rattle.geometry.specs.Meaning.Rectangle.{lowerCorner, upperCorner, inRectangle}
 use Rattle.geometry.proofs.laws.RectangleLaws.{lower-in-domain, upper-in-domain}
-use Rattle.cells.specs.CellRule.{cellAt, Reached}
-use Rattle.cells.specs.ReachLaws.{position-reached, low-reached, high-reached}
-use Rattle.cells.specs.Range.{inRange}
+use Rattle.cells.specs.Meaning.CellRule.{cellAt}
+use Rattle.cells.specs.Inner.CellRule.{Reached}
+use Rattle.cells.proofs.laws.ReachLaws.{position-reached, low-reached, high-reached}
+use Rattle.cells.proofs.laws.Range.{inRange}
 use Rattle.cells.proofs.laws.Cover.{rectangle-cover, circle-cover}
-use Rattle.storage.specs.Keyed.{All, filter}
-use Rattle.storage.specs.Entries.{Entry, entryKey}
-use Rattle.storage.specs.FilterLaws.{all-map, all-both, filter-same}
-use Rattle.storage.specs.WindowLaws.{windowOf}
-use Rattle.point_tables.specs.Tables.{Tables, sizeOf, entriesIn}
-use Rattle.point_tables.specs.Holds.{Holds}
+use Rattle.storage.specs.Meaning.Keyed.{All, filter}
+use Rattle.storage.specs.Meaning.Entries.{Entry, entryKey}
+use Rattle.storage.proofs.laws.FilterLaws.{all-map, all-both, filter-same}
+use Rattle.storage.specs.Inner.WindowLaws.{windowOf}
+use Rattle.point_tables.specs.Meaning.Tables.{Tables, sizeOf, entriesIn}
+use Rattle.point_tables.specs.Meaning.Holds.{Holds}
 use Rattle.queries.specs.declared.Test.{Test}
 use Rattle.queries.specs.declared.Test.the-variants.{Any, Circle, Rectangle}
-use Rattle.queries.specs.Queries.{passes, positionOf, found}
+use Rattle.queries.specs.Meaning.Queries.{passes, positionOf, found}
 use Rattle.queries.proofs.laws.FoundLaws.{Standing, standing, window-own, found-wanted}
 
 -- an entry whose position has its cell in the range of the corners ll and ur

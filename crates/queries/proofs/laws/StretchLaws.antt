@@ -7,16 +7,18 @@ use native.Mathlib.Omega.{arith}
 use lib.Ieee.{Float}
 use lib.ListN.{length}
 use Rattle.cells.specs.declared.Cell.{Cell}
-use Rattle.cells.specs.Numbers.{Near, near-fits}
-use Rattle.cells.specs.Key.{keyOf, columnOf, lineOf}
+use Rattle.cells.specs.Inner.Numbers.{Near}
+use Rattle.cells.proofs.laws.Numbers.{near-fits}
+use Rattle.cells.specs.Meaning.Key.{keyOf}
+use Rattle.cells.specs.Inner.Key.{columnOf, lineOf}
 use Rattle.storage.specs.declared.Run.{Run}
-use Rattle.storage.specs.Packed.{first}
-use Rattle.storage.specs.Window.{inWindow}
-use Rattle.storage.specs.WindowLaws.{windowOf}
-use Rattle.storage.specs.Run.{NextRun}
+use Rattle.storage.specs.Meaning.Packed.{first}
+use Rattle.storage.specs.Inner.Window.{inWindow}
+use Rattle.storage.specs.Inner.WindowLaws.{windowOf}
+use Rattle.storage.specs.Inner.Run.{NextRun}
 use Rattle.storage.proofs.laws.RunStepLaws.{key-windows}
 use Rattle.queries.specs.declared.Test.{Test}
-use Rattle.queries.specs.Places.{placesIn, wantedAt, spotPasses, placesOf}
+use Rattle.queries.specs.Inner.Places.{placesIn, wantedAt, spotPasses, placesOf}
 use Rattle.queries.proofs.laws.PlacesLaws.{places-append, places-none, places-same, places-length}
 
 module _ (a b : Cell) (test : Test) (pool : List (List ℕ)) (spots : List (List Float)) where

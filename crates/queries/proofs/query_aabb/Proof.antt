@@ -1,7 +1,7 @@
 -- `queries::query_aabb` meets its contract. Assumes nothing.
 use borrow.Author.Needs.{needs}
-use Rattle.point_tables.specs.Tables.{Tables, tables}
-use Rattle.queries.specs.Queries.{findings}
+use Rattle.point_tables.specs.Meaning.Tables.{Tables, tables}
+use Rattle.queries.specs.Meaning.Queries.{findings}
 use Rattle.queries.proofs.laws.CornerLaws.{aabb-reached, aabb-is}
 use Rattle.queries.proofs.query_aabb.Statement.{statement}
 use Rattle.queries.proofs.query_aabb.Tie as tie

@@ -5,16 +5,17 @@ use mathlib.Core.Bool.{true}
 use native.Mathlib.Omega.{arith}
 use borrow.Author.Needs.{needs}
 use borrow.Author.Tests.{not-true, not-false}
-use Rattle.cells.specs.Numbers.{Near}
-use Rattle.cells.specs.CellRule.{cellAt, Reached}
-use Rattle.cells.specs.CellRuleLaws.{cell-near}
-use Rattle.cells.specs.Range.{cellsIn}
-use Rattle.point_tables.specs.Tables.{Tables, tables, sizeOf}
-use Rattle.point_tables.specs.Holds.{Holds}
-use Rattle.point_tables.specs.Decide.{holds, holds-says}
+use Rattle.cells.specs.Inner.Numbers.{Near}
+use Rattle.cells.specs.Meaning.CellRule.{cellAt}
+use Rattle.cells.specs.Inner.CellRule.{Reached}
+use Rattle.cells.proofs.laws.CellRuleLaws.{cell-near}
+use Rattle.cells.specs.Meaning.Range.{cellsIn}
+use Rattle.point_tables.specs.Meaning.Tables.{Tables, tables, sizeOf}
+use Rattle.point_tables.specs.Meaning.Holds.{Holds}
+use Rattle.point_tables.specs.Meaning.Decide.{holds, holds-says}
 use Rattle.replies.specs.declared.Count.{Count}
-use Rattle.queries.specs.Queries.{findings}
-use Rattle.queries.specs.Fill.{Stocked}
+use Rattle.queries.specs.Meaning.Queries.{findings}
+use Rattle.queries.specs.Inner.Fill.{Stocked}
 use Rattle.queries.proofs.laws.FindLaws.{search-3, search-6, search-7}
 use Rattle.queries.proofs.laws.FillLaws.{stocked, findable, search-done}
 use Rattle.queries.proofs.search.Statement.{statement}

@@ -6,9 +6,9 @@ use lib.Ieee.{ofBits}
 use lib.ListN.{length}
 use borrow.Author.Tests.{not-true, not-false}
 use borrow.Author.Needs.{needs}
-use Rattle.slots.specs.Slot.{good}
-use Rattle.point_tables.specs.Tables.{Tables, tables, recordOn}
-use Rattle.point_tables.specs.Decide.{holds, holds-says}
+use Rattle.slots.specs.Meaning.Slot.{good}
+use Rattle.point_tables.specs.Meaning.Tables.{Tables, tables, recordOn}
+use Rattle.point_tables.specs.Meaning.Decide.{holds, holds-says}
 use Rattle.reads.specs.declared.Got.{Got}
 use Rattle.reads.specs.Meaning.{got}
 use Rattle.reads.proofs.laws.ReadsLaws.{good-inside, get-3, get-5, get-0}

@@ -5,8 +5,8 @@ use mathlib.Core.Bool.{true}
 use native.Mathlib.Omega.{arith}
 use lib.ListN.{length}
 use borrow.Author.Needs.{needs}
-use Rattle.point_tables.specs.Tables.{Tables, tables, slotsOf}
-use Rattle.point_tables.specs.Decide.{holds, holds-says}
+use Rattle.point_tables.specs.Meaning.Tables.{Tables, tables, slotsOf}
+use Rattle.point_tables.specs.Meaning.Decide.{holds, holds-says}
 use Rattle.storage.proofs.laws.WrittenLaws.{length-written}
 use Rattle.replies.specs.declared.Count.{Count}
 use Rattle.reads.specs.Meaning.{listing, liveHandles, lenOf}
@@ -14,7 +14,7 @@ use Rattle.reads.proofs.laws.ReadsLaws.{len-0, len-3, len-done, len-ref
 use Rattle.reads.proofs.laws.LenLaws.{len-live}
 use Rattle.reads.proofs.handles.Statement.{statement}
 use Rattle.reads.proofs.handles.Tie as tie
-use Rattle.replies.specs.Replies.{count}
+use Rattle.replies.specs.Meaning.Replies.{count}
 
 abbrev lent : tie.Start → Tables
 lent c = tables (c .args .nums .now) (c .args .reals .now) (c .args .ints .now) (c .args .map .now) (c .args .pool .now) (c .args .spots .now) (c .args .cells .now)

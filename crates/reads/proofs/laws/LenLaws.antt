@@ -1,10 +1,10 @@
 -- The handles are as many as the live slots, and these as the entries in use. Assumes nothing.
 use mathlib.Core.Path.{_≡_, _∙_}
 use lib.ListN.{length, length-map}
-use Rattle.point_tables.specs.Tables.{Tables, usedOf}
-use Rattle.point_tables.specs.Holds.{Holds}
-use Rattle.point_tables.specs.CountLaws.{live-count}
-use Rattle.slot_walks.specs.Live.{liveFrom, handleAt}
+use Rattle.point_tables.specs.Meaning.Tables.{Tables, usedOf}
+use Rattle.point_tables.specs.Meaning.Holds.{Holds}
+use Rattle.point_tables.proofs.laws.CountLaws.{live-count}
+use Rattle.slot_walks.specs.Meaning.Live.{liveFrom, handleAt}
 use Rattle.slot_walks.proofs.laws.LiveLaws as Live
 use Rattle.reads.specs.Meaning.{liveHandles}
 

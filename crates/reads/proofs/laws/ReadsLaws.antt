@@ -7,17 +7,17 @@ use native.Mathlib.Omega.{arith}
 use lib.Dec.{eqb, ltb}
 use lib.ListN.{length}
 use borrow.Author.Tests.{ltb-true, le-leb, lt-leb}
-use Rattle.basics.specs.Says.{both-true}
+use Rattle.basics.proofs.laws.Says.{both-true}
 use Rattle.slots.specs.declared.Handle.{Handle}
-use Rattle.slots.specs.Slot.{live, good, phaseAt, versionAt}
-use Rattle.storage.specs.Keyed.{written}
-use Rattle.point_tables.specs.Tables.{Tables, slotsOf, recordOn}
-use Rattle.point_tables.specs.Decide.{holds}
-use Rattle.basics.specs.Refusals.{unless, byTests}
-use Rattle.geometry.specs.Zero.{zero-position}
+use Rattle.slots.specs.Meaning.Slot.{live, good, phaseAt, versionAt}
+use Rattle.storage.specs.Meaning.Keyed.{written}
+use Rattle.point_tables.specs.Meaning.Tables.{Tables, slotsOf, recordOn}
+use Rattle.point_tables.specs.Meaning.Decide.{holds}
+use Rattle.basics.specs.Meaning.Refusals.{unless, byTests}
+use Rattle.geometry.specs.Meaning.Zero.{zero-position}
 use Rattle.replies.specs.declared.Count.{Count}
 use Rattle.reads.specs.Meaning.{got, listing, getOf, liveHandles, lenOf, handlesOf}
-use Rattle.replies.specs.Replies.{count}
+use Rattle.replies.specs.Meaning.Replies.{count}
 
 -- a good handle's slot is one of the slots, and live
 pub good-inside : (t : Tables) (h : Handle) → good (t .nums) (h .slot) (h .version) ≡ true → h .slot < slotsOf t

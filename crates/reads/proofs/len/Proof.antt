@@ -5,14 +5,14 @@ use mathlib.Core.Bool.{true}
 use native.Mathlib.Omega.{arith}
 use borrow.Author.Tests.{not-true, not-false}
 use borrow.Author.Needs.{needs}
-use Rattle.point_tables.specs.Tables.{Tables, tables, usedOf}
-use Rattle.point_tables.specs.Holds.{Holds}
-use Rattle.point_tables.specs.Decide.{holds, holds-says}
+use Rattle.point_tables.specs.Meaning.Tables.{Tables, tables, usedOf}
+use Rattle.point_tables.specs.Meaning.Holds.{Holds}
+use Rattle.point_tables.specs.Meaning.Decide.{holds, holds-says}
 use Rattle.reads.proofs.laws.ReadsLaws.{len-3, len-0}
 use Rattle.reads.proofs.laws.LenLaws.{len-used}
 use Rattle.reads.proofs.len.Statement.{statement}
 use Rattle.reads.proofs.len.Tie as tie
-use Rattle.replies.specs.Replies.{count}
+use Rattle.replies.specs.Meaning.Replies.{count}
 
 abbrev lent : tie.Start → Tables
 lent c = tables (c .args .nums .now) (c .args .reals .now) (c .args .ints .now) (c .args .map .now) (c .args .pool .now) (c .args .spots .now) (c .args .cells .now)

@@ -68,10 +68,10 @@ use denote.Signature.Array.{arrayOf}
 use denote.Steps.{only, peeks}
 use denote.Struct.Steps.{spelt}
 use denote.Triple.Walked.{stay-dropped, goes-dropped}
-use Rattle.point_tables.specs.Outcome.{Outcome}
-use Rattle.record_reads.specs.Calls.{getOn}
-use Rattle.point_tables.specs.Tables.{tables as tabled}
-use Rattle.point_tables.specs.Outcome.{outcome}
+use Rattle.point_tables.specs.Meaning.Outcome.{Outcome}
+use Rattle.record_reads.specs.Meaning.Calls.{getOn}
+use Rattle.point_tables.specs.Meaning.Tables.{tables as tabled}
+use Rattle.point_tables.specs.Meaning.Outcome.{outcome}
 use Rattle.record_frame.proofs.TableCalls.{Get-on, calls-get-on}
 use Rattle.record_reads.proofs.get.Symbol as get-def
 use Rattle.record_reads.proofs.get.Symbol.{name as #record-reads·get}

@@ -67,9 +67,9 @@ use denote.Signature.Array.{arrayOf}
 use denote.Steps.{only, peeks}
 use denote.Struct.Steps.{spelt}
 use denote.Triple.Walked.{stay-dropped, goes-dropped}
-use Rattle.records.specs.Seen.{Seen, seen}
-use Rattle.record_upkeep.specs.Calls.{maintainOn}
-use Rattle.point_tables.specs.Tables.{tables as tabled}
+use Rattle.records.specs.Meaning.Seen.{Seen, seen}
+use Rattle.record_upkeep.specs.Meaning.Calls.{maintainOn}
+use Rattle.point_tables.specs.Meaning.Tables.{tables as tabled}
 use Rattle.record_frame.proofs.TableCalls.{Maintain-on, calls-maintain-on}
 use Rattle.record_upkeep.proofs.maintain.Symbol as maintain-def
 use Rattle.record_upkeep.proofs.maintain.Symbol.{name as #record-upkeep·maintain}

@@ -5,18 +5,19 @@ use mathlib.Core.Path.{_≡_, refl, sym, ap, subst, _∙_}
 use mathlib.Core.List.{List, [], _∷_}
 use lib.ListN.{length}
 use Rattle.objects.specs.declared.Record.{Record}
-use Rattle.objects.specs.Columns.{numsOf, realsOf, intsOf}
-use Rattle.point_tables.specs.Tables.{Tables, slotsOf}
-use Rattle.point_tables.specs.Holds.{Holds}
-use Rattle.point_tables.specs.Outcome.{Outcome, outcome}
-use Rattle.records.specs.Spread.{laid, besides, recordsIn}
-use Rattle.records.specs.Seen.{fitted, onRecords, sized, readRecords}
-use Rattle.records.specs.Alike.{Alike, Respects, Reads}
+use Rattle.objects.specs.Meaning.Columns.{numsOf, realsOf, intsOf}
+use Rattle.point_tables.specs.Meaning.Tables.{Tables, slotsOf}
+use Rattle.point_tables.specs.Meaning.Holds.{Holds}
+use Rattle.point_tables.specs.Meaning.Outcome.{Outcome, outcome}
+use Rattle.records.specs.Meaning.Spread.{laid, besides, recordsIn}
+use Rattle.records.specs.Meaning.Seen.{fitted, onRecords, sized, readRecords}
+use Rattle.records.specs.Inner.Alike.{Alike}
+use Rattle.records.proofs.laws.Alike.{Respects, Reads}
 use Rattle.records.proofs.laws.SpreadLaws.{laid-length, gathered-length}
 use Rattle.records.proofs.laws.SeenLaws.{rows-same}
 use Rattle.records.proofs.laws.AlikeLaws.{alike-then, holds-alike}
 use Rattle.records.proofs.laws.AgainLaws.{spread-tagged, alike-again}
-use Rattle.record_histories.specs.RecordHistory.{SameGrid}
+use Rattle.record_histories.specs.Inner.RecordHistory.{SameGrid}
 
 module _ (rs : List Record) (t u : Tables) (g : SameGrid rs t u) where
   abbrev b : Tables

@@ -6,21 +6,23 @@ use mathlib.Core.Bool.{Bool, true, false}
 use mathlib.Core.List.{List, [], _∷_}
 use lib.Dec.{eqb}
 use lib.Ieee.{Float}
-use Rattle.basics.specs.Refusals.{pick}
+use Rattle.basics.specs.Meaning.Refusals.{pick}
 use Rattle.geometry.specs.declared.Position.{Position}
 use Rattle.slots.specs.declared.Handle.{Handle}
-use Rattle.replies.specs.Replies.{count}
+use Rattle.replies.specs.Meaning.Replies.{count}
 use Rattle.objects.specs.declared.Record.{Record}
-use Rattle.point_tables.specs.Tables.{Tables}
-use Rattle.moves.specs.Moves.{setPositionOf, removeOf}
-use Rattle.moves.specs.Batch.{Call as Deferred, callOf, tablesAfter}
-use Rattle.maintain.specs.Maintain.{maintainOf}
-use Rattle.queries.specs.Queries.{Findings, findings, aroundOf}
-use Rattle.stands.specs.Report.{ReportedAt, Reports, Due}
-use Rattle.stands.specs.StandsLaws.{Settled, nextMaintain}
-use Rattle.stands.specs.ReportLaws.{circle-reports, reports-once}
-use Rattle.record_histories.specs.RecordHistory.{setPosition, remove, onColumns, columnsAfter, recordsAfter, besidesAfter, SameGrid}
-use Rattle.record_histories.specs.RecordReport.{deferred, frame, reportAfter}
+use Rattle.point_tables.specs.Meaning.Tables.{Tables}
+use Rattle.moves.specs.Meaning.Moves.{setPositionOf, removeOf}
+use Rattle.moves.specs.Meaning.Batch.{Call as Deferred, callOf, tablesAfter}
+use Rattle.maintain.specs.Meaning.Maintain.{maintainOf}
+use Rattle.queries.specs.Meaning.Queries.{Findings, findings, aroundOf}
+use Rattle.stands.specs.Meaning.Report.{ReportedAt, Reports, Due}
+use Rattle.stands.proofs.laws.StandsLaws.{Settled}
+use Rattle.stands.specs.Meaning.Stands.{nextMaintain}
+use Rattle.stands.proofs.laws.ReportLaws.{circle-reports, reports-once}
+use Rattle.record_histories.specs.Inner.RecordHistory.{setPosition, remove, onColumns, recordsAfter, besidesAfter, SameGrid}
+use Rattle.record_histories.proofs.laws.RecordHistory.{columnsAfter}
+use Rattle.record_histories.specs.Inner.RecordReport.{deferred, frame, reportAfter}
 use Rattle.record_histories.proofs.laws.ReadsLaws.{around-reads}
 use Rattle.record_histories.proofs.laws.CallLaws.{read-same}
 use Rattle.record_histories.proofs.laws.HistoryLaws.{history-after}

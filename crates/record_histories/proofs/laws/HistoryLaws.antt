@@ -5,37 +5,40 @@ use mathlib.Core.Bool.{Bool, true, false}
 use mathlib.Core.List.{List, [], _∷_}
 use lib.Dec.{eqb}
 use lib.ListN.{length, set, length-set}
-use Rattle.basics.specs.Refusals.{pick}
+use Rattle.basics.specs.Meaning.Refusals.{pick}
 use Rattle.geometry.specs.declared.Position.{Position}
 use Rattle.slots.specs.declared.Handle.{Handle}
 use Rattle.objects.specs.declared.Record.{Record}
-use Rattle.objects.specs.Columns.{numsOf}
+use Rattle.objects.specs.Meaning.Columns.{numsOf}
 use Rattle.objects.specs.declared.State.the-variants.{Removed}
-use Rattle.objects.specs.States.{aimed}
-use Rattle.point_tables.specs.Tables.{Tables, sizeOf, slotsOf, recordOn}
-use Rattle.point_tables.specs.Holds.{Holds}
-use Rattle.point_tables.specs.Decide.{holds}
-use Rattle.point_tables.specs.Outcome.{Outcome, outcome}
-use Rattle.replies.specs.Replies.{count, reply, inserted}
-use Rattle.moves.specs.Moves.{pended, setPositionAnswer, setPositionOf, removeAnswer, removeOf}
+use Rattle.objects.specs.Meaning.States.{aimed}
+use Rattle.point_tables.specs.Meaning.Tables.{Tables, sizeOf, slotsOf, recordOn}
+use Rattle.point_tables.specs.Meaning.Holds.{Holds}
+use Rattle.point_tables.specs.Meaning.Decide.{holds}
+use Rattle.point_tables.specs.Meaning.Outcome.{Outcome, outcome}
+use Rattle.replies.specs.Meaning.Replies.{count, reply, inserted}
+use Rattle.moves.specs.Meaning.Moves.{pended, setPositionAnswer, setPositionOf, removeAnswer, removeOf}
 use Rattle.moves.proofs.laws.PendedLaws.{nums-long}
 use Rattle.moves.proofs.laws.MovesKeeps.{set-position-keeps, remove-keeps}
-use Rattle.inserts.specs.Insert.{put, insertAnswer, insertOf, newRecord, usableSlot}
+use Rattle.inserts.specs.Meaning.Insert.{put, insertAnswer, insertOf, newRecord, usableSlot}
 use Rattle.inserts.proofs.laws.InsertLaws.{insert-holds}
-use Rattle.maintain.specs.Maintain.{maintained, maintainedCounts, maintainOf}
-use Rattle.maintain.specs.MaintainLaws.{maintain-done, maintain-keeps}
-use Rattle.maintain.specs.MaintainedLaws.{maintained-slots}
+use Rattle.maintain.specs.Meaning.Maintain.{maintained, maintainedCounts, maintainOf}
+use Rattle.maintain.proofs.laws.MaintainLaws.{maintain-done, maintain-keeps}
+use Rattle.maintain.proofs.laws.MaintainedLaws.{maintained-slots}
 use Rattle.reads.specs.Meaning.{got, getOf, lenOf}
-use Rattle.geometry.specs.Zero.{zero-position}
-use Rattle.queries.specs.Queries.{findings, aroundOf}
-use Rattle.slots.specs.Map.{slotIn}
-use Rattle.slots.specs.Slot.{versionAt}
+use Rattle.geometry.specs.Meaning.Zero.{zero-position}
+use Rattle.queries.specs.Meaning.Queries.{findings, aroundOf}
+use Rattle.slots.specs.Meaning.Map.{slotIn}
+use Rattle.slots.specs.Meaning.Slot.{versionAt}
 use Rattle.maintain.specs.declared.Maintained.{Maintained}
-use Rattle.records.specs.Spread.{besides, recordsIn}
+use Rattle.records.specs.Meaning.Spread.{besides, recordsIn}
 use Rattle.records.proofs.laws.SpreadLaws.{gathered-length}
 use Rattle.records.proofs.laws.AlikeLaws.{alike-itself}
 use Rattle.records.proofs.laws.AgainLaws.{alike-again}
-use Rattle.record_histories.specs.RecordHistory.{Call, insert, setPosition, remove, maintain, get, len, around, Given, entered, replied, settled, got as gotten, counted, found, onColumns, onTable, columnAnswers, columnsAfter, recordAnswers, recordsAfter, besidesAfter, SameGrid}
+use Rattle.record_histories.specs.Inner.RecordHistory.{Call, insert, setPosition, remove, maintain, get, len, around, Given, entered, replied}
+use Rattle.record_histories.specs.Inner.RecordHistory.{settled, got as gotten, counted, found, onColumns, onTable, recordAnswers, recordsAfter}
+use Rattle.record_histories.specs.Inner.RecordHistory.{besidesAfter, SameGrid}
+use Rattle.record_histories.proofs.laws.RecordHistory.{columnAnswers, columnsAfter}
 use Rattle.record_histories.proofs.laws.MovesLaws.{set-position-respects, remove-respects}
 use Rattle.record_histories.proofs.laws.InsertLaws.{insert-respects}
 use Rattle.record_histories.proofs.laws.MaintainLaws.{maintain-respects}

@@ -5,21 +5,22 @@ use mathlib.Core.List.{List, map}
 use lib.Dec.{eqb}
 use lib.ListN.{length, set}
 use Rattle.geometry.specs.declared.Position.{Position}
-use Rattle.cells.specs.CellRule.{cellAt}
+use Rattle.cells.specs.Meaning.CellRule.{cellAt}
 use Rattle.slots.specs.declared.Usable.{Usable}
-use Rattle.slots.specs.Map.{taken, lowestUsable, slotIn}
-use Rattle.slots.specs.Slot.{versionAt}
-use Rattle.storage.specs.Keyed.{written}
-use Rattle.storage.specs.Entries.{rowOf, spotOf}
+use Rattle.slots.specs.Meaning.Map.{taken, lowestUsable, slotIn}
+use Rattle.slots.specs.Meaning.Slot.{versionAt}
+use Rattle.storage.specs.Meaning.Keyed.{written}
+use Rattle.storage.specs.Meaning.Entries.{rowOf, spotOf}
 use Rattle.objects.specs.declared.Record.{Record}
-use Rattle.objects.specs.Columns.{numsOf, realsOf, intsOf}
-use Rattle.point_tables.specs.Tables.{Tables, tables, sizeOf, counting}
-use Rattle.point_tables.specs.Holds.{Holds}
-use Rattle.point_tables.specs.Outcome.{outcome, stored}
-use Rattle.replies.specs.Replies.{inserted}
-use Rattle.inserts.specs.Fresh.{freshRecord}
-use Rattle.inserts.specs.Insert.{usableSlot, entriesWith, rowsWith, put, insertAnswer, insertOf}
-use Rattle.records.specs.Alike.{Alike, withColumns, Respects}
+use Rattle.objects.specs.Meaning.Columns.{numsOf, realsOf, intsOf}
+use Rattle.point_tables.specs.Meaning.Tables.{Tables, tables, sizeOf, counting}
+use Rattle.point_tables.specs.Meaning.Holds.{Holds}
+use Rattle.point_tables.specs.Meaning.Outcome.{outcome, stored}
+use Rattle.replies.specs.Meaning.Replies.{inserted}
+use Rattle.inserts.specs.Inner.Fresh.{freshRecord}
+use Rattle.inserts.specs.Meaning.Insert.{usableSlot, entriesWith, rowsWith, put, insertAnswer, insertOf}
+use Rattle.records.specs.Inner.Alike.{Alike, withColumns}
+use Rattle.records.proofs.laws.Alike.{Respects}
 use Rattle.records.proofs.laws.AlikeLaws.{both-hold}
 use Rattle.records.proofs.laws.StoredLaws.{stored-alike}
 use Rattle.record_histories.proofs.laws.SameLaws.{Same, same-pick, to-respect, beside}

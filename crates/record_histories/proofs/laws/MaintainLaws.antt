@@ -9,23 +9,28 @@ use lib.Dec.{eqb}
 use lib.Ieee.{Float}
 use lib.ListN.{length}
 use lib.Seq.{set-out}
-use Rattle.basics.specs.Refusals.{orElse, pick}
-use Rattle.basics.specs.Says.{Decided, d-eq, d-lt}
-use Rattle.slots.specs.Map.{givenBack}
-use Rattle.slots.specs.Slot.{live, phaseAt}
-use Rattle.storage.specs.Keyed.{under, onList, appendAll, written}
-use Rattle.storage.specs.Entries.{Entry, rowOf, spotOf, entryKey}
-use Rattle.storage.specs.CellTable.{fresh}
+use Rattle.basics.specs.Meaning.Refusals.{orElse, pick}
+use Rattle.basics.specs.Meaning.Says.{Decided}
+use Rattle.basics.proofs.laws.Says.{d-eq, d-lt}
+use Rattle.slots.specs.Meaning.Map.{givenBack}
+use Rattle.slots.specs.Meaning.Slot.{live, phaseAt}
+use Rattle.storage.specs.Meaning.Keyed.{under, onList, appendAll, written}
+use Rattle.storage.specs.Meaning.Entries.{Entry, rowOf, spotOf, entryKey}
+use Rattle.storage.specs.Meaning.CellTable.{fresh}
 use Rattle.objects.specs.declared.State.{State}
 use Rattle.objects.specs.declared.Record.{Record}
-use Rattle.objects.specs.States.{isRemoved}
-use Rattle.point_tables.specs.Tables.{Tables, tables, sizeOf, slotsOf, recordOn, entriesIn, cellRows, counting, slotOf}
-use Rattle.point_tables.specs.Holds.{Holds}
-use Rattle.maintain.specs.Walk.{settled, Fate, fateBy, fate, staying, leaving, rest, after, Walked, walk}
-use Rattle.maintain.specs.Maintain.{Sweep, isDirty, visit, sweep, swept, bySlot, entriesAfter, cellKeys, maintainedBy, maintained, isMoving, countStates, maintainedCounts, maintainOf}
-use Rattle.maintain.specs.SettleForm.{rowsAt, rowsAfter, backBy, comesBack, settledRecord, settled-form}
-use Rattle.maintain.specs.SettleLaws.{Shaped, sized-shaped, settled-shaped, settled-slots, settled-reals, settled-ints, settled-pool, settled-spots, settled-cells, settled-other, settled-same}
-use Rattle.records.specs.Alike.{Alike, withColumns, Respects}
+use Rattle.objects.specs.Meaning.States.{isRemoved}
+use Rattle.point_tables.specs.Meaning.Tables.{Tables, tables, sizeOf, slotsOf, recordOn, entriesIn, cellRows, counting, slotOf}
+use Rattle.point_tables.specs.Meaning.Holds.{Holds}
+use Rattle.maintain.specs.Meaning.Walk.{settled, Fate, fateBy, fate, staying, leaving, rest, after, Walked, walk}
+use Rattle.maintain.specs.Meaning.Maintain.{Sweep, isDirty, visit, sweep, swept, bySlot, entriesAfter, cellKeys, maintainedBy, maintained, isMoving}
+use Rattle.maintain.specs.Meaning.Maintain.{countStates, maintainedCounts, maintainOf}
+use Rattle.maintain.proofs.laws.SettleForm.{rowsAt, rowsAfter, backBy, comesBack, settledRecord, settled-form}
+use Rattle.maintain.specs.Inner.SettleLaws.{Shaped}
+use Rattle.maintain.proofs.laws.SettleLaws.{sized-shaped, settled-shaped, settled-slots, settled-reals, settled-ints, settled-pool, settled-spots}
+use Rattle.maintain.proofs.laws.SettleLaws.{settled-cells, settled-other, settled-same}
+use Rattle.records.specs.Inner.Alike.{Alike, withColumns}
+use Rattle.records.proofs.laws.Alike.{Respects}
 use Rattle.records.proofs.laws.AlikeLaws.{both-hold, alike-itself}
 use Rattle.record_histories.proofs.laws.SameLaws.{Same, same-pick, to-respect, beside}
 

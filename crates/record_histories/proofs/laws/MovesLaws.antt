@@ -4,20 +4,21 @@ use mathlib.Core.Path.{_≡_, refl, ap, subst}
 use mathlib.Core.Bool.{Bool}
 use lib.Dec.{eqb}
 use Rattle.geometry.specs.declared.Position.{Position}
-use Rattle.cells.specs.Key.{keyOf}
+use Rattle.cells.specs.Meaning.Key.{keyOf}
 use Rattle.slots.specs.declared.Handle.{Handle}
-use Rattle.storage.specs.Keyed.{written}
-use Rattle.storage.specs.CellTable.{marked}
+use Rattle.storage.specs.Meaning.Keyed.{written}
+use Rattle.storage.specs.Meaning.CellTable.{marked}
 use Rattle.objects.specs.declared.State.{State}
 use Rattle.objects.specs.declared.State.the-variants.{Removed}
 use Rattle.objects.specs.declared.Record.{Record}
-use Rattle.objects.specs.States.{aimed, withState}
-use Rattle.point_tables.specs.Tables.{Tables, sizeOf, recordOn, cellRows}
-use Rattle.point_tables.specs.Holds.{Holds}
-use Rattle.point_tables.specs.Outcome.{outcome, stored}
-use Rattle.replies.specs.Replies.{reply}
-use Rattle.moves.specs.Moves.{pended, setPositionAnswer, setPositionOf, removeAnswer, removeOf}
-use Rattle.records.specs.Alike.{Alike, withColumns, Respects}
+use Rattle.objects.specs.Meaning.States.{aimed, withState}
+use Rattle.point_tables.specs.Meaning.Tables.{Tables, sizeOf, recordOn, cellRows}
+use Rattle.point_tables.specs.Meaning.Holds.{Holds}
+use Rattle.point_tables.specs.Meaning.Outcome.{outcome, stored}
+use Rattle.replies.specs.Meaning.Replies.{reply}
+use Rattle.moves.specs.Meaning.Moves.{pended, setPositionAnswer, setPositionOf, removeAnswer, removeOf}
+use Rattle.records.specs.Inner.Alike.{Alike, withColumns}
+use Rattle.records.proofs.laws.Alike.{Respects}
 use Rattle.records.proofs.laws.AlikeLaws.{both-hold, good-alike}
 use Rattle.records.proofs.laws.StoredLaws.{stored-alike}
 use Rattle.record_histories.proofs.laws.SameLaws.{Same, same-pick, to-respect}

@@ -7,20 +7,21 @@ use mathlib.Core.List.{List, [], _∷_, map}
 use lib.Dec.{eqb}
 use lib.Ieee.{Float}
 use lib.ListN.{length, getD}
-use Rattle.basics.specs.Refusals.{pick}
+use Rattle.basics.specs.Meaning.Refusals.{pick}
 use Rattle.geometry.specs.declared.Position.{Position}
 use Rattle.slots.specs.declared.Handle.{Handle}
-use Rattle.slots.specs.Slot.{live, phaseAt, versionAt}
-use Rattle.slot_walks.specs.Live.{liveFrom, handleAt, handlesIn}
+use Rattle.slots.specs.Meaning.Slot.{live, phaseAt, versionAt}
+use Rattle.slot_walks.specs.Meaning.Live.{liveFrom, handleAt, handlesIn}
 use Rattle.objects.specs.declared.Record.{Record}
-use Rattle.point_tables.specs.Tables.{Tables}
-use Rattle.point_tables.specs.Holds.{Holds}
+use Rattle.point_tables.specs.Meaning.Tables.{Tables}
+use Rattle.point_tables.specs.Meaning.Holds.{Holds}
 use Rattle.reads.specs.Meaning.{liveHandles, getOf, lenOf}
-use Rattle.storage.specs.Entries.{Entry, rowItem}
+use Rattle.storage.specs.Meaning.Entries.{Entry, rowItem}
 use Rattle.queries.specs.declared.Test.the-variants.{Circle}
-use Rattle.queries.specs.Queries.{handleRow, found, searchAnswer, searchOf, aroundOf}
-use Rattle.geometry.specs.Circle.{cornerBelow, cornerAbove}
-use Rattle.records.specs.Alike.{Alike, withColumns, Reads}
+use Rattle.queries.specs.Meaning.Queries.{handleRow, found, searchAnswer, searchOf, aroundOf}
+use Rattle.geometry.specs.Meaning.Circle.{cornerBelow, cornerAbove}
+use Rattle.records.specs.Inner.Alike.{Alike, withColumns}
+use Rattle.records.proofs.laws.Alike.{Reads}
 use Rattle.records.proofs.laws.AlikeLaws.{both-hold, good-alike}
 use Rattle.record_histories.proofs.laws.SameLaws.{to-read}
 

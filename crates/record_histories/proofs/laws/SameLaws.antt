@@ -4,11 +4,12 @@ use mathlib.Core.Bool.{Bool, true, false}
 use mathlib.Core.List.{List}
 use Prim.Native.Nat.{ℕ}
 use lib.Ieee.{Float}
-use Rattle.basics.specs.Refusals.{pick}
-use Rattle.point_tables.specs.Tables.{Tables, tables}
-use Rattle.point_tables.specs.Holds.{Holds}
-use Rattle.point_tables.specs.Outcome.{Outcome, outcome}
-use Rattle.records.specs.Alike.{Alike, withColumns, Respects, Reads}
+use Rattle.basics.specs.Meaning.Refusals.{pick}
+use Rattle.point_tables.specs.Meaning.Tables.{Tables, tables}
+use Rattle.point_tables.specs.Meaning.Holds.{Holds}
+use Rattle.point_tables.specs.Meaning.Outcome.{Outcome, outcome}
+use Rattle.records.specs.Inner.Alike.{Alike, withColumns}
+use Rattle.records.proofs.laws.Alike.{Respects, Reads}
 use Rattle.records.proofs.laws.AlikeLaws.{by-columns}
 
 abbrev pub Same : {R : Type 0} → Outcome R → Outcome R → Type 0

@@ -36,7 +36,7 @@ use denote.Triple.Statement.{Triple}
 use denote.Triple.Table.{entered, cited}
 use denote.Triple.Walked.{says, Stays, stay-none, stay-slice, walkOf, goes-none, goes-slice, Walks, ends-at, walked, walk-meets}
 use denote.Exit.{yes}
-use Rattle.objects.specs.Columns.{numsOf, realsOf, intsOf}
+use Rattle.objects.specs.Meaning.Columns.{numsOf, realsOf, intsOf}
 use Rattle.objects.specs.declared.Record.{Record}
 use Rattle.geometry.specs.declared.Position.{Position}
 use Rattle.geometry.proofs.Position as PT
@@ -44,15 +44,15 @@ use Rattle.geometry.proofs.Position.Laws as PT′
 use Rattle.replies.specs.declared.Inserted.{Inserted}
 use Rattle.replies.proofs.Inserted as IT
 use Rattle.replies.proofs.Inserted.Laws as IT′
-use Rattle.records.specs.Spread.{laid, gathered}
+use Rattle.records.specs.Meaning.Spread.{laid, gathered}
 use Rattle.records.proofs.Rows.{R, N4, F4, Z4, N2, F2}
 use Rattle.record_inserts.proofs.Values.{PR, Pval, Pvals, IR, Ival, Ivals}
 use Rattle.records.proofs.Lends.{to}
 use Rattle.records.proofs.laws.SpreadLaws.{laid-length, gathered-length}
-use Rattle.record_inserts.specs.Calls.{insertFor}
-use Rattle.point_tables.specs.Tables.{tables as tabled}
-use Rattle.point_tables.specs.Outcome.{outcome}
-use Rattle.records.specs.Seen.{back}
+use Rattle.record_inserts.specs.Inner.Calls.{insertFor}
+use Rattle.point_tables.specs.Meaning.Tables.{tables as tabled}
+use Rattle.point_tables.specs.Meaning.Outcome.{outcome}
+use Rattle.records.specs.Meaning.Seen.{back}
 use Rattle.records.proofs.AllRecords.{Spread, calls-spread, Gather, calls-gather}
 use Rattle.record_inserts.proofs.CoreCalls.{InsertFor, calls-insert-for}
 use Rattle.records.proofs.spread.Symbol as spread-def

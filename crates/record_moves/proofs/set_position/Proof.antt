@@ -36,7 +36,7 @@ use denote.Triple.Statement.{Triple}
 use denote.Triple.Table.{entered, cited}
 use denote.Triple.Walked.{says, Stays, stay-none, stay-none-slice, stay-slice, walkOf, goes-none, goes-none-slice, goes-slice, Walks, ends-at, walked, walk-meets}
 use denote.Exit.{yes}
-use Rattle.objects.specs.Columns.{numsOf, realsOf, intsOf}
+use Rattle.objects.specs.Meaning.Columns.{numsOf, realsOf, intsOf}
 use Rattle.objects.specs.declared.Record.{Record}
 use Rattle.slots.specs.declared.Handle.{Handle}
 use Rattle.slots.proofs.Handle as HT
@@ -44,16 +44,16 @@ use Rattle.slots.proofs.Handle.Laws as HT′
 use Rattle.geometry.specs.declared.Position.{Position}
 use Rattle.geometry.proofs.Position as PT
 use Rattle.geometry.proofs.Position.Laws as PT′
-use Rattle.records.specs.Spread.{laid, gathered}
+use Rattle.records.specs.Meaning.Spread.{laid, gathered}
 use Rattle.records.proofs.Rows.{R, N4, F4, Z4, N2, F2}
 use Rattle.record_moves.proofs.Values.{HR, Hval, Hvals, PR, Pval, Pvals}
 use Rattle.records.proofs.Lends.{to}
 use Rattle.records.proofs.laws.SpreadLaws.{laid-length, gathered-length}
-use Rattle.record_moves.specs.Calls.{setPositionFor}
-use Rattle.point_tables.specs.Tables.{tables as tabled}
-use Rattle.point_tables.specs.Outcome.{outcome}
-use Rattle.replies.specs.Replies.{reply}
-use Rattle.records.specs.Seen.{back}
+use Rattle.record_moves.specs.Inner.Calls.{setPositionFor}
+use Rattle.point_tables.specs.Meaning.Tables.{tables as tabled}
+use Rattle.point_tables.specs.Meaning.Outcome.{outcome}
+use Rattle.replies.specs.Meaning.Replies.{reply}
+use Rattle.records.specs.Meaning.Seen.{back}
 use Rattle.records.proofs.AllRecords.{Spread, calls-spread, Gather, calls-gather}
 use Rattle.record_moves.proofs.CoreCalls.{SetPositionFor, calls-set-position-for}
 use Rattle.records.proofs.spread.Symbol as spread-def

@@ -35,7 +35,7 @@ use denote.Triple.Statement.{Triple}
 use denote.Triple.Table.{entered, cited}
 use denote.Triple.Walked.{says, Stays, stay-none, stay-none-slice, stay-slice, walkOf, goes-none, goes-none-slice, goes-slice, Walks, ends-at, walked, walk-meets}
 use denote.Exit.{yes}
-use Rattle.objects.specs.Columns.{numsOf, realsOf, intsOf}
+use Rattle.objects.specs.Meaning.Columns.{numsOf, realsOf, intsOf}
 use Rattle.objects.specs.declared.Record.{Record}
 use Rattle.slots.specs.declared.Handle.{Handle}
 use Rattle.slots.proofs.Handle as HT
@@ -43,14 +43,14 @@ use Rattle.slots.proofs.Handle.Laws as HT′
 use Rattle.reads.specs.declared.Got.{Got}
 use Rattle.reads.proofs.Got as GT
 use Rattle.reads.proofs.Got.Laws as GT′
-use Rattle.records.specs.Spread.{laid}
+use Rattle.records.specs.Meaning.Spread.{laid}
 use Rattle.records.proofs.Rows.{R, N4, F4, Z4, N2, F2}
 use Rattle.record_reads.proofs.Values.{HR, Hval, Hvals, GR, Gval, Gvals}
 use Rattle.records.proofs.Lends.{to}
 use Rattle.records.proofs.laws.SpreadLaws.{laid-length}
-use Rattle.record_reads.specs.Calls.{getFor}
-use Rattle.point_tables.specs.Tables.{tables as tabled}
-use Rattle.point_tables.specs.Outcome.{outcome}
+use Rattle.record_reads.specs.Inner.Calls.{getFor}
+use Rattle.point_tables.specs.Meaning.Tables.{tables as tabled}
+use Rattle.point_tables.specs.Meaning.Outcome.{outcome}
 use Rattle.records.proofs.AllRecords.{Spread-own, calls-spread-own}
 use Rattle.record_reads.proofs.CoreCalls.{GetFor, calls-get-for}
 use Rattle.records.proofs.spread.Symbol as spread-def

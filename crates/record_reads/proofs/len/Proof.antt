@@ -35,19 +35,19 @@ use denote.Triple.Statement.{Triple}
 use denote.Triple.Table.{entered, cited}
 use denote.Triple.Walked.{says, Stays, stay-none-slice, stay-slice, walkOf, goes-none-slice, goes-slice, Walks, ends-at, walked, walk-meets}
 use denote.Exit.{yes}
-use Rattle.objects.specs.Columns.{numsOf, realsOf, intsOf}
+use Rattle.objects.specs.Meaning.Columns.{numsOf, realsOf, intsOf}
 use Rattle.objects.specs.declared.Record.{Record}
 use Rattle.replies.specs.declared.Count.{Count}
 use Rattle.replies.proofs.Count as CT
 use Rattle.replies.proofs.Count.Laws as CT′
-use Rattle.records.specs.Spread.{laid}
+use Rattle.records.specs.Meaning.Spread.{laid}
 use Rattle.records.proofs.Rows.{R, N4, F4, Z4, N2, F2}
 use Rattle.record_reads.proofs.Values.{CR, Cval, Cvals}
 use Rattle.records.proofs.Lends.{to}
 use Rattle.records.proofs.laws.SpreadLaws.{laid-length}
-use Rattle.record_reads.specs.Calls.{lenFor}
-use Rattle.point_tables.specs.Tables.{tables as tabled}
-use Rattle.point_tables.specs.Outcome.{outcome}
+use Rattle.record_reads.specs.Inner.Calls.{lenFor}
+use Rattle.point_tables.specs.Meaning.Tables.{tables as tabled}
+use Rattle.point_tables.specs.Meaning.Outcome.{outcome}
 use Rattle.records.proofs.AllRecords.{Spread-own, calls-spread-own}
 use Rattle.record_reads.proofs.CoreCalls.{LenFor, calls-len-for}
 use Rattle.records.proofs.spread.Symbol as spread-def

@@ -34,20 +34,20 @@ use denote.Triple.Spec.{Meets, tripleOf}
 use denote.Triple.Statement.{Triple}
 use denote.Triple.Table.{entered, cited}
 use denote.Triple.Walked.{says, Stays, stay-slice, walkOf, goes-slice, Walks, ends-at, walked, walk-meets}
-use Rattle.objects.specs.Columns.{numsOf, realsOf, intsOf}
+use Rattle.objects.specs.Meaning.Columns.{numsOf, realsOf, intsOf}
 use Rattle.objects.specs.declared.Record.{Record}
 use Rattle.maintain.specs.declared.Maintained.{Maintained}
 use Rattle.maintain.proofs.Maintained as MT
 use Rattle.maintain.proofs.Maintained.Laws as MT′
-use Rattle.records.specs.Spread.{laid, gathered}
+use Rattle.records.specs.Meaning.Spread.{laid, gathered}
 use Rattle.records.proofs.Rows.{R, N4, F4, Z4, N2, F2}
 use Rattle.record_upkeep.proofs.Values.{MR, Mval, Mvals}
 use Rattle.records.proofs.Lends.{to}
 use Rattle.records.proofs.laws.SpreadLaws.{laid-length, gathered-length}
-use Rattle.record_upkeep.specs.Calls.{maintainFor}
-use Rattle.point_tables.specs.Tables.{tables as tabled}
-use Rattle.point_tables.specs.Outcome.{outcome}
-use Rattle.records.specs.Seen.{back}
+use Rattle.record_upkeep.specs.Inner.Calls.{maintainFor}
+use Rattle.point_tables.specs.Meaning.Tables.{tables as tabled}
+use Rattle.point_tables.specs.Meaning.Outcome.{outcome}
+use Rattle.records.specs.Meaning.Seen.{back}
 use Rattle.records.proofs.AllRecords.{Spread, calls-spread, Gather, calls-gather}
 use Rattle.record_upkeep.proofs.CoreCalls.{MaintainFor, calls-maintain-for}
 use Rattle.records.proofs.spread.Symbol as spread-def

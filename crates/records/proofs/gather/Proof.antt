@@ -46,7 +46,8 @@ use denote.Exit.{yes}
 use Rattle.objects.specs.declared.Record.{Record}
 use Rattle.objects.proofs.Record as RT
 use Rattle.objects.proofs.Record.Laws as RT′
-use Rattle.records.specs.Spread.{noRecord, gathered, rowOr}
+use Rattle.records.specs.Inner.Spread.{noRecord, rowOr}
+use Rattle.records.specs.Meaning.Spread.{gathered}
 use Rattle.records.proofs.Rows.{R, N4, F4, Z4}
 use Rattle.records.proofs.Lends.{to}
 use Rattle.records.proofs.laws.SpreadLaws.{gathered-length}

@@ -8,11 +8,12 @@ use lib.ListN.{length}
 use Rattle.objects.specs.declared.State.{State}
 use Rattle.objects.specs.declared.State.the-variants.{Unchanged, NewPos, Relocate, Removed}
 use Rattle.objects.specs.declared.Record.{Record}
-use Rattle.objects.specs.Columns.{tagOf, numsOf, realsOf, intsOf}
-use Rattle.point_tables.specs.Tables.{Tables, slotsOf, recordOn}
-use Rattle.point_tables.specs.Holds.{Holds}
-use Rattle.records.specs.Spread.{laid, besides, recordsIn}
-use Rattle.records.specs.Alike.{Alike, Tagged}
+use Rattle.objects.specs.Meaning.Columns.{tagOf, numsOf, realsOf, intsOf}
+use Rattle.point_tables.specs.Meaning.Tables.{Tables, slotsOf, recordOn}
+use Rattle.point_tables.specs.Meaning.Holds.{Holds}
+use Rattle.records.specs.Meaning.Spread.{laid, besides, recordsIn}
+use Rattle.records.specs.Inner.Alike.{Alike}
+use Rattle.records.proofs.laws.Alike.{Tagged}
 use Rattle.records.proofs.laws.SpreadLaws.{laid-length, gathered-length, recordAt-again}
 use Rattle.records.proofs.laws.AlikeLaws.{holds-alike}
 

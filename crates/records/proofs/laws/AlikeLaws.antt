@@ -2,17 +2,18 @@
 use Prim.Native.Nat.{ℕ, _+_, _*_, _≤_, _<_}
 use mathlib.Core.Path.{_≡_, refl, sym, ap, subst, _∙_}
 use lib.ListN.{length, getD}
-use Rattle.cells.specs.Key.{keyOf}
-use Rattle.slots.specs.Map.{head, wordsFor, usable}
-use Rattle.slots.specs.Slot.{phaseAt, good, SlotHolds}
-use Rattle.storage.specs.Packed.{second}
+use Rattle.cells.specs.Meaning.Key.{keyOf}
+use Rattle.slots.specs.Meaning.Map.{head, wordsFor, usable}
+use Rattle.slots.specs.Meaning.Slot.{phaseAt, good, SlotHolds}
+use Rattle.storage.specs.Meaning.Packed.{second}
 use Rattle.objects.specs.declared.Record.{Record}
-use Rattle.objects.specs.Columns.{tagOf}
-use Rattle.objects.specs.Occupied.{Occupied}
-use Rattle.point_tables.specs.Tables.{Tables, sizeOf, slotsOf, recordOn}
-use Rattle.point_tables.specs.Holds.{Holds, RecordHolds, EntryHolds, Pending}
-use Rattle.point_tables.specs.Decide.{holds, holds-says}
-use Rattle.records.specs.Alike.{Alike, Tagged, withColumns}
+use Rattle.objects.specs.Meaning.Columns.{tagOf}
+use Rattle.objects.specs.Meaning.Occupied.{Occupied}
+use Rattle.point_tables.specs.Meaning.Tables.{Tables, sizeOf, slotsOf, recordOn}
+use Rattle.point_tables.specs.Meaning.Holds.{Holds, RecordHolds, EntryHolds, Pending}
+use Rattle.point_tables.specs.Meaning.Decide.{holds, holds-says}
+use Rattle.records.specs.Inner.Alike.{Alike, withColumns}
+use Rattle.records.proofs.laws.Alike.{Tagged}
 
 pub alike-itself : (t : Tables) → Alike t t
 alike-itself t = record { of-nums = refl; of-reals = refl; of-ints = refl; each = λ s. refl; rest = refl }

@@ -7,10 +7,10 @@ use lib.IntN.{ℤ}
 use lib.Ieee.{Float}
 use lib.ListN.{length, getD}
 use Rattle.objects.specs.declared.Record.{Record}
-use Rattle.objects.specs.Columns.{recordAt, recordOf, numsOf, realsOf, intsOf}
+use Rattle.objects.specs.Meaning.Columns.{recordAt, recordOf, numsOf, realsOf, intsOf}
 use Rattle.objects.proofs.laws.ColumnLaws.{record-back}
-use Rattle.point_tables.specs.Tables.{Tables}
-use Rattle.records.specs.Spread.{laid, gathered, besides, recordsIn}
+use Rattle.point_tables.specs.Meaning.Tables.{Tables}
+use Rattle.records.specs.Meaning.Spread.{laid, gathered, besides, recordsIn}
 
 no-zero : (k : ℕ) → 0 ≡ suc k → ⊥
 no-zero k e = not-suc-le-zero (subst (λ (m : ℕ). m ≤ 0) e zero-le)

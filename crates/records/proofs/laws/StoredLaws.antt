@@ -5,13 +5,14 @@ use mathlib.Core.Path.{_≡_, refl, sym, subst, _∙_}
 use mathlib.Core.Logic.{inl, inr}
 use mathlib.Core.List.{List, [], _∷_}
 use lib.ListN.{length, getD, set, length-set}
-use Rattle.basics.specs.Says.{Decided, d-eq}
+use Rattle.basics.specs.Meaning.Says.{Decided}
+use Rattle.basics.proofs.laws.Says.{d-eq}
 use Rattle.objects.specs.declared.Record.{Record}
-use Rattle.objects.specs.Columns.{numsOf, realsOf, intsOf}
+use Rattle.objects.specs.Meaning.Columns.{numsOf, realsOf, intsOf}
 use Rattle.objects.proofs.laws.ColumnLaws.{stored-other}
-use Rattle.point_tables.specs.Tables.{Tables, recordOn}
-use Rattle.point_tables.specs.Outcome.{stored}
-use Rattle.records.specs.Alike.{Alike, withColumns}
+use Rattle.point_tables.specs.Meaning.Tables.{Tables, recordOn}
+use Rattle.point_tables.specs.Meaning.Outcome.{stored}
+use Rattle.records.specs.Inner.Alike.{Alike, withColumns}
 
 no-zero : (k : ℕ) → suc k ≡ 0 → ⊥
 no-zero k e = not-suc-le-zero (subst (λ (m : ℕ). m ≤ 0) (sym e) zero-le)

@@ -2,7 +2,7 @@
 use lib.IntN.{ℤ}
 use Rattle.cells.specs.declared.Cell.{Cell}
 use Rattle.objects.specs.declared.Record.{Record}
-use Rattle.objects.specs.Columns.{targetOf, intsOf}
+use Rattle.objects.specs.Meaning.Columns.{targetOf, intsOf}
 use Rattle.objects.proofs.Shared.{back}
 use mathlib.Core.Path.{_≡_, sym, ap, _∙_}
 use mathlib.Core.List.{List, [], _∷_}

@@ -37,7 +37,7 @@ use denote.Triple.Spec.{Meets, tripleOf}
 use denote.Triple.Table.{entered}
 use denote.Triple.Walked.{says, needs, Stays, stay-none, stay-none-slice, walkOf, goes-none, goes-none-slice, Walks, ends-at, walked, walk-meets}
 use denote.Exit.{yes}
-use Rattle.records.specs.Spread.{noRecord}
+use Rattle.records.specs.Inner.Spread.{noRecord}
 use Rattle.objects.specs.declared.Record.{Record}
 use Rattle.objects.proofs.Record as T
 use Rattle.objects.proofs.Record.Laws as T′

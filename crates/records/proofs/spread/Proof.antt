@@ -43,11 +43,12 @@ use denote.Triple.Statement.{Triple}
 use denote.Triple.Table.{entered, cited}
 use denote.Triple.Walked.{says, Stays, stay-none-slice, stay-slice, walkOf, goes-none-slice, goes-slice, Walks, ends-at, walked, walk-meets}
 use denote.Exit.{yes}
-use Rattle.objects.specs.Columns.{numsOf, realsOf, intsOf}
+use Rattle.objects.specs.Meaning.Columns.{numsOf, realsOf, intsOf}
 use Rattle.objects.specs.declared.Record.{Record}
 use Rattle.objects.proofs.Record as RT
 use Rattle.objects.proofs.Record.Laws as RT′
-use Rattle.records.specs.Spread.{noRecord, laid}
+use Rattle.records.specs.Inner.Spread.{noRecord}
+use Rattle.records.specs.Meaning.Spread.{laid}
 use Rattle.records.proofs.Rows.{R, N4, F4, Z4}
 use Rattle.records.proofs.Lends.{to}
 use Rattle.records.proofs.laws.SpreadLaws.{laid-length}

@@ -4,12 +4,12 @@ use Prim.Native.Nat.{ℕ, _<_, _≤_}
 use mathlib.Core.Path.{_≡_, _∙_}
 use native.Mathlib.Omega.{arith}
 use lib.ListN.{length, length-map}
-use Rattle.slots.specs.Map.{head}
-use Rattle.slots.specs.Slot.{live, phaseAt, SlotsHold}
-use Rattle.storage.specs.Packed.{Packed}
-use Rattle.point_tables.specs.Tables.{Tables, sizeOf, usedOf, rowsOf, Sized}
-use Rattle.point_tables.specs.Holds.{Counted, ListsHold, Holds}
-use Rattle.slot_walks.specs.Cleared.{clearedRow, clearedRows, clearedMap}
+use Rattle.slots.specs.Meaning.Map.{head}
+use Rattle.slots.specs.Meaning.Slot.{live, phaseAt, SlotsHold}
+use Rattle.storage.specs.Meaning.Packed.{Packed}
+use Rattle.point_tables.specs.Meaning.Tables.{Tables, sizeOf, usedOf, rowsOf, Sized}
+use Rattle.point_tables.specs.Meaning.Holds.{Counted, ListsHold, Holds}
+use Rattle.slot_walks.specs.Meaning.Cleared.{clearedRow, clearedRows, clearedMap}
 use Rattle.slot_walks.proofs.laws.ClearedLaws as Slots
 use Rattle.slot_walks.proofs.laws.ClearedLaws.{cleared-map-length, cleared-map-head, cleared-slots}
 use Rattle.removals.specs.Meaning.Clear.{cleared}

@@ -9,17 +9,17 @@ use lib.Dec.{eqb, leb}
 use lib.Ieee.{Float}
 use lib.ListN.{length}
 use borrow.Author.Tests.{le-leb, lt-leb}
-use Rattle.basics.specs.Refusals.{pick, orElse}
-use Rattle.basics.specs.Says.{apart}
-use Rattle.storage.specs.Keyed.{written}
-use Rattle.point_tables.specs.Tables.{Tables, usedOf}
-use Rattle.point_tables.specs.Holds.{Holds}
-use Rattle.point_tables.specs.Decide.{holds, holds-says}
-use Rattle.point_tables.specs.Outcome.{Outcome, outcome}
+use Rattle.basics.specs.Meaning.Refusals.{pick, orElse}
+use Rattle.basics.proofs.laws.Says.{apart}
+use Rattle.storage.specs.Meaning.Keyed.{written}
+use Rattle.point_tables.specs.Meaning.Tables.{Tables, usedOf}
+use Rattle.point_tables.specs.Meaning.Holds.{Holds}
+use Rattle.point_tables.specs.Meaning.Decide.{holds, holds-says}
+use Rattle.point_tables.specs.Meaning.Outcome.{Outcome, outcome}
 use Rattle.removals.specs.Meaning.Clear.{liveSlots, cleared, placeOn, objOn, Written, wrote, clearOf}
 use Rattle.removals.proofs.laws.LiveLaws.{live-used}
 use Rattle.removals.proofs.laws.ClearKeeps.{cleared-keeps, cleared-used}
-use Rattle.replies.specs.Replies.{count}
+use Rattle.replies.specs.Meaning.Replies.{count}
 
 module _ (t : Tables) (places : List (List Float)) (objs : List ℕ) where
   -- the number of objects, and the places that both outputs have

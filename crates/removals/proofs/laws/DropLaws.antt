@@ -8,15 +8,16 @@ use native.Mathlib.Omega.{arith}
 use lib.Dec.{eqb}
 use lib.ListN.{length}
 use borrow.Author.Tests.{eqb-false}
-use Rattle.basics.specs.Refusals.{pick}
-use Rattle.basics.specs.Says.{d-eq}
-use Rattle.storage.specs.Keyed.{All, Sorted, under, onList, takeOut}
-use Rattle.storage.specs.Entries.{rowKey}
-use Rattle.storage.specs.CellTable.{dropped}
-use Rattle.storage.specs.Store.{Filled}
-use Rattle.storage.specs.FilterLaws.{by-test, all-map, all-both}
-use Rattle.storage.specs.KeyedLaws.{under-other, sorted-onList, length-onList}
-use Rattle.storage.specs.TakeOutLaws.{all-takeOut, sorted-takeOut, under-takeOut-other}
+use Rattle.basics.specs.Meaning.Refusals.{pick}
+use Rattle.basics.proofs.laws.Says.{d-eq}
+use Rattle.storage.specs.Meaning.Keyed.{All, under, onList, takeOut}
+use Rattle.storage.specs.Inner.Keyed.{Sorted}
+use Rattle.storage.specs.Meaning.Entries.{rowKey}
+use Rattle.storage.specs.Meaning.CellTable.{dropped}
+use Rattle.storage.specs.Inner.Store.{Filled}
+use Rattle.storage.proofs.laws.FilterLaws.{by-test, all-map, all-both}
+use Rattle.storage.proofs.laws.KeyedLaws.{under-other, sorted-onList, length-onList}
+use Rattle.storage.proofs.laws.TakeOutLaws.{all-takeOut, sorted-takeOut, under-takeOut-other}
 use Rattle.removals.specs.Meaning.RemoveMaintain.{isEmpty}
 use Rattle.removals.specs.Inner.{rowsBy}
 use Rattle.removals.proofs.laws.GoneLaws.{all-onList, all-apart, pairs-onList}

@@ -5,11 +5,12 @@ use mathlib.Core.Bool.{Bool, true, false}
 use mathlib.Core.List.{List, [], _∷_, _++_}
 use mathlib.Core.Logic.{_⊎_, inl, inr, ⊎-elim}
 use native.Mathlib.Omega.{arith}
-use Rattle.basics.specs.Says.{apart}
-use Rattle.storage.specs.Keyed.{All, filter, Sorted, under, below, above, onList, last, front, close, takeOut}
-use Rattle.storage.specs.FilterLaws.{by-test, all-map, all-both, all-append, all-front, all-back, filter-all}
-use Rattle.storage.specs.KeyedLaws.{all-below, all-above, sorted-parts}
-use Rattle.storage.specs.TakeOutLaws.{has, all-close, all-takeOut}
+use Rattle.basics.proofs.laws.Says.{apart}
+use Rattle.storage.specs.Meaning.Keyed.{All, filter, under, below, above, onList, last, front, close, takeOut}
+use Rattle.storage.specs.Inner.Keyed.{Sorted}
+use Rattle.storage.proofs.laws.FilterLaws.{by-test, all-map, all-both, all-append, all-front, all-back, filter-all}
+use Rattle.storage.proofs.laws.KeyedLaws.{all-below, all-above, sorted-parts}
+use Rattle.storage.proofs.laws.TakeOutLaws.{has, all-close, all-takeOut}
 use Rattle.point_tables.proofs.laws.Members.{Some, Pairs, pairs-filter}
 
 module _ {A : Type 0} where

@@ -1,9 +1,9 @@
 -- The live slots are as many as the entries in use. Assumes nothing.
 use mathlib.Core.Path.{_≡_, _∙_}
 use lib.ListN.{length}
-use Rattle.point_tables.specs.Tables.{Tables, usedOf}
-use Rattle.point_tables.specs.Holds.{Holds}
-use Rattle.point_tables.specs.CountLaws.{live-count}
+use Rattle.point_tables.specs.Meaning.Tables.{Tables, usedOf}
+use Rattle.point_tables.specs.Meaning.Holds.{Holds}
+use Rattle.point_tables.proofs.laws.CountLaws.{live-count}
 use Rattle.slot_walks.proofs.laws.LiveLaws as Live
 use Rattle.removals.specs.Meaning.Clear.{liveSlots}
 

@@ -6,18 +6,18 @@ use mathlib.Core.List.{List, [], _∷_}
 use native.Mathlib.Omega.{arith}
 use lib.ListN.{length, getD, drop, List·getD-append}
 use borrow.Author.Tests.{eqb-true, eqb-false, ne-eqb}
-use Rattle.cells.specs.Key.{keyOf}
-use Rattle.slots.specs.Slot.{live, phaseAt}
-use Rattle.storage.specs.Keyed.{All, under, takeOut}
-use Rattle.storage.specs.Entries.{Entry, rowKey, rowItem, entryKey, isItem}
-use Rattle.storage.specs.Packed.{first, second}
-use Rattle.storage.specs.FilterLaws.{all-map, all-at, all-both}
-use Rattle.storage.specs.TakeOutLaws.{all-takeOut}
+use Rattle.cells.specs.Meaning.Key.{keyOf}
+use Rattle.slots.specs.Meaning.Slot.{live, phaseAt}
+use Rattle.storage.specs.Meaning.Keyed.{All, under, takeOut}
+use Rattle.storage.specs.Meaning.Entries.{Entry, rowKey, rowItem, entryKey, isItem}
+use Rattle.storage.specs.Meaning.Packed.{first, second}
+use Rattle.storage.proofs.laws.FilterLaws.{all-map, all-at, all-both}
+use Rattle.storage.proofs.laws.TakeOutLaws.{all-takeOut}
 use Rattle.storage.proofs.laws.PackedLaws.{all-first}
 use Rattle.objects.specs.declared.Record.{Record}
-use Rattle.objects.specs.Columns.{tagOf}
-use Rattle.point_tables.specs.Tables.{Tables, usedOf, rowsOf, slotsOf, recordOn, entriesIn, cellRows, slotOf}
-use Rattle.point_tables.specs.Holds.{RecordHolds, ListsHold, Pending, Holds}
+use Rattle.objects.specs.Meaning.Columns.{tagOf}
+use Rattle.point_tables.specs.Meaning.Tables.{Tables, usedOf, rowsOf, slotsOf, recordOn, entriesIn, cellRows, slotOf}
+use Rattle.point_tables.specs.Meaning.Holds.{RecordHolds, ListsHold, Pending, Holds}
 use Rattle.removals.specs.Meaning.RemoveMaintain.{isEmpty, entriesWithout, rowsWithout, takenOut}
 use Rattle.point_tables.proofs.laws.Members.{Pairs}
 use Rattle.removals.proofs.laws.GoneLaws.{some-takeOut, pairs-takeOut, all-onList, some-onList, pairs-onList, gone-onList}

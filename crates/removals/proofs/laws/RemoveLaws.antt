@@ -4,18 +4,18 @@ use Prim.Native.Nat.{ℕ, _+_, _<_}
 use mathlib.Core.Path.{_≡_, refl, _∙_, ap}
 use mathlib.Core.Bool.{Bool, true, false}
 use lib.Dec.{eqb}
-use Rattle.basics.specs.Refusals.{pick, orElse}
+use Rattle.basics.specs.Meaning.Refusals.{pick, orElse}
 use Rattle.slots.specs.declared.Handle.{Handle}
-use Rattle.slots.specs.Slot.{live, phaseAt, versionAt, good}
+use Rattle.slots.specs.Meaning.Slot.{live, phaseAt, versionAt, good}
 use Rattle.slots.proofs.laws.HandleLaws.{good-says, emptied-not-good}
-use Rattle.point_tables.specs.Tables.{Tables, usedOf, slotsOf, recordOn}
-use Rattle.point_tables.specs.Holds.{Holds}
-use Rattle.point_tables.specs.Decide.{holds, holds-says}
-use Rattle.point_tables.specs.Outcome.{Outcome, outcome}
+use Rattle.point_tables.specs.Meaning.Tables.{Tables, usedOf, slotsOf, recordOn}
+use Rattle.point_tables.specs.Meaning.Holds.{Holds}
+use Rattle.point_tables.specs.Meaning.Decide.{holds, holds-says}
+use Rattle.point_tables.specs.Meaning.Outcome.{Outcome, outcome}
 use Rattle.replies.specs.declared.Reply.{Reply}
 use Rattle.removals.specs.Meaning.RemoveMaintain.{takenOut, removeMaintainOf}
 use Rattle.removals.proofs.laws.RemoveKeeps.{taken-keeps, taken-count}
-use Rattle.replies.specs.Replies.{reply}
+use Rattle.replies.specs.Meaning.Replies.{reply}
 
 -- the handle is that of an object
 abbrev pub isGood : Tables → Handle → Bool

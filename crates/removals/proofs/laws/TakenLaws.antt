@@ -7,24 +7,24 @@ use mathlib.Core.List.{List, [], _∷_, map}
 use native.Mathlib.Omega.{arith}
 use lib.ListN.{length, getD, length-map}
 use borrow.Author.Tests.{eq-eqb}
-use Rattle.cells.specs.Key.{keyOf}
-use Rattle.slots.specs.Map.{head}
-use Rattle.slots.specs.Slot.{live, phaseAt, versionAt, emptiedNums, emptiedMap, SlotsHold}
+use Rattle.cells.specs.Meaning.Key.{keyOf}
+use Rattle.slots.specs.Meaning.Map.{head}
+use Rattle.slots.specs.Meaning.Slot.{live, phaseAt, versionAt, emptiedNums, emptiedMap, SlotsHold}
 use Rattle.slots.proofs.laws.SlotLaws.{emptied-holds}
 use Rattle.slots.proofs.laws.EmptyLaws.{emptied-length, emptied-same, emptied-other, emptied-map-length, emptied-map-head}
-use Rattle.storage.specs.Keyed.{under}
-use Rattle.storage.specs.Entries.{Entry, rowKey, rowOf, spotOf, entryKey, entriesOf, isItem}
-use Rattle.storage.specs.Packed.{Packed}
+use Rattle.storage.specs.Meaning.Keyed.{under}
+use Rattle.storage.specs.Meaning.Entries.{Entry, rowKey, rowOf, spotOf, entryKey, entriesOf, isItem}
+use Rattle.storage.specs.Meaning.Packed.{Packed}
 use Rattle.storage.proofs.laws.WrittenLaws.{length-written}
 use Rattle.storage.proofs.laws.ColumnLaws.{map-under, rows-takeOut}
 use Rattle.storage.proofs.laws.PoolLaws.{rows-column}
-use Rattle.storage.specs.TakeOutLaws.{has, length-onList-takeOut}
+use Rattle.storage.proofs.laws.TakeOutLaws.{has, length-onList-takeOut}
 use Rattle.slot_walks.proofs.laws.ClearedLaws.{next-not-live}
-use Rattle.objects.specs.Columns.{recordOf}
-use Rattle.point_tables.specs.Tables.{Tables, sizeOf, usedOf, rowsOf, slotsOf, recordOn, entriesIn, cellRows, Sized, slotOf}
-use Rattle.point_tables.specs.Holds.{Counted, Holds}
+use Rattle.objects.specs.Meaning.Columns.{recordOf}
+use Rattle.point_tables.specs.Meaning.Tables.{Tables, sizeOf, usedOf, rowsOf, slotsOf, recordOn, entriesIn, cellRows, Sized, slotOf}
+use Rattle.point_tables.specs.Meaning.Holds.{Counted, Holds}
 use Rattle.removals.specs.Meaning.RemoveMaintain.{isEmpty, entriesWithout, rowsWithout, takenOut}
-use Rattle.point_tables.specs.EntryLaws.{written-entries}
+use Rattle.point_tables.proofs.laws.EntryLaws.{written-entries}
 use Rattle.point_tables.proofs.laws.RowLaws.{PackedRows, from-rows}
 use Rattle.point_tables.proofs.laws.ListedLaws.{Named, listing, rows-in}
 use Rattle.point_tables.proofs.laws.HoldsLaws.{used-in-pool, used-in-spots, entries-length, rows-length}

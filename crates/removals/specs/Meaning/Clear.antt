@@ -4,16 +4,16 @@ use mathlib.Core.List.{List, [], _∷_, map}
 use lib.Dec.{eqb, leb}
 use lib.Ieee.{Float}
 use lib.ListN.{length}
-use Rattle.basics.specs.Lent.{Lent, was, is}
-use Rattle.basics.specs.Refusals.{Refusal, unless, pick, byTests}
-use Rattle.storage.specs.Keyed.{written}
-use Rattle.slot_walks.specs.Live.{liveFrom}
-use Rattle.slot_walks.specs.Cleared.{clearedRows, clearedMap}
-use Rattle.point_tables.specs.Tables.{Tables, tables, counting, recordOn}
-use Rattle.point_tables.specs.Decide.{holds}
-use Rattle.point_tables.specs.Outcome.{Outcome, outcome}
+use Rattle.basics.specs.Meaning.Lent.{Lent, was, is}
+use Rattle.basics.specs.Meaning.Refusals.{Refusal, unless, pick, byTests}
+use Rattle.storage.specs.Meaning.Keyed.{written}
+use Rattle.slot_walks.specs.Meaning.Live.{liveFrom}
+use Rattle.slot_walks.specs.Meaning.Cleared.{clearedRows, clearedMap}
+use Rattle.point_tables.specs.Meaning.Tables.{Tables, tables, counting, recordOn}
+use Rattle.point_tables.specs.Meaning.Decide.{holds}
+use Rattle.point_tables.specs.Meaning.Outcome.{Outcome, outcome}
 use Rattle.replies.specs.declared.Count.{Count}
-use Rattle.replies.specs.Replies.{count}
+use Rattle.replies.specs.Meaning.Replies.{count}
 
 -- the live slots, ascending
 unfoldable pub liveSlots : Tables → List ℕ

@@ -3,18 +3,18 @@ use Prim.Native.Nat.{ℕ}
 use mathlib.Core.Bool.{Bool, true, false}
 use mathlib.Core.List.{List, [], _∷_, map}
 use lib.ListN.{length}
-use Rattle.basics.specs.Refusals.{Refusal, unless, pick, byTests}
-use Rattle.cells.specs.Key.{keyOf}
+use Rattle.basics.specs.Meaning.Refusals.{Refusal, unless, pick, byTests}
+use Rattle.cells.specs.Meaning.Key.{keyOf}
 use Rattle.slots.specs.declared.Handle.{Handle}
-use Rattle.slots.specs.Slot.{good, emptiedNums, emptiedMap}
-use Rattle.storage.specs.Keyed.{under, onList, takeOut, written}
-use Rattle.storage.specs.Entries.{Entry, rowOf, spotOf, entryKey, isItem}
-use Rattle.storage.specs.CellTable.{dropped}
-use Rattle.point_tables.specs.Tables.{Tables, tables, counting, recordOn, entriesIn, cellRows}
-use Rattle.point_tables.specs.Decide.{holds}
-use Rattle.point_tables.specs.Outcome.{Outcome, outcome}
+use Rattle.slots.specs.Meaning.Slot.{good, emptiedNums, emptiedMap}
+use Rattle.storage.specs.Meaning.Keyed.{under, onList, takeOut, written}
+use Rattle.storage.specs.Meaning.Entries.{Entry, rowOf, spotOf, entryKey, isItem}
+use Rattle.storage.specs.Meaning.CellTable.{dropped}
+use Rattle.point_tables.specs.Meaning.Tables.{Tables, tables, counting, recordOn, entriesIn, cellRows}
+use Rattle.point_tables.specs.Meaning.Decide.{holds}
+use Rattle.point_tables.specs.Meaning.Outcome.{Outcome, outcome}
 use Rattle.replies.specs.declared.Reply.{Reply}
-use Rattle.replies.specs.Replies.{reply}
+use Rattle.replies.specs.Meaning.Replies.{reply}
 
 abbrev pub isEmpty : {A : Type 0} → List A → Bool
 isEmpty [] = true

@@ -7,11 +7,13 @@ use native.Mathlib.Numerals.{add-one}
 use native.Mathlib.Omega.{arith}
 use lib.ListN.{length, take, drop, getD, drop-of-length-le}
 use lib.Seq.{drop-cons, drop-drop}
-use Rattle.basics.specs.Refusals.{pick}
+use Rattle.basics.specs.Meaning.Refusals.{pick}
 use Rattle.splits.specs.declared.Stepped.{Stepped}
-use Rattle.splits.specs.Sofar.{Sofar, Fed, feed, sofar, fed, recordsFrom}
+use Rattle.splits.specs.Meaning.Sofar.{Sofar, Fed, feed, sofar}
+use Rattle.splits.specs.Inner.Sofar.{fed}
+use Rattle.splits.proofs.laws.Sofar.{recordsFrom}
 use Rattle.replay.specs.declared.Found.{Found}
-use Rattle.replay.specs.Next.{Next, nextOf, nexted, stops, found}
+use Rattle.replay.specs.Meaning.Next.{Next, nextOf, nexted, stops, found}
 
 -- ---- the code's walk, a byte at a time
 module _ (room : ℕ) (s : Sofar) (l : List ℕ) (at : ℕ) where

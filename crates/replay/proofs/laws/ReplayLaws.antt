@@ -3,15 +3,15 @@ use mathlib.Core.Path.{_≡_, sym, ap, subst, _∙_}
 use mathlib.Core.List.{List}
 use native.Mathlib.Omega.{arith}
 use Prim.Native.Nat.{ℕ}
-use Rattle.decimals.specs.Written.{Written, put}
+use Rattle.decimals.specs.Meaning.Written.{Written, put}
 use Rattle.printing.specs.declared.Said.{Said}
-use Rattle.printing.specs.Said.{recordText}
+use Rattle.printing.specs.Meaning.Said.{recordText}
 use Rattle.lines.specs.declared.Request.{Request}
-use Rattle.lines.specs.Requests.{requestOf}
-use Rattle.answers.specs.State.{State, Answered, answered}
+use Rattle.lines.specs.Meaning.Requests.{requestOf}
+use Rattle.answers.specs.Meaning.State.{State, Answered, answered}
 use Rattle.answers.proofs.laws.ToldLaws.{IsTold, told}
-use Rattle.answers.specs.Answer.{answerOf}
-use Rattle.replay.specs.Replay.{Grids, grids, fresh, answerTo, textOf, gridsOf, replayed, replayOf}
+use Rattle.answers.specs.Meaning.Answer.{answerOf}
+use Rattle.replay.specs.Meaning.Replay.{Grids, grids, fresh, answerTo, textOf, gridsOf, replayed, replayOf}
 
 module _ (g : Grids) (bytes : List ℕ) {q : Request} (read : q ≡ requestOf bytes) {s : Said} {after : State} (done : answered s after ≡ answerOf (fresh g) q) where
   pub can-tell : IsTold (answered s after)

@@ -5,15 +5,17 @@ use mathlib.Core.Path.{_≡_, refl, ap, _∙_}
 use mathlib.Core.List.{List, [], _∷_, _++_, map}
 use native.Mathlib.Omega.{arith}
 use lib.ListN.{take, drop}
-use Rattle.splits.specs.Records.{recordsOf}
-use Rattle.splits.specs.Sofar.{Sofar, begun, recordsFrom}
+use Rattle.splits.specs.Inner.Records.{recordsOf}
+use Rattle.splits.specs.Meaning.Sofar.{Sofar, begun}
+use Rattle.splits.proofs.laws.Sofar.{recordsFrom}
 use Rattle.splits.proofs.laws.SplitLaws.{splits-records}
 use Rattle.lines.proofs.laws.InputLaws.{cut-read}
-use Rattle.answers.specs.State.{Answered}
-use Rattle.answers.specs.Answer.{answerOf}
-use Rattle.replay.specs.Next.{Next, nextOf}
+use Rattle.answers.specs.Meaning.State.{Answered}
+use Rattle.answers.specs.Meaning.Answer.{answerOf}
+use Rattle.replay.specs.Meaning.Next.{Next, nextOf}
 use Rattle.replay.proofs.laws.NextLaws.{none-lost, block-used}
-use Rattle.replay.specs.Replay.{Grids, fresh, answerTo, textOf, gridsOf, traceOf}
+use Rattle.replay.specs.Meaning.Replay.{Grids, fresh, answerTo, textOf, gridsOf}
+use Rattle.replay.specs.Inner.Replay.{traceOf}
 
 cut-answer : (g : Grids) (r : List ℕ) → answerTo g (take 129 r) ≡ answerTo g r
 unfolding answerTo

@@ -4,7 +4,7 @@ use mathlib.Core.Path.{_≡_, refl, _∙_, ap}
 use native.Mathlib.Omega.{arith}
 use lib.ListN.{length}
 use borrow.Author.Needs.{needs}
-use Rattle.settle.specs.Counts.{counts, numbered, movedIn, removedIn}
+use Rattle.settle.specs.Inner.Counts.{counts, numbered, movedIn, removedIn}
 use Rattle.settle.proofs.Tags.{moved-next, removed-next, moved-most, removed-most}
 use Rattle.settle.proofs.count_moves.Statement.{statement}
 use Rattle.settle.proofs.count_moves.Tie as tie

@@ -3,16 +3,17 @@ use Prim.Native.Nat.{ℕ, zero, suc}
 use mathlib.Core.Path.{_≡_, refl, sym, _∙_, ap}
 use mathlib.Core.Bool.{Bool}
 use mathlib.Core.List.{List, _++_}
-use Rattle.storage.specs.Entries.{Entry}
-use Rattle.storage.specs.FilterLaws.{by-test}
-use Rattle.point_tables.specs.Tables.{Tables, slotsOf}
-use Rattle.point_tables.specs.Holds.{Holds}
-use Rattle.point_tables.specs.CountLaws.{isLive}
-use Rattle.maintain.specs.Walk.{settled}
-use Rattle.maintain.specs.Settle.{settledIn, settledAll}
-use Rattle.maintain.specs.SettleForm.{settled-form}
-use Rattle.maintain.specs.Closed.{relocatedAt, relocatedBelow}
-use Rattle.settle.specs.Pass.{bare, Ready}
+use Rattle.storage.specs.Meaning.Entries.{Entry}
+use Rattle.storage.proofs.laws.FilterLaws.{by-test}
+use Rattle.point_tables.specs.Meaning.Tables.{Tables, slotsOf}
+use Rattle.point_tables.specs.Meaning.Holds.{Holds}
+use Rattle.point_tables.specs.Inner.Count.{isLive}
+use Rattle.maintain.specs.Meaning.Walk.{settled}
+use Rattle.maintain.specs.Inner.Settle.{settledIn, settledAll}
+use Rattle.maintain.proofs.laws.SettleForm.{settled-form}
+use Rattle.maintain.specs.Inner.Closed.{relocatedAt, relocatedBelow}
+use Rattle.settle.proofs.laws.Pass.{bare}
+use Rattle.settle.specs.Inner.Pass.{Ready}
 
 module _ (t : Tables) where
   pub settled-bare : (s : ℕ) → settled (bare t) s ≡ bare (settled t s)

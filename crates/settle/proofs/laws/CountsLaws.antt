@@ -8,17 +8,17 @@ use lib.Dec.{eqb}
 use lib.IntN.{ℤ}
 use lib.Ieee.{Float}
 use lib.ListN.{getD}
-use Rattle.basics.specs.Refusals.{pick}
+use Rattle.basics.specs.Meaning.Refusals.{pick}
 use Rattle.geometry.specs.declared.Position.{Position}
 use Rattle.cells.specs.declared.Cell.{Cell}
-use Rattle.slots.specs.Slot.{live, phaseAt}
+use Rattle.slots.specs.Meaning.Slot.{live, phaseAt}
 use Rattle.objects.specs.declared.State.{State}
 use Rattle.objects.specs.declared.State.the-variants.{Unchanged, NewPos, Relocate, Removed}
-use Rattle.objects.specs.Columns.{pickState, stateOf, recordOf}
-use Rattle.objects.specs.States.{isRemoved}
-use Rattle.point_tables.specs.Tables.{Tables, recordOn}
-use Rattle.maintain.specs.Maintain.{isMoving, countStates}
-use Rattle.settle.specs.Counts.{numbered, movedIn, removedIn}
+use Rattle.objects.specs.Meaning.Columns.{pickState, stateOf, recordOf}
+use Rattle.objects.specs.Meaning.States.{isRemoved}
+use Rattle.point_tables.specs.Meaning.Tables.{Tables, recordOn}
+use Rattle.maintain.specs.Meaning.Maintain.{isMoving, countStates}
+use Rattle.settle.specs.Inner.Counts.{numbered, movedIn, removedIn}
 
 -- ---- a test that looks at no position and no cell
 module _ (test : State → Bool) (moves : (p q : Position) → test (NewPos p) ≡ test (NewPos q)) (relocates : (p q : Position) (c d : Cell) → test (Relocate p c) ≡ test (Relocate q d)) where

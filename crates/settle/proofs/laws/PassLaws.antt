@@ -8,25 +8,25 @@ use native.Mathlib.Omega.{arith}
 use lib.Dec.{eqb}
 use lib.ListN.{length, length-append, length-map}
 use borrow.Author.Tests.{eqb-true}
-use Rattle.basics.specs.Refusals.{pick}
-use Rattle.basics.specs.Says.{d-eq}
+use Rattle.basics.specs.Meaning.Refusals.{pick}
+use Rattle.basics.proofs.laws.Says.{d-eq}
 use Rattle.cells.specs.declared.Cell.{Cell}
-use Rattle.cells.specs.Key.{keyOf}
-use Rattle.slots.specs.Slot.{live}
-use Rattle.storage.specs.Entries.{rowOf}
-use Rattle.storage.specs.FilterLaws.{by-test}
+use Rattle.cells.specs.Meaning.Key.{keyOf}
+use Rattle.slots.specs.Meaning.Slot.{live}
+use Rattle.storage.specs.Meaning.Entries.{rowOf}
+use Rattle.storage.proofs.laws.FilterLaws.{by-test}
 use Rattle.objects.specs.declared.State.{State}
 use Rattle.objects.specs.declared.State.the-variants.{Unchanged, NewPos, Relocate, Removed}
-use Rattle.objects.specs.Occupied.{Agrees}
-use Rattle.point_tables.specs.Tables.{Tables, sizeOf, slotsOf, recordOn}
-use Rattle.point_tables.specs.CountLaws.{isLive}
-use Rattle.maintain.specs.Walk.{settled}
-use Rattle.maintain.specs.Settle.{settledIn}
-use Rattle.maintain.specs.SettleForm.{Rows, rowsAt, recordIn}
-use Rattle.maintain.specs.SettleLaws.{Shaped}
-use Rattle.maintain.specs.SettleAllLaws.{in-slots, in-shaped, in-rows-past}
-use Rattle.maintain.specs.Closed.{relocatedBy, relocatedAt, relocatedBelow}
-use Rattle.settle.specs.Pass.{Slotted, Ready, targetRows, turned, turnedRows}
+use Rattle.objects.specs.Meaning.Occupied.{Agrees}
+use Rattle.point_tables.specs.Meaning.Tables.{Tables, sizeOf, slotsOf, recordOn}
+use Rattle.point_tables.specs.Inner.Count.{isLive}
+use Rattle.maintain.specs.Meaning.Walk.{settled}
+use Rattle.maintain.specs.Inner.Settle.{settledIn}
+use Rattle.maintain.proofs.laws.SettleForm.{Rows, rowsAt, recordIn}
+use Rattle.maintain.specs.Inner.SettleLaws.{Shaped}
+use Rattle.maintain.proofs.laws.SettleAllLaws.{in-slots, in-shaped, in-rows-past}
+use Rattle.maintain.specs.Inner.Closed.{relocatedBy, relocatedAt, relocatedBelow}
+use Rattle.settle.specs.Inner.Pass.{Slotted, Ready, targetRows, turned, turnedRows}
 
 pub shaped-slotted : (t : Tables) → Shaped t → (s : ℕ) → s < slotsOf t → Slotted t s
 shaped-slotted t h s l =

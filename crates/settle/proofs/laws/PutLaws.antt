@@ -7,7 +7,7 @@ use native.Mathlib.Nat.{add-zero}
 use native.Mathlib.Numerals.{add-one}
 use lib.ListN.{length, take, drop, set, length-append, length-drop, take-append-drop}
 use lib.Seq.{length-take-le, set-split, take-at, drop-append-add, drop-drop}
-use Rattle.settle.specs.Pass.{putAt}
+use Rattle.settle.specs.Inner.Pass.{putAt}
 
 module _ {A : Type 0} (w : ℕ) where
   -- no row, and one row

@@ -6,18 +6,18 @@ use mathlib.Core.List.{List, [], _∷_, _++_, map, map-append}
 use native.Mathlib.Omega.{arith}
 use Rattle.geometry.specs.declared.Position.{Position}
 use Rattle.cells.specs.declared.Cell.{Cell}
-use Rattle.storage.specs.Entries.{Entry, rowOf}
-use Rattle.storage.specs.FilterLaws.{by-test}
-use Rattle.merge.specs.Grown.{recorded, placed}
+use Rattle.storage.specs.Meaning.Entries.{Entry, rowOf}
+use Rattle.storage.proofs.laws.FilterLaws.{by-test}
+use Rattle.merge.specs.Inner.Grown.{recorded, placed}
 use Rattle.objects.specs.declared.State.{State}
 use Rattle.objects.specs.declared.State.the-variants.{Unchanged, NewPos, Relocate, Removed}
-use Rattle.point_tables.specs.Tables.{Tables, sizeOf, slotsOf, recordOn}
-use Rattle.point_tables.specs.CountLaws.{isLive}
-use Rattle.maintain.specs.Settle.{settledAll}
-use Rattle.maintain.specs.SettleForm.{Rows, rowsAt, rowsBy, rowsAfter}
-use Rattle.maintain.specs.SettleLaws.{Shaped}
-use Rattle.maintain.specs.SettleAllLaws.{in-rows}
-use Rattle.maintain.specs.Closed.{relocatedBy, relocatedAt, relocatedBelow}
+use Rattle.point_tables.specs.Meaning.Tables.{Tables, sizeOf, slotsOf, recordOn}
+use Rattle.point_tables.specs.Inner.Count.{isLive}
+use Rattle.maintain.specs.Inner.Settle.{settledAll}
+use Rattle.maintain.proofs.laws.SettleForm.{Rows, rowsAt, rowsBy, rowsAfter}
+use Rattle.maintain.specs.Inner.SettleLaws.{Shaped}
+use Rattle.maintain.proofs.laws.SettleAllLaws.{in-rows}
+use Rattle.maintain.specs.Inner.Closed.{relocatedBy, relocatedAt, relocatedBelow}
 
 module _ (t : Tables) (h : Shaped t) where
   -- the rows of a live slot after the pass

@@ -4,8 +4,8 @@ use Prim.Native.Nat.{_+_, _<_, _≤_, _-_}
 use mathlib.Core.Path.{_≡_}
 use native.Mathlib.Omega.{arith}
 use lib.ListN.{length}
-use Rattle.point_tables.specs.Tables.{Tables}
-use Rattle.settle.specs.Pass.{recordsIn}
+use Rattle.point_tables.specs.Meaning.Tables.{Tables}
+use Rattle.settle.specs.Inner.Pass.{recordsIn}
 use Rattle.settle.proofs.Turns.{Done, none-done, all-done, done-slots, done-reals, done-ints, done-map, done-room, put-long, turn-slotted, turn-room, turn-done}
 use Rattle.settle.proofs.settle_slots.Statement.{statement}
 use Rattle.settle.proofs.settle_slots.Tie as tie

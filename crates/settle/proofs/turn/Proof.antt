@@ -1,7 +1,7 @@
 -- `settle::turn` meets its contract, by the phase and the tag of the slot. Assumes nothing.
 use borrow.Author.Needs.{needs}
 use Rattle.objects.proofs.Shared.{back}
-use Rattle.cells.specs.Numbers.{cell-ext}
+use Rattle.cells.proofs.laws.Numbers.{cell-ext}
 use Rattle.settle.proofs.Turns.{turn-idle, turn-unchanged, turn-moved, turn-removed, target-room, turn-relocated}
 use Rattle.settle.proofs.turn.Statement.{statement}
 use Rattle.settle.proofs.turn.Tie as tie

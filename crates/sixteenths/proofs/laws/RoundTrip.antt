@@ -4,10 +4,10 @@ use mathlib.Core.List.{List}
 use Prim.Native.Nat.{ℕ}
 use lib.IntN.{ℤ}
 use Rattle.decimals.specs.declared.Count.the-variants.{Counted}
-use Rattle.decimals.specs.Text.{signedText}
-use Rattle.decimals.specs.Fields.{countOf}
+use Rattle.decimals.specs.Meaning.Text.{signedText}
+use Rattle.decimals.specs.Meaning.Fields.{countOf}
 use Rattle.decimals.proofs.laws.CountLaws.{count-text}
-use Rattle.sixteenths.specs.Sixteenth.{sixteenth, sixteenthsOf}
+use Rattle.sixteenths.specs.Meaning.Sixteenth.{sixteenth, sixteenthsOf}
 use Rattle.sixteenths.proofs.laws.SixteenthLaws.{count-back}
 
 pub coordinate-round-trip : (field : List ℕ) (k : ℤ) → countOf field ≡ Counted k → signedText (sixteenthsOf (sixteenth k)) ≡ field

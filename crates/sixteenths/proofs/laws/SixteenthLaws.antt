@@ -12,7 +12,7 @@ use lib.Ieee.Fits.{down-pos}
 use lib.Ieee.Exact.{HasValue, round-exact}
 use lib.Ieee.Scale.{round-same}
 use lib.Ieee.Back.{round-whole, positive-back, negative-back}
-use Rattle.sixteenths.specs.Sixteenth.{belowZero, sixteenth, sixteenthsOf}
+use Rattle.sixteenths.specs.Meaning.Sixteenth.{belowZero, sixteenth, sixteenthsOf}
 
 abbrev sixteen : Float
 sixteen = fin false 1 (pos 4)

@@ -7,7 +7,7 @@ use mir.Syntax.{w32}
 use mir.Val.{SFits}
 use mir.ValLaws.{toZ-ofZ}
 use borrow.Author.Needs.{needs}
-use Rattle.sixteenths.specs.Sixteenth.{sixteenthsOf}
+use Rattle.sixteenths.specs.Meaning.Sixteenth.{sixteenthsOf}
 use Rattle.sixteenths.proofs.sixteenths.Statement.{statement}
 use Rattle.sixteenths.proofs.sixteenths.Tie as tie
 

@@ -6,7 +6,7 @@ use native.Mathlib.Omega.{arith}
 use lib.ListN.{length}
 use lib.Seq.{take-all}
 use borrow.Author.Needs.{needs}
-use Rattle.slot_walks.specs.Live.{liveFrom}
+use Rattle.slot_walks.specs.Meaning.Live.{liveFrom}
 use Rattle.slot_walks.proofs.laws.LiveLaws.{liveTo, live-most, live-within}
 use Rattle.slot_walks.proofs.laws.FillLaws.{one-more, as-many}
 use Rattle.slot_walks.proofs.count_live.Statement.{statement}

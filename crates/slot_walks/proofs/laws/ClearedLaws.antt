@@ -10,15 +10,16 @@ use mathlib.Core.Logic.{⊎-elim}
 use lib.ListN.{length, getD, set, take, drop, length-append, length-map, List·getD-map, take-append-drop}
 use lib.Seq.{take-suc, take-length, drop-length, drop-cons, length-take-le, getD-at, set-at}
 use borrow.Author.Tests.{eqb-true, eq-eqb, ne-eqb}
-use Rattle.basics.specs.Refusals.{pick}
-use Rattle.basics.specs.Says.{d-eq}
-use Rattle.slots.specs.Map.{head, wordsFor, givenBack}
+use Rattle.basics.specs.Meaning.Refusals.{pick}
+use Rattle.basics.proofs.laws.Says.{d-eq}
+use Rattle.slots.specs.Meaning.Map.{head, wordsFor, givenBack}
 use Rattle.slots.proofs.laws.MapLaws.{given-back-length, given-back-head}
-use Rattle.slots.specs.Slot.{free, live, retired, lastVersion, versionAt, phaseAt, nextVersion, nextPhase, good, emptiedRow, emptiedNums, emptiedMap, SlotsHold}
+use Rattle.slots.specs.Meaning.Slot.{free, live, retired, lastVersion, versionAt, phaseAt, nextVersion, nextPhase, good, emptiedRow, emptiedNums}
+use Rattle.slots.specs.Meaning.Slot.{emptiedMap, SlotsHold}
 use Rattle.slots.proofs.laws.HandleLaws.{good-says}
 use Rattle.slots.proofs.laws.SlotLaws.{emptied-holds}
-use Rattle.slot_walks.specs.Live.{rowLive}
-use Rattle.slot_walks.specs.Cleared.{clearedRow, clearedBit, clearedMap, clearedRows}
+use Rattle.slot_walks.specs.Meaning.Live.{rowLive}
+use Rattle.slot_walks.specs.Meaning.Cleared.{clearedRow, clearedBit, clearedMap, clearedRows}
 
 -- ---- the map: its length and its head words stay
 module _ (P : List ℕ → Type 0) (keeps : (m : List ℕ) (s : ℕ) → P m → P (givenBack m s)) where

@@ -5,9 +5,9 @@ use mathlib.Core.Bool.{true, false}
 use mathlib.Core.List.{List, [], _∷_, map, map-append}
 use native.Mathlib.Omega.{arith}
 use lib.ListN.{length, getD, set, length-map, length-append}
-use Rattle.storage.specs.Keyed.{written}
+use Rattle.storage.specs.Meaning.Keyed.{written}
 use Rattle.storage.proofs.laws.WrittenLaws.{length-written, written-next}
-use Rattle.slot_walks.specs.Live.{rowLive, liveFrom}
+use Rattle.slot_walks.specs.Meaning.Live.{rowLive, liveFrom}
 use Rattle.slot_walks.proofs.laws.LiveLaws.{liveTo, live-most, live-one, live-none, live-room}
 
 -- ---- an output that has what f says of each live slot passed

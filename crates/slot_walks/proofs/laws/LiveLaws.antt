@@ -7,9 +7,10 @@ use native.Mathlib.Omega.{arith}
 use native.Mathlib.Numerals.{add-one}
 use lib.ListN.{length, getD, take, drop, length-append, take-append-drop}
 use lib.Seq.{take-suc, take-all, length-take-le}
-use Rattle.basics.specs.Refusals.{pick}
-use Rattle.basics.specs.Counting.{one, countBelow}
-use Rattle.slot_walks.specs.Live.{rowLive, liveAt, liveFrom}
+use Rattle.basics.specs.Meaning.Refusals.{pick}
+use Rattle.basics.specs.Inner.Counting.{one, countBelow}
+use Rattle.slot_walks.specs.Meaning.Live.{rowLive, liveFrom}
+use Rattle.slot_walks.proofs.laws.Live.{liveAt}
 
 live-append : (l m : List (List ℕ)) (s : ℕ) → liveFrom s (l ++ m) ≡ liveFrom s l ++ liveFrom (s + length l) m
 live-append [] m s = ap (λ (n : ℕ). liveFrom n m) (omega arith)

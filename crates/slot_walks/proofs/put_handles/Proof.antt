@@ -7,8 +7,8 @@ use mathlib.Core.List.{[], map}
 use lib.ListN.{length, set}
 use lib.Seq.{take-all}
 use borrow.Author.Needs.{needs}
-use Rattle.storage.specs.Keyed.{written}
-use Rattle.slot_walks.specs.Live.{liveFrom, handleAt}
+use Rattle.storage.specs.Meaning.Keyed.{written}
+use Rattle.slot_walks.specs.Meaning.Live.{liveFrom, handleAt}
 use Rattle.slot_walks.proofs.laws.LiveLaws.{liveTo, live-most, live-within}
 use Rattle.slot_walks.proofs.laws.FillLaws.{filled-length, filled-room, filled-next, filled-same, one-more, as-many}
 use Rattle.slot_walks.proofs.put_handles.Statement.{statement}

@@ -4,7 +4,8 @@ use mathlib.Core.Path.{_≡_, refl, ap, _∙_}
 use native.Mathlib.Omega.{arith}
 use lib.Count.{ones-le}
 use lib.ListN.{getD}
-use Rattle.slots.specs.Map.{head, wordsFor, usableBelow}
+use Rattle.slots.specs.Meaning.Map.{head, wordsFor}
+use Rattle.slots.specs.Inner.Map.{usableBelow}
 use Rattle.slots.proofs.laws.CountLaws.{usable-most, word-more}
 use Rattle.slots.proofs.count_usable.Statement.{statement}
 use Rattle.slots.proofs.count_usable.Tie as tie

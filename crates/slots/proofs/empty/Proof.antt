@@ -4,7 +4,7 @@ use mathlib.Core.List.{List}
 use lib.ListN.{set}
 use Prim.Native.Nat.{ℕ}
 use borrow.Author.Needs.{needs}
-use Rattle.slots.specs.Slot.{emptiedNums, emptiedMap}
+use Rattle.slots.specs.Meaning.Slot.{emptiedNums, emptiedMap}
 use Rattle.slots.proofs.empty.Statement.{statement}
 use Rattle.slots.proofs.empty.Tie as tie
 

@@ -7,7 +7,7 @@ use lib.Arith.{digits-mod}
 use lib.Pow.{pow-pos, shr-shr}
 use lib.Bits.{bitAnd, bitOr, bitXor, differ, and-step, or-step, xor-step, and-shr, or-shr, xor-shr}
 use lib.Count.{trailingZeros, under}
-use Rattle.slots.specs.Map.{bit}
+use Rattle.slots.specs.Meaning.Map.{bit}
 
 bit-zero : (n : ℕ) → bit n 0 ≡ n % 2
 bit-zero n = ap (λ (m : ℕ). m % 2) (div-one n)

@@ -11,9 +11,12 @@ use lib.Pow.{pow-pos, mod-pow-add}
 use lib.Dec.{eqb}
 use lib.ListN.{length, getD, set}
 use lib.Seq.{getD-set-same, getD-set-other}
-use Rattle.basics.specs.Refusals.{pick}
-use Rattle.slots.specs.Map.{head, wordsFor, bit, usable, usableBelow, NonePast, onesOf}
-use Rattle.slots.specs.Slot.{free, phaseAt, inPhase, SlotsHold}
+use Rattle.basics.specs.Meaning.Refusals.{pick}
+use Rattle.slots.specs.Meaning.Map.{head, wordsFor, bit, usable}
+use Rattle.slots.specs.Inner.Map.{usableBelow, NonePast}
+use Rattle.slots.proofs.laws.Map.{onesOf}
+use Rattle.slots.specs.Meaning.Slot.{free, phaseAt, SlotsHold}
+use Rattle.slots.proofs.laws.Slot.{inPhase}
 
 -- ---- the ones of a word are its bits, counted one by one
 ones-bit : (b : ℕ) → b < 2 → ones b ≡ b

@@ -3,10 +3,11 @@ use Prim.Native.Nat.{ℕ, _*_}
 use mathlib.Core.List.{List}
 use lib.Dec.{eqb}
 use lib.ListN.{length}
-use Rattle.basics.specs.Says.{Decided, d-via, d-and, d-imp, d-none, d-eq, d-le, d-all}
-use Rattle.basics.specs.Refusals.{pick}
-use Rattle.slots.specs.Map.{wordsFor, usable}
-use Rattle.slots.specs.Slot.{free, retired, lastVersion, versionAt, phaseAt, SlotHolds, SlotsHold}
+use Rattle.basics.specs.Meaning.Says.{Decided}
+use Rattle.basics.proofs.laws.Says.{d-via, d-and, d-imp, d-none, d-eq, d-le, d-all}
+use Rattle.basics.specs.Meaning.Refusals.{pick}
+use Rattle.slots.specs.Meaning.Map.{wordsFor, usable}
+use Rattle.slots.specs.Meaning.Slot.{free, retired, lastVersion, versionAt, phaseAt, SlotHolds, SlotsHold}
 
 pub d-slot : (version phase mapped : ℕ) → Decided (SlotHolds version phase mapped)
 d-slot version phase mapped =

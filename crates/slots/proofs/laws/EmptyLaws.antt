@@ -6,9 +6,9 @@ use mathlib.Core.List.{List, []}
 use lib.Dec.{eqb}
 use lib.ListN.{length, getD, length-set}
 use lib.Seq.{getD-set-same, getD-set-other}
-use Rattle.basics.specs.Refusals.{pick}
-use Rattle.slots.specs.Map.{head, givenBack}
-use Rattle.slots.specs.Slot.{lastVersion, versionAt, emptiedRow, emptiedNums, emptiedMap}
+use Rattle.basics.specs.Meaning.Refusals.{pick}
+use Rattle.slots.specs.Meaning.Map.{head, givenBack}
+use Rattle.slots.specs.Meaning.Slot.{lastVersion, versionAt, emptiedRow, emptiedNums, emptiedMap}
 use Rattle.slots.proofs.laws.MapLaws.{given-back-length, given-back-head}
 
 module _ (nums : List (List ℕ)) (s : ℕ) where

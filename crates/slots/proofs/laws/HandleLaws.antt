@@ -8,9 +8,10 @@ use lib.Dec.{eqb, ltb}
 use lib.ListN.{length, getD, set, length-set}
 use lib.Seq.{getD-set-same}
 use borrow.Author.Tests.{ltb-true, eqb-true, lt-ltb, eq-eqb}
-use Rattle.basics.specs.Says.{Says, both-true}
-use Rattle.basics.specs.Refusals.{pick}
-use Rattle.slots.specs.Slot.{free, live, retired, lastVersion, versionAt, phaseAt, good, nextVersion, emptiedRow, emptiedNums}
+use Rattle.basics.specs.Meaning.Says.{Says}
+use Rattle.basics.proofs.laws.Says.{both-true}
+use Rattle.basics.specs.Meaning.Refusals.{pick}
+use Rattle.slots.specs.Meaning.Slot.{free, live, retired, lastVersion, versionAt, phaseAt, good, nextVersion, emptiedRow, emptiedNums}
 
 -- a handle is good exactly when its slot is one of the table's, is occupied and at that version
 pub good-says : (nums : List (List ℕ)) (slot version : ℕ) → Says (good nums slot version) ((slot < length nums) × (phaseAt nums slot ≡ live) × (versionAt nums slot ≡ version))

@@ -11,10 +11,11 @@ use lib.Count.{trailingZeros}
 use lib.Dec.{eqb, ltb}
 use lib.ListN.{getD}
 use borrow.Author.Tests.{eqb-true, eqb-false, ltb-true, ltb-false}
-use Rattle.basics.specs.Refusals.{pick}
+use Rattle.basics.specs.Meaning.Refusals.{pick}
 use Rattle.slots.specs.declared.Usable.{Usable}
 use Rattle.slots.specs.declared.Usable.the-variants.{At, Nothing}
-use Rattle.slots.specs.Map.{head, wordsFor, bit, usable, lowestFrom, lowestUsable, NonePast}
+use Rattle.slots.specs.Meaning.Map.{head, wordsFor, bit, usable, lowestFrom, lowestUsable}
+use Rattle.slots.specs.Inner.Map.{NonePast}
 use Rattle.slots.proofs.laws.BitLaws.{bit-of-zero, trailing-low, trailing-set}
 use Rattle.slots.proofs.laws.MapLaws.{not-usable}
 

@@ -11,7 +11,8 @@ use lib.ListN.{length, getD, set, length-set}
 use lib.Pow.{shr-lt}
 use lib.Seq.{getD-set-same, getD-set-other}
 use borrow.Author.Tests.{eqb-true, eqb-false}
-use Rattle.slots.specs.Map.{head, bit, usable, taken, givenBack, NonePast}
+use Rattle.slots.specs.Meaning.Map.{head, bit, usable, taken, givenBack}
+use Rattle.slots.specs.Inner.Map.{NonePast}
 use Rattle.slots.proofs.laws.BitLaws.{bit-of-zero, bit-not-one, bit-shifted, no-bits, on-same, on-other, off-same, off-other}
 
 -- a slot is usable or not

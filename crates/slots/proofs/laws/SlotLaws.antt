@@ -8,10 +8,10 @@ use lib.Dec.{eqb}
 use lib.ListN.{length, getD, set, drop, length-set}
 use lib.Seq.{getD-set-same, getD-set-other}
 use borrow.Author.Tests.{eqb-true, eqb-false, eq-eqb, ne-eqb}
-use Rattle.basics.specs.Refusals.{pick}
+use Rattle.basics.specs.Meaning.Refusals.{pick}
 use Rattle.slots.specs.declared.Usable.the-variants.{At, Nothing}
-use Rattle.slots.specs.Map.{head, wordsFor, usable, taken, givenBack, lowestUsable}
-use Rattle.slots.specs.Slot.{free, live, retired, lastVersion, versionAt, phaseAt, emptiedNums, emptiedMap, SlotHolds, SlotsHold}
+use Rattle.slots.specs.Meaning.Map.{head, wordsFor, usable, taken, givenBack, lowestUsable}
+use Rattle.slots.specs.Meaning.Slot.{free, live, retired, lastVersion, versionAt, phaseAt, emptiedNums, emptiedMap, SlotHolds, SlotsHold}
 use Rattle.slots.proofs.laws.MapLaws.{taken-same, taken-other, given-back-same, given-back-other}
 use Rattle.slots.proofs.laws.LowestLaws.{lowest-at, lowest-none}
 

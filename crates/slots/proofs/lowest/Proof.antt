@@ -5,7 +5,7 @@ use native.Mathlib.Omega.{arith}
 use borrow.Author.Count.{below-none, below-more}
 use lib.Count.{trailing-le}
 use lib.ListN.{getD}
-use Rattle.slots.specs.Map.{head, wordsFor}
+use Rattle.slots.specs.Meaning.Map.{head, wordsFor}
 use Rattle.slots.proofs.laws.LowestLaws.{lowest-in-word, lowest-past-words}
 use Rattle.slots.proofs.lowest.Statement.{statement}
 use Rattle.slots.proofs.lowest.Tie as tie

@@ -2,8 +2,8 @@
 use Prim.Native.Nat.{_+_, _/_}
 use native.Mathlib.Omega.{arith}
 use borrow.Author.Needs.{needs}
-use Rattle.basics.specs.Says.{says-yes, says-no}
-use Rattle.slots.specs.Map.{head}
+use Rattle.basics.proofs.laws.Says.{says-yes, says-no}
+use Rattle.slots.specs.Meaning.Map.{head}
 use Rattle.slots.proofs.laws.MapLaws.{past-none, past-all}
 use Rattle.slots.proofs.past_ok.Statement.{statement}
 use Rattle.slots.proofs.past_ok.Tie as tie

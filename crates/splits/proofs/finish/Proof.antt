@@ -6,9 +6,9 @@ use mathlib.Core.Bool.{Bool, true, false, not}
 use lib.Dec.{eqb}
 use lib.ListN.{length, take, length-take}
 use borrow.Author.Needs.{needs}
-use Rattle.basics.specs.Refusals.{pick}
+use Rattle.basics.specs.Meaning.Refusals.{pick}
 use Rattle.splits.proofs.laws.LineLaws.{cut-last}
-use Rattle.splits.specs.Sofar.{Fed, begun}
+use Rattle.splits.specs.Meaning.Sofar.{Fed, begun}
 use Rattle.splits.proofs.finish.Statement.{statement}
 use Rattle.splits.proofs.finish.Tie as tie
 

@@ -7,7 +7,7 @@ use native.Mathlib.Omega.{arith}
 use native.Mathlib.Numerals.{add-one}
 use lib.ListN.{length, take, set, length-append, length-take}
 use lib.Seq.{take-all, take-length, take-take, take-suc-set, take-append-seam}
-use Rattle.basics.specs.Says.{d-le}
+use Rattle.basics.proofs.laws.Says.{d-le}
 
 pub same-part : (l : List ℕ) (m n : ℕ) → m ≡ n → take m l ≡ take n l
 same-part l m n e = ap (λ (k : ℕ). take k l) e

@@ -5,8 +5,9 @@ use mathlib.Core.Bool.{Bool, true, false, _&&_}
 use mathlib.Core.List.{List, [], _∷_, _++_}
 use lib.Dec.{eqb}
 use borrow.Author.Tests.{eqb-true}
-use Rattle.basics.specs.Says.{apart}
-use Rattle.splits.specs.Records.{cr, lf, onto, recordsOf}
+use Rattle.basics.proofs.laws.Says.{apart}
+use Rattle.splits.specs.Meaning.Records.{cr, lf, onto}
+use Rattle.splits.specs.Inner.Records.{recordsOf}
 
 -- whether the last byte is a CR
 abbrev pub endsInCr : List ℕ → Bool

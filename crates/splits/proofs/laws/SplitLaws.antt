@@ -9,11 +9,14 @@ use lib.Dec.{eqb}
 use lib.ListN.{length, take, length-take, length-append}
 use lib.Seq.{take-all, take-nil, take-take, take-append-le}
 use borrow.Author.Tests.{eqb-true, ne-eqb}
-use Rattle.basics.specs.Says.{d-le, both-true}
-use Rattle.splits.specs.Records.{cr, lf, recordsOf}
+use Rattle.basics.proofs.laws.Says.{d-le, both-true}
+use Rattle.splits.specs.Meaning.Records.{cr, lf}
+use Rattle.splits.specs.Inner.Records.{recordsOf}
 use Rattle.splits.proofs.laws.RecordLaws.{endsInCr, Plain, alone, plain-alone, plain-ended, plain-more, ends-in-cr}
 use Rattle.splits.proofs.laws.LineLaws.{same-part, take-first, take-short}
-use Rattle.splits.specs.Sofar.{Sofar, Fed, begun, feed, finished, recordsFrom, handedOut, sofarAfter}
+use Rattle.splits.specs.Meaning.Sofar.{Sofar, Fed, begun, feed}
+use Rattle.splits.specs.Inner.Sofar.{finished}
+use Rattle.splits.proofs.laws.Sofar.{recordsFrom, handedOut, sofarAfter}
 
 -- what is known of the bytes xs since the last line end
 abbrev pub sofarOf : ℕ → List ℕ → Sofar

@@ -5,7 +5,7 @@ use Prim.Native.Nat.{ℕ}
 use lib.Dec.{eqb}
 use borrow.Author.Needs.{needs}
 use Rattle.splits.proofs.laws.LineLaws.{without-cr}
-use Rattle.splits.specs.Sofar.{Fed, begun}
+use Rattle.splits.specs.Meaning.Sofar.{Fed, begun}
 use Rattle.splits.proofs.step.Statement.{statement}
 use Rattle.splits.proofs.step.Tie as tie
 

@@ -4,12 +4,12 @@ use mathlib.Core.Path.{_≡_, refl, sym, _∙_, ap}
 use mathlib.Core.List.{List, [], _∷_, _++_, map}
 use lib.ListN.{length, getD, set, take, drop}
 use lib.Seq.{split-at, set-split}
-use Rattle.storage.specs.Keyed.{All, onList}
-use Rattle.storage.specs.Entries.{rowKey}
-use Rattle.storage.specs.CellTable.{marked}
-use Rattle.storage.specs.Tables.{Rising}
-use Rattle.storage.specs.FilterLaws.{all-back}
-use Rattle.storage.specs.KeyedLaws.{onList-parts}
+use Rattle.storage.specs.Meaning.Keyed.{All, onList}
+use Rattle.storage.specs.Meaning.Entries.{rowKey}
+use Rattle.storage.specs.Meaning.CellTable.{marked}
+use Rattle.storage.specs.Inner.Tables.{Rising}
+use Rattle.storage.proofs.laws.FilterLaws.{all-back}
+use Rattle.storage.proofs.laws.KeyedLaws.{onList-parts}
 
 -- ---- a list in which no key stands twice
 module _ {A : Type 0} (key : A → ℕ) where

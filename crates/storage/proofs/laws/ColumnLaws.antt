@@ -8,9 +8,9 @@ use native.Mathlib.Nat.{not-suc-le-zero, le-of-suc-le-suc}
 use lib.Dec.{ltb, eqb}
 use lib.Ieee.{Float}
 use lib.ListN.{length}
-use Rattle.storage.specs.Keyed.{under, below, above, onList, append1, last, front, close, takeOut}
-use Rattle.storage.specs.Entries.{Entry, rowKey, entryKey, rowOf, spotOf, zipped}
-use Rattle.storage.specs.FilterLaws.{by-test, all-any, filter-same, filter-map}
+use Rattle.storage.specs.Meaning.Keyed.{under, below, above, onList, append1, last, front, close, takeOut}
+use Rattle.storage.specs.Meaning.Entries.{Entry, rowKey, entryKey, rowOf, spotOf, zipped}
+use Rattle.storage.proofs.laws.FilterLaws.{by-test, all-any, filter-same, filter-map}
 
 module _ {A B : Type 0} (f : A → B) where
   map-last : (x : A) (l : List A) → f (last x l) ≡ last (f x) (map f l)

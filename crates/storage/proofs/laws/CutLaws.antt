@@ -8,10 +8,11 @@ use lib.Dec.{ltb}
 use lib.ListN.{length, getD, take, drop}
 use lib.Seq.{take-at, drop-at, length-take-le, getD-take}
 use borrow.Author.Tests.{lt-ltb, le-ltb}
-use Rattle.storage.specs.Keyed.{Sorted, below, under, above}
-use Rattle.storage.specs.Places.{endOf}
-use Rattle.storage.specs.FilterLaws.{by-test, all-map, all-append, all-at, filter-append, filter-length}
-use Rattle.storage.specs.KeyedLaws.{all-below, all-under, all-above, none-below, whole-below, sorted-parts}
+use Rattle.storage.specs.Inner.Keyed.{Sorted}
+use Rattle.storage.specs.Meaning.Keyed.{below, under, above}
+use Rattle.storage.specs.Inner.Places.{endOf}
+use Rattle.storage.proofs.laws.FilterLaws.{by-test, all-map, all-append, all-at, filter-append, filter-length}
+use Rattle.storage.proofs.laws.KeyedLaws.{all-below, all-under, all-above, none-below, whole-below, sorted-parts}
 
 module _ {A : Type 0} (key : A → ℕ) (k : ℕ) where
   pub low : (d : A) (l : List A) → Sorted key l → (i : ℕ) → i < length l → key (getD l i d) < k → i < length (below key k l)

@@ -2,13 +2,15 @@
 use Prim.Native.Nat.{ℕ, _<_}
 use mathlib.Core.Path.{_≡_, refl, _∙_, ap}
 use mathlib.Core.List.{List, [], _∷_, _++_, map}
-use Rattle.storage.specs.Keyed.{All, Sorted, appendAll}
-use Rattle.storage.specs.Entries.{rowKey}
-use Rattle.storage.specs.CellTable.{fresh}
-use Rattle.storage.specs.Store.{Listed, WellFormed, append, poolOf, tableOf}
-use Rattle.storage.specs.Tables.{Keyed, freshOf, Tabled, cleared}
-use Rattle.storage.specs.KeyedLaws.{sorted-determined}
-use Rattle.storage.specs.AppendLaws.{sorted-appendAll, under-appendAll}
+use Rattle.storage.specs.Meaning.Keyed.{All, appendAll}
+use Rattle.storage.specs.Inner.Keyed.{Sorted}
+use Rattle.storage.specs.Meaning.Entries.{rowKey}
+use Rattle.storage.specs.Meaning.CellTable.{fresh}
+use Rattle.storage.specs.Inner.Store.{Listed, WellFormed, append}
+use Rattle.storage.proofs.laws.Store.{poolOf, tableOf}
+use Rattle.storage.proofs.laws.Tables.{Keyed, freshOf, Tabled, cleared}
+use Rattle.storage.proofs.laws.KeyedLaws.{sorted-determined}
+use Rattle.storage.proofs.laws.AppendLaws.{sorted-appendAll, under-appendAll}
 use Rattle.storage.proofs.laws.OperationLaws.{append-formed, append-keyed}
 use Rattle.storage.proofs.laws.TableLaws.{table-keys}
 use Rattle.storage.proofs.laws.TableStepLaws.{pool-append}

@@ -8,7 +8,7 @@ use native.Mathlib.Numerals.{add-one, sub-one}
 use native.Mathlib.Nat.{not-suc-le-zero}
 use lib.ListN.{length, getD, set, take, drop, length-append, List·getD-append, take-append-drop}
 use lib.Seq.{slice, slice-empty, slice-cons, length-slice, set-at, take-suc, drop-cons, split-at, getD-take, getD-append-add, getD-drop, drop-append-le, append-snoc, length-take-le}
-use Rattle.storage.specs.Places.{opened, closed}
+use Rattle.storage.specs.Inner.Places.{opened, closed}
 
 -- `closed` in the terms of the last place j that moved
 abbrev pub shut : {A : Type 0} → List A → ℕ → ℕ → List A

@@ -6,12 +6,14 @@ use mathlib.Core.List.{List, [], _∷_, map}
 use native.Mathlib.Omega.{arith}
 use lib.ListN.{length, take, drop, length-append}
 use lib.Seq.{take-append-seam}
-use Rattle.storage.specs.Keyed.{All, Sorted, written}
-use Rattle.storage.specs.Entries.{rowKey}
-use Rattle.storage.specs.Packed.{Packed}
-use Rattle.storage.specs.Store.{Filled, Listed, WellFormed, poolOf, tableOf}
-use Rattle.storage.specs.Tables.{storageOf, Tabled}
-use Rattle.storage.specs.FilterLaws.{all-map, all-over}
+use Rattle.storage.specs.Meaning.Keyed.{All, written}
+use Rattle.storage.specs.Inner.Keyed.{Sorted}
+use Rattle.storage.specs.Meaning.Entries.{rowKey}
+use Rattle.storage.specs.Meaning.Packed.{Packed}
+use Rattle.storage.specs.Inner.Store.{Filled, Listed, WellFormed}
+use Rattle.storage.proofs.laws.Store.{poolOf, tableOf}
+use Rattle.storage.proofs.laws.Tables.{storageOf, Tabled}
+use Rattle.storage.proofs.laws.FilterLaws.{all-map, all-over}
 use Rattle.storage.proofs.laws.StorageLaws.{tabled-formed, tabled-pool, tabled-table}
 use Rattle.storage.proofs.laws.PackedLaws.{tabled-packed}
 

@@ -7,11 +7,13 @@ use mathlib.Core.List.{List, [], _∷_, _++_, append-assoc}
 use native.Mathlib.Omega.{arith}
 use lib.ListN.{length, getD, take, drop, length-append, take-append-drop}
 use lib.Seq.{slice, take-at, drop-at, drop-append-le, take-take, set-at, getD-at, set-getD, split-at, length-take-le, length-slice, getD-take, getD-drop}
-use Rattle.storage.specs.Keyed.{All, Sorted, below, under, above, onList, append1, takeOut, close, front, last}
-use Rattle.storage.specs.Places.{endOf, inserted, removed, swapped}
-use Rattle.storage.specs.FilterLaws.{all-of}
-use Rattle.storage.specs.KeyedLaws.{length-parts, sorted-parts, onList-same}
-use Rattle.storage.specs.TakeOutLaws.{front-last, length-front, takeOut-at, takeOut-none, has-none}
+use Rattle.storage.specs.Meaning.Keyed.{All, below, under, above, onList, append1, takeOut, close, front, last}
+use Rattle.storage.specs.Inner.Keyed.{Sorted}
+use Rattle.storage.specs.Inner.Places.{endOf}
+use Rattle.storage.proofs.laws.Places.{inserted, removed, swapped}
+use Rattle.storage.proofs.laws.FilterLaws.{all-of}
+use Rattle.storage.proofs.laws.KeyedLaws.{length-parts, sorted-parts, onList-same}
+use Rattle.storage.proofs.laws.TakeOutLaws.{front-last, length-front, takeOut-at, takeOut-none, has-none}
 use Rattle.storage.proofs.laws.CutLaws.{take-end, drop-end}
 
 module _ {A : Type 0} where

@@ -3,9 +3,9 @@ use Prim.Native.Nat.{ℕ}
 use mathlib.Core.Path.{_≡_}
 use mathlib.Core.Bool.{true}
 use mathlib.Core.List.{List, [], _∷_, _++_}
-use Rattle.storage.specs.Store.{Row, Listed, WellFormed, rowAt, append}
-use Rattle.storage.specs.Tables.{Keyed}
-use Rattle.storage.specs.FilterLaws.{all-append}
+use Rattle.storage.specs.Inner.Store.{Row, Listed, WellFormed, rowAt, append}
+use Rattle.storage.proofs.laws.Tables.{Keyed}
+use Rattle.storage.proofs.laws.FilterLaws.{all-append}
 use Rattle.storage.proofs.laws.StoreLaws.{put-formed, put-keyed, rowAt-keyed}
 
 module _ {A : Type 0} where

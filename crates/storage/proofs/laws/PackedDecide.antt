@@ -3,8 +3,9 @@ use Prim.Native.Nat.{ℕ, _+_, _<_, _≤_}
 use mathlib.Core.Path.{_≡_}
 use mathlib.Core.List.{List}
 use native.Mathlib.Omega.{arith}
-use Rattle.basics.specs.Says.{Decided, d-via, d-and, d-eq, d-le, d-lt, d-all, d-any}
-use Rattle.storage.specs.Packed.{first, second, Packed}
+use Rattle.basics.specs.Meaning.Says.{Decided}
+use Rattle.basics.proofs.laws.Says.{d-via, d-and, d-eq, d-le, d-lt, d-all, d-any}
+use Rattle.storage.specs.Meaning.Packed.{first, second, Packed}
 
 pub d-packed : (used rows : ℕ) (pool cells : List (List ℕ)) → Decided (Packed used rows pool cells)
 d-packed used rows pool cells =

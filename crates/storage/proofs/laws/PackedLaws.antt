@@ -9,12 +9,15 @@ use lib.Dec.{eqb}
 use lib.ListN.{length, getD, take, drop, take-append-drop}
 use lib.Seq.{getD-take, length-take-le}
 use borrow.Author.Tests.{eqb-true}
-use Rattle.storage.specs.Keyed.{All, Sorted, under}
-use Rattle.storage.specs.Entries.{rowKey, rowItem}
-use Rattle.storage.specs.Packed.{first, Packed}
-use Rattle.storage.specs.Store.{Filled, Listed, WellFormed, poolOf, tableOf}
-use Rattle.storage.specs.Tables.{Rising, Keyed, storageOf, Tabled}
-use Rattle.storage.specs.FilterLaws.{by-test, all-at, all-of, all-front}
+use Rattle.storage.specs.Meaning.Keyed.{All, under}
+use Rattle.storage.specs.Inner.Keyed.{Sorted}
+use Rattle.storage.specs.Meaning.Entries.{rowKey, rowItem}
+use Rattle.storage.specs.Meaning.Packed.{first, Packed}
+use Rattle.storage.specs.Inner.Store.{Filled, Listed, WellFormed}
+use Rattle.storage.proofs.laws.Store.{poolOf, tableOf}
+use Rattle.storage.specs.Inner.Tables.{Rising}
+use Rattle.storage.proofs.laws.Tables.{Keyed, storageOf, Tabled}
+use Rattle.storage.proofs.laws.FilterLaws.{by-test, all-at, all-of, all-front}
 use Rattle.storage.proofs.laws.StorageLaws.{own-filled, tabled-of, tabled-formed, tabled-pool, tabled-table, storage-keyed}
 
 -- ---- order by places, and order as a list

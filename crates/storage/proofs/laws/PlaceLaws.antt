@@ -7,9 +7,10 @@ use native.Mathlib.Omega.{arith}
 use native.Mathlib.Numerals.{add-one}
 use lib.ListN.{length, getD, set, take, drop, length-append, length-set, length-drop, take-append-drop, List·getD-map}
 use lib.Seq.{slice, take-take, length-take-le, length-slice, getD-take, take-set-lt, drop-set-lt, set-getD}
-use Rattle.storage.specs.Keyed.{written}
-use Rattle.storage.specs.FilterLaws.{by-order}
-use Rattle.storage.specs.Places.{opened, closed, inserted, removed, swapped}
+use Rattle.storage.specs.Meaning.Keyed.{written}
+use Rattle.storage.proofs.laws.FilterLaws.{by-order}
+use Rattle.storage.specs.Inner.Places.{opened, closed}
+use Rattle.storage.proofs.laws.Places.{inserted, removed, swapped}
 
 module _ {A : Type 0} where
   pub written-same : (s : List A) (k : ℕ) → k ≤ length s → written (take k s) s ≡ s

@@ -6,9 +6,11 @@ use native.Mathlib.Omega.{arith}
 use lib.Ieee.{Float}
 use lib.ListN.{length, getD, set, take, length-append, length-map}
 use lib.Seq.{length-take-le}
-use Rattle.storage.specs.Keyed.{Sorted, below, under, written, append1}
-use Rattle.storage.specs.Entries.{rowKey, rowOf, spotOf, entryKey, entriesOf}
-use Rattle.storage.specs.Places.{endOf, opened, closed, inserted, swapped}
+use Rattle.storage.specs.Inner.Keyed.{Sorted}
+use Rattle.storage.specs.Meaning.Keyed.{below, under, written, append1}
+use Rattle.storage.specs.Meaning.Entries.{rowKey, rowOf, spotOf, entryKey, entriesOf}
+use Rattle.storage.specs.Inner.Places.{endOf, opened, closed}
+use Rattle.storage.proofs.laws.Places.{inserted, swapped}
 use Rattle.storage.proofs.laws.ColumnLaws.{map-below, map-under, zipped-rows, zipped-spots}
 use Rattle.storage.proofs.laws.KeepsLaws.{map-sorted}
 use Rattle.storage.proofs.laws.PlaceLaws.{written-opened, written-swapped, map-inserted, map-swapped}

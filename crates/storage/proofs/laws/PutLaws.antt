@@ -6,7 +6,7 @@ use native.Mathlib.Omega.{arith}
 use native.Mathlib.Numerals.{add-one}
 use lib.ListN.{length, getD, set, take, length-map}
 use lib.Seq.{take-suc, length-take-le}
-use Rattle.storage.specs.Keyed.{written}
+use Rattle.storage.specs.Meaning.Keyed.{written}
 use Rattle.storage.proofs.laws.WrittenLaws.{written-next, length-written}
 
 module _ {A : Type 0} (f : ℕ → A) (js : List ℕ) (o : List A) (k : ℕ) where

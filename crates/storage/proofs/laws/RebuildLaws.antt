@@ -8,14 +8,14 @@ use lib.Dec.{eqb}
 use lib.ListN.{length, getD, set, take, length-append, length-set}
 use lib.Seq.{take-suc}
 use borrow.Author.Tests.{eqb-true, eqb-false, eq-eqb, ne-eqb}
-use Rattle.basics.specs.Refusals.{pick}
-use Rattle.storage.specs.Keyed.{written}
-use Rattle.storage.specs.Entries.{rowKey}
-use Rattle.storage.specs.CellTable.{keysFrom, keysOf, fresh}
-use Rattle.storage.specs.Packed.{first}
-use Rattle.storage.specs.Checked.{Begins}
+use Rattle.basics.specs.Meaning.Refusals.{pick}
+use Rattle.storage.specs.Meaning.Keyed.{written}
+use Rattle.storage.specs.Meaning.Entries.{rowKey}
+use Rattle.storage.specs.Meaning.CellTable.{keysFrom, keysOf, fresh}
+use Rattle.storage.specs.Meaning.Packed.{first}
+use Rattle.storage.specs.Inner.Checked.{Begins}
 use Rattle.storage.proofs.laws.WrittenLaws.{written-next}
-use Rattle.storage.specs.FilterLaws.{by-test, by-order}
+use Rattle.storage.proofs.laws.FilterLaws.{by-test, by-order}
 
 module _ {A : Type 0} (key : A → ℕ) where
   -- the keys of one element more

@@ -6,14 +6,16 @@ use mathlib.Core.List.{List, [], _∷_, map, append-nil}
 use native.Mathlib.Omega.{arith}
 use lib.ListN.{length, getD, set, take, length-append}
 use lib.Seq.{set-split, length-take-le, getD-take}
-use Rattle.storage.specs.Keyed.{Sorted, below, under, onList}
-use Rattle.storage.specs.Entries.{rowKey}
-use Rattle.storage.specs.CellTable.{rowOr, entered, dropped, marked}
-use Rattle.storage.specs.Tables.{Rising}
-use Rattle.storage.specs.Packed.{first}
-use Rattle.storage.specs.Places.{endOf, inserted, removed}
-use Rattle.storage.specs.FilterLaws.{by-order}
-use Rattle.storage.specs.KeyedLaws.{onList-same}
+use Rattle.storage.specs.Inner.Keyed.{Sorted}
+use Rattle.storage.specs.Meaning.Keyed.{below, under, onList}
+use Rattle.storage.specs.Meaning.Entries.{rowKey}
+use Rattle.storage.specs.Meaning.CellTable.{rowOr, entered, dropped, marked}
+use Rattle.storage.specs.Inner.Tables.{Rising}
+use Rattle.storage.specs.Meaning.Packed.{first}
+use Rattle.storage.specs.Inner.Places.{endOf}
+use Rattle.storage.proofs.laws.Places.{inserted, removed}
+use Rattle.storage.proofs.laws.FilterLaws.{by-order}
+use Rattle.storage.proofs.laws.KeyedLaws.{onList-same}
 use Rattle.storage.proofs.laws.TableLaws.{rising-sorted}
 use Rattle.storage.proofs.laws.PackedLaws.{rising-at}
 use Rattle.storage.proofs.laws.CutLaws.{low, high, upto, take-end, drop-end}

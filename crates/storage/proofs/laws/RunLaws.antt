@@ -7,16 +7,17 @@ use native.Mathlib.Omega.{arith}
 use lib.Dec.{leb}
 use lib.ListN.{length, take}
 use borrow.Author.Tests.{leb-true, le-leb, lt-leb}
-use Rattle.basics.specs.Says.{apart, d-lt}
-use Rattle.cells.specs.Key.{columnOf, lineOf}
-use Rattle.storage.specs.Keyed.{Sorted, below}
-use Rattle.storage.specs.Entries.{rowKey}
-use Rattle.storage.specs.Packed.{first}
-use Rattle.storage.specs.FilterLaws.{by-order}
+use Rattle.basics.proofs.laws.Says.{apart, d-lt}
+use Rattle.cells.specs.Inner.Key.{columnOf, lineOf}
+use Rattle.storage.specs.Inner.Keyed.{Sorted}
+use Rattle.storage.specs.Meaning.Keyed.{below}
+use Rattle.storage.specs.Meaning.Entries.{rowKey}
+use Rattle.storage.specs.Meaning.Packed.{first}
+use Rattle.storage.proofs.laws.FilterLaws.{by-order}
 use Rattle.storage.proofs.laws.PackedLaws.{sorted-ordered}
 use Rattle.storage.proofs.laws.CutLaws.{high-of, most-of}
-use Rattle.storage.specs.Window.{inWindow}
-use Rattle.storage.specs.Run.{NextKey, NextRun}
+use Rattle.storage.specs.Inner.Window.{inWindow}
+use Rattle.storage.specs.Inner.Run.{NextKey, NextRun}
 use mathlib.Core.Logic.{⊎-elim}
 use Rattle.storage.specs.declared.Run.{Run}
 

@@ -8,16 +8,17 @@ use native.Mathlib.Omega.{arith}
 use lib.ListN.{length, getD, take, drop, length-map, List·getD-map, take-append-drop}
 use lib.Seq.{slice, length-slice, length-take-le, getD-drop, getD-take, drop-append-le}
 use Rattle.cells.specs.declared.Cell.{Cell}
-use Rattle.cells.specs.Numbers.{Fits}
-use Rattle.cells.specs.Key.{keyOf, columnOf, lineOf}
+use Rattle.cells.proofs.laws.Numbers.{Fits}
+use Rattle.cells.specs.Meaning.Key.{keyOf}
+use Rattle.cells.specs.Inner.Key.{columnOf, lineOf}
 use Rattle.cells.proofs.laws.KeyLaws.{key-column, key-row}
-use Rattle.storage.specs.Keyed.{All, filter}
-use Rattle.storage.specs.Entries.{rowKey}
-use Rattle.storage.specs.Window.{inWindow}
-use Rattle.storage.specs.Run.{NextRun}
+use Rattle.storage.specs.Meaning.Keyed.{All, filter}
+use Rattle.storage.specs.Meaning.Entries.{rowKey}
+use Rattle.storage.specs.Inner.Window.{inWindow}
+use Rattle.storage.specs.Inner.Run.{NextRun}
 use Rattle.storage.specs.declared.Run.{Run}
-use Rattle.storage.specs.FilterLaws.{all-of, filter-append, filter-whole, filter-none}
-use Rattle.storage.specs.WindowLaws.{windowOf}
+use Rattle.storage.proofs.laws.FilterLaws.{all-of, filter-append, filter-whole, filter-none}
+use Rattle.storage.specs.Inner.WindowLaws.{windowOf}
 
 module _ {A : Type 0} (d : A) (l : List A) where
   -- a fact of the elements of a stretch, by their places

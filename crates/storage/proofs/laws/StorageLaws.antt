@@ -7,12 +7,14 @@ use native.Mathlib.Omega.{arith}
 use lib.Dec.{eqb}
 use lib.ListN.{length}
 use borrow.Author.Tests.{eqb-true, eq-eqb}
-use Rattle.storage.specs.Keyed.{All, under}
-use Rattle.storage.specs.Entries.{rowKey, rowItem}
-use Rattle.storage.specs.Store.{Filled, Row, Listed, emptyRow, markOf, WellFormed, rowAt, poolOf, tableOf}
-use Rattle.storage.specs.Tables.{Rising, rowsBy, Keyed, storageOf, Tabled}
-use Rattle.storage.specs.FilterLaws.{by-test, all-map, all-any}
-use Rattle.storage.specs.KeyedLaws.{all-under, sorted-determined}
+use Rattle.storage.specs.Meaning.Keyed.{All, under}
+use Rattle.storage.specs.Meaning.Entries.{rowKey, rowItem}
+use Rattle.storage.specs.Inner.Store.{Filled, Row, Listed, emptyRow, WellFormed, rowAt}
+use Rattle.storage.proofs.laws.Store.{markOf, poolOf, tableOf}
+use Rattle.storage.specs.Inner.Tables.{Rising}
+use Rattle.storage.proofs.laws.Tables.{rowsBy, Keyed, storageOf, Tabled}
+use Rattle.storage.proofs.laws.FilterLaws.{by-test, all-map, all-any}
+use Rattle.storage.proofs.laws.KeyedLaws.{all-under, sorted-determined}
 use Rattle.storage.proofs.laws.TableLaws.{table-under, table-all, table-rising, pool-under, pool-sorted}
 
 module _ {A : Type 0} (key : A → ℕ) where

@@ -5,10 +5,10 @@ use mathlib.Core.Path.{_≡_, refl, sym, _∙_, ap, ap₂, subst}
 use mathlib.Core.List.{List, [], _∷_}
 use native.Mathlib.Omega.{arith}
 use borrow.Author.Tests.{lt-ltb, le-ltb, eq-eqb, ne-eqb}
-use Rattle.storage.specs.Keyed.{All}
-use Rattle.storage.specs.Store.{Filled, Row, Listed, emptyRow, WellFormed, rowAt, inFront, putRow}
-use Rattle.storage.specs.Tables.{tidyBy, tidy, Keyed}
-use Rattle.storage.specs.FilterLaws.{by-order, all-map}
+use Rattle.storage.specs.Meaning.Keyed.{All}
+use Rattle.storage.specs.Inner.Store.{Filled, Row, Listed, emptyRow, WellFormed, rowAt, inFront, putRow}
+use Rattle.storage.proofs.laws.Tables.{tidyBy, tidy, Keyed}
+use Rattle.storage.proofs.laws.FilterLaws.{by-order, all-map}
 
 module _ {A : Type 0} where
   -- ---- looking up

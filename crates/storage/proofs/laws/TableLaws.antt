@@ -7,13 +7,17 @@ use mathlib.Core.List.{List, [], _∷_, _++_, append-nil, map}
 use native.Mathlib.Omega.{arith}
 use lib.Dec.{eqb}
 use borrow.Author.Tests.{eqb-true, eqb-false, eq-eqb, ne-eqb}
-use Rattle.storage.specs.Keyed.{All, Sorted, under, onList}
-use Rattle.storage.specs.Entries.{rowKey}
-use Rattle.storage.specs.CellTable.{keysFrom, keysOf}
-use Rattle.storage.specs.Store.{Filled, Row, Listed, emptyRow, markOf, WellFormed, rowAt, putRow, poolOf, tableOf}
-use Rattle.storage.specs.Tables.{Rising, tidyBy, tidy, rowsBy, rowsFor, Keyed}
-use Rattle.storage.specs.FilterLaws.{by-test, by-order, all-map, all-append, filter-append}
-use Rattle.storage.specs.KeyedLaws.{whole-under, none-under, sorted-flat, sorted-join, sorted-determined, under-onList, under-other, sorted-onList}
+use Rattle.storage.specs.Meaning.Keyed.{All, under, onList}
+use Rattle.storage.specs.Inner.Keyed.{Sorted}
+use Rattle.storage.specs.Meaning.Entries.{rowKey}
+use Rattle.storage.specs.Meaning.CellTable.{keysFrom, keysOf}
+use Rattle.storage.specs.Inner.Store.{Filled, Row, Listed, emptyRow, WellFormed, rowAt, putRow}
+use Rattle.storage.proofs.laws.Store.{markOf, poolOf, tableOf}
+use Rattle.storage.specs.Inner.Tables.{Rising}
+use Rattle.storage.proofs.laws.Tables.{tidyBy, tidy, rowsBy, rowsFor, Keyed}
+use Rattle.storage.proofs.laws.FilterLaws.{by-test, by-order, all-map, all-append, filter-append}
+use Rattle.storage.proofs.laws.KeyedLaws.{whole-under, none-under, sorted-flat, sorted-join, sorted-determined, under-onList, under-other}
+use Rattle.storage.proofs.laws.KeyedLaws.{sorted-onList}
 use Rattle.storage.proofs.laws.StoreLaws.{rowAt-none, put-at, put-other, put-formed, put-keyed}
 
 -- no element

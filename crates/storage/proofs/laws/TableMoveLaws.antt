@@ -5,13 +5,15 @@ use mathlib.Core.List.{List, [], _∷_}
 use native.Mathlib.Omega.{arith}
 use lib.ListN.{length, set, take}
 use lib.Seq.{length-take-le}
-use Rattle.storage.specs.Keyed.{Sorted, below, under, written}
-use Rattle.storage.specs.Entries.{rowKey}
-use Rattle.storage.specs.CellTable.{entered, dropped, marked}
-use Rattle.storage.specs.Packed.{first}
-use Rattle.storage.specs.Store.{Filled}
-use Rattle.storage.specs.Tables.{Rising}
-use Rattle.storage.specs.Places.{endOf, opened, closed, inserted, removed}
+use Rattle.storage.specs.Inner.Keyed.{Sorted}
+use Rattle.storage.specs.Meaning.Keyed.{below, under, written}
+use Rattle.storage.specs.Meaning.Entries.{rowKey}
+use Rattle.storage.specs.Meaning.CellTable.{entered, dropped, marked}
+use Rattle.storage.specs.Meaning.Packed.{first}
+use Rattle.storage.specs.Inner.Store.{Filled}
+use Rattle.storage.specs.Inner.Tables.{Rising}
+use Rattle.storage.specs.Inner.Places.{endOf, opened, closed}
+use Rattle.storage.proofs.laws.Places.{inserted, removed}
 use Rattle.storage.proofs.laws.PlaceLaws.{written-same, written-opened, written-closed, written-set, length-inserted, length-removed}
 use Rattle.storage.proofs.laws.TableLaws.{rising-sorted}
 use Rattle.storage.proofs.laws.PackedLaws.{place-filled}

@@ -3,15 +3,16 @@ use Prim.Native.Nat.{ℕ}
 use mathlib.Core.Path.{_≡_, refl, sym, _∙_, ap}
 use mathlib.Core.Bool.{Bool, true}
 use mathlib.Core.List.{List, [], _∷_, _++_, map, nil≢cons}
-use Rattle.basics.specs.Refusals.{pick}
-use Rattle.storage.specs.Keyed.{under, onList, append1, takeOut}
-use Rattle.storage.specs.Entries.{rowKey}
-use Rattle.storage.specs.CellTable.{rowOr, entered, dropped, marked}
-use Rattle.storage.specs.Store.{Listed, WellFormed, rowAt, append, remove, mark, poolOf, tableOf}
-use Rattle.storage.specs.Tables.{rowsBy, rowsFor, Keyed}
-use Rattle.storage.specs.FilterLaws.{all-append}
-use Rattle.storage.specs.KeyedLaws.{onList-agree, onList-same}
-use Rattle.storage.specs.TakeOutLaws.{all-takeOut}
+use Rattle.basics.specs.Meaning.Refusals.{pick}
+use Rattle.storage.specs.Meaning.Keyed.{under, onList, append1, takeOut}
+use Rattle.storage.specs.Meaning.Entries.{rowKey}
+use Rattle.storage.specs.Meaning.CellTable.{rowOr, entered, dropped, marked}
+use Rattle.storage.specs.Inner.Store.{Listed, WellFormed, rowAt, append, remove, mark}
+use Rattle.storage.proofs.laws.Store.{poolOf, tableOf}
+use Rattle.storage.proofs.laws.Tables.{rowsBy, rowsFor, Keyed}
+use Rattle.storage.proofs.laws.FilterLaws.{all-append}
+use Rattle.storage.proofs.laws.KeyedLaws.{onList-agree, onList-same}
+use Rattle.storage.proofs.laws.TakeOutLaws.{all-takeOut}
 use Rattle.storage.proofs.laws.StoreLaws.{rowAt-empty, rowAt-keyed}
 use Rattle.storage.proofs.laws.OperationLaws.{withList, asDirty}
 use Rattle.storage.proofs.laws.TableLaws.{isNil, table-under, table-sorted, pool-under, pool-sorted, pool-put, table-put}

@@ -7,20 +7,22 @@ use mathlib.Core.List.{List, [], _∷_, append-nil, map}
 use native.Mathlib.Omega.{arith}
 use lib.Dec.{eqb}
 use borrow.Author.Tests.{eqb-true, eqb-false, ne-eqb}
-use Rattle.basics.specs.Refusals.{pick}
-use Rattle.basics.specs.Says.{apart}
+use Rattle.basics.specs.Meaning.Refusals.{pick}
+use Rattle.basics.proofs.laws.Says.{apart}
 use Rattle.cells.specs.declared.Cell.{Cell}
-use Rattle.cells.specs.Numbers.{Fits}
-use Rattle.cells.specs.Range.{rangeCells}
-use Rattle.cells.specs.Rising.{Above, Rising}
-use Rattle.cells.specs.Key.{keyOf}
+use Rattle.cells.proofs.laws.Numbers.{Fits}
+use Rattle.cells.specs.Meaning.Range.{rangeCells}
+use Rattle.cells.specs.Inner.Rising.{Above, Rising}
+use Rattle.cells.specs.Meaning.Key.{keyOf}
 use Rattle.cells.proofs.laws.RangeKeyLaws.{range-rising}
-use Rattle.storage.specs.Keyed.{All, filter, Sorted, under}
-use Rattle.storage.specs.Walk.{listsOf, walked}
-use Rattle.storage.specs.FilterLaws.{by-test, all-map, all-any, all-append, filter-append, filter-within, filter-same, filter-passes}
-use Rattle.storage.specs.KeyedLaws.{all-under, whole-under, none-under, sorted-flat, sorted-join, sorted-filter, sorted-determined}
-use Rattle.storage.specs.TakeOutLaws.{has}
-use Rattle.storage.specs.WindowLaws.{windowOf, keyIn, key-window}
+use Rattle.storage.specs.Meaning.Keyed.{All, filter, under}
+use Rattle.storage.specs.Inner.Keyed.{Sorted}
+use Rattle.storage.specs.Meaning.Walk.{listsOf, walked}
+use Rattle.storage.proofs.laws.FilterLaws.{by-test, all-map, all-any, all-append, filter-append, filter-within, filter-same, filter-passes}
+use Rattle.storage.proofs.laws.KeyedLaws.{all-under, whole-under, none-under, sorted-flat, sorted-join, sorted-filter, sorted-determined}
+use Rattle.storage.proofs.laws.TakeOutLaws.{has}
+use Rattle.storage.specs.Inner.WindowLaws.{windowOf}
+use Rattle.storage.proofs.laws.WindowLaws.{keyIn, key-window}
 
 -- what is above all the keys is none of them
 has-above : (j : ℕ) (cs : List Cell) → Above j (map keyOf cs) → has (λ c. eqb (keyOf c) j) cs ≡ false

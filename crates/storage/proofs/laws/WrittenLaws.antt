@@ -5,7 +5,7 @@ use mathlib.Core.List.{List, [], _∷_, _++_, append-assoc}
 use native.Mathlib.Omega.{arith}
 use lib.ListN.{length, getD, set, take, drop, length-append, length-drop}
 use lib.Seq.{set-append-seam, drop-cons}
-use Rattle.storage.specs.Keyed.{written}
+use Rattle.storage.specs.Meaning.Keyed.{written}
 
 module _ {A : Type 0} where
   pub length-written : (l o : List A) → length l ≤ length o → length (written l o) ≡ length o

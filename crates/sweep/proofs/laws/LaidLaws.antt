@@ -7,13 +7,14 @@ use native.Mathlib.Omega.{arith}
 use lib.Ieee.{Float}
 use lib.ListN.{length, getD, set, take, drop, length-append, length-map}
 use lib.Seq.{getD-append-add, getD-drop, drop-append-add, drop-drop, length-take-le}
-use Rattle.storage.specs.Keyed.{written}
-use Rattle.storage.specs.Entries.{Entry, entry, rowOf, spotOf, entriesOf}
-use Rattle.storage.specs.Pooled.{Columns}
+use Rattle.storage.specs.Meaning.Keyed.{written}
+use Rattle.storage.specs.Meaning.Entries.{Entry, entry, rowOf, spotOf, entriesOf}
+use Rattle.storage.specs.Inner.Pooled.{Columns}
 use Rattle.storage.proofs.laws.PlaceLaws.{written-same}
 use Rattle.storage.proofs.laws.WrittenLaws.{length-written, written-next}
 use Rattle.storage.proofs.laws.ColumnLaws.{zipped-rows, zipped-spots}
-use Rattle.point_tables.specs.EntryLaws.{written-entries, entryAt}
+use Rattle.point_tables.proofs.laws.EntryLaws.{written-entries}
+use Rattle.point_tables.specs.Inner.Entry.{entryAt}
 
 -- ---- one column
 module _ {A : Type 0} where

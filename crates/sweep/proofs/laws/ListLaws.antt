@@ -12,30 +12,31 @@ use lib.Dec.{eqb}
 use lib.ListN.{length, getD, take, drop, length-append, length-map, List·getD-append, List·getD-map}
 use lib.Seq.{take-suc, split-at, getD-take, getD-append-add, take-at, drop-at}
 use borrow.Author.Tests.{eqb-false}
-use Rattle.storage.specs.Keyed.{All}
-use Rattle.storage.specs.Entries.{Entry, rowKey, entryKey}
-use Rattle.storage.specs.Packed.{first, second}
-use Rattle.storage.specs.Tables.{Rising}
-use Rattle.storage.specs.FilterLaws.{all-map, all-both, all-append, all-at}
-use Rattle.storage.specs.KeyedLaws.{all-under}
-use Rattle.point_tables.specs.Tables.{Tables, usedOf, rowsOf, recordOn, entriesIn, cellRows, slotOf}
-use Rattle.point_tables.specs.Holds.{Holds}
+use Rattle.storage.specs.Meaning.Keyed.{All}
+use Rattle.storage.specs.Meaning.Entries.{Entry, rowKey, entryKey}
+use Rattle.storage.specs.Meaning.Packed.{first, second}
+use Rattle.storage.specs.Inner.Tables.{Rising}
+use Rattle.storage.proofs.laws.FilterLaws.{all-map, all-both, all-append, all-at}
+use Rattle.storage.proofs.laws.KeyedLaws.{all-under}
+use Rattle.point_tables.specs.Meaning.Tables.{Tables, usedOf, rowsOf, recordOn, entriesIn, cellRows, slotOf}
+use Rattle.point_tables.specs.Meaning.Holds.{Holds}
 use Rattle.point_tables.proofs.laws.HoldsLaws.{rows-length, used-in-pool, used-in-spots, entries-length}
-use Rattle.maintain.specs.Walk.{stays, fate}
-use Rattle.maintain.specs.Maintain.{cellKeys}
-use Rattle.maintain.specs.KeptLaws.{kept-calm}
-use Rattle.maintain.specs.Closed.{joined, keptUnder}
-use Rattle.maintain.specs.VisitLaws.{joined-append, joined-one}
-use Rattle.maintain.specs.CalmLaws.{calm-or-not, calm-fate}
-use Rattle.maintain.specs.SweepLaws.{listUnder, list-named}
-use Rattle.maintain.specs.CellOrderLaws.{keys-up}
-use Rattle.maintain.specs.ListsAfterLaws.{pool-joined}
-use Rattle.sweep.specs.Runs.{run}
-use Rattle.storage.specs.Run.{ListEnd}
+use Rattle.maintain.specs.Meaning.Walk.{stays, fate}
+use Rattle.maintain.specs.Meaning.Maintain.{cellKeys}
+use Rattle.maintain.proofs.laws.KeptLaws.{kept-calm}
+use Rattle.maintain.specs.Inner.Closed.{joined, keptUnder}
+use Rattle.maintain.proofs.laws.VisitLaws.{joined-append, joined-one}
+use Rattle.maintain.proofs.laws.CalmLaws.{calm-or-not, calm-fate}
+use Rattle.maintain.proofs.laws.SweepLaws.{listUnder, list-named}
+use Rattle.maintain.proofs.laws.CellOrderLaws.{keys-up}
+use Rattle.maintain.proofs.laws.ListsAfterLaws.{pool-joined}
+use Rattle.sweep.specs.Inner.Runs.{run}
+use Rattle.storage.specs.Inner.Run.{ListEnd}
 use Rattle.sweep.proofs.laws.RunLaws.{entries-run}
 use Rattle.sweep.proofs.laws.TagLaws.{kept-by-tag}
-use Rattle.sweep.specs.Laid.{listAt, keptIf}
-use Rattle.point_tables.specs.EntryLaws.{noEntry, entries-at, entryAt}
+use Rattle.sweep.specs.Inner.Laid.{listAt, keptIf}
+use Rattle.point_tables.proofs.laws.EntryLaws.{noEntry, entries-at}
+use Rattle.point_tables.specs.Inner.Entry.{entryAt}
 use Rattle.point_tables.proofs.laws.ListedLaws.{Named}
 
 -- ---- rising keys, and lists of other keys

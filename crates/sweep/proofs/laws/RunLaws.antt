@@ -6,12 +6,14 @@ use native.Mathlib.Omega.{arith}
 use lib.Ieee.{Float}
 use lib.ListN.{length, getD, take, drop}
 use lib.Seq.{take-all, drop-cons}
-use Rattle.storage.specs.Keyed.{close, last, front}
-use Rattle.storage.specs.Entries.{entriesOf}
-use Rattle.storage.specs.FilterLaws.{by-order}
-use Rattle.sweep.specs.Runs.{run, held}
-use Rattle.storage.specs.Run.{ListEnd}
-use Rattle.point_tables.specs.EntryLaws.{noEntry, entries-length, entries-at, entryAt}
+use Rattle.storage.specs.Meaning.Keyed.{close, last, front}
+use Rattle.storage.specs.Meaning.Entries.{entriesOf}
+use Rattle.storage.proofs.laws.FilterLaws.{by-order}
+use Rattle.sweep.specs.Inner.Runs.{run}
+use Rattle.sweep.proofs.laws.Runs.{held}
+use Rattle.storage.specs.Inner.Run.{ListEnd}
+use Rattle.point_tables.proofs.laws.EntryLaws.{noEntry, entries-length, entries-at}
+use Rattle.point_tables.specs.Inner.Entry.{entryAt}
 
 module _ {A : Type 0} (at : ℕ → A) where
   pub run-length : (i n : ℕ) → length (run at i n) ≡ n

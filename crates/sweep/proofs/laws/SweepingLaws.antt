@@ -8,20 +8,20 @@ use lib.Dec.{eqb}
 use lib.Ieee.{Float}
 use lib.ListN.{length, getD, length-append}
 use lib.Seq.{take-all}
-use Rattle.storage.specs.Packed.{first, second}
-use Rattle.storage.specs.Pooled.{Columns}
-use Rattle.point_tables.specs.Tables.{Tables, usedOf, rowsOf}
-use Rattle.point_tables.specs.Holds.{Holds}
-use Rattle.maintain.specs.Maintain.{cellKeys}
-use Rattle.maintain.specs.Closed.{joined, keptUnder, keptEntries}
-use Rattle.maintain.specs.SweepLaws.{listUnder}
-use Rattle.storage.specs.Run.{ListEnd}
+use Rattle.storage.specs.Meaning.Packed.{first, second}
+use Rattle.storage.specs.Inner.Pooled.{Columns}
+use Rattle.point_tables.specs.Meaning.Tables.{Tables, usedOf, rowsOf}
+use Rattle.point_tables.specs.Meaning.Holds.{Holds}
+use Rattle.maintain.specs.Meaning.Maintain.{cellKeys}
+use Rattle.maintain.specs.Inner.Closed.{joined, keptUnder, keptEntries}
+use Rattle.maintain.proofs.laws.SweepLaws.{listUnder}
+use Rattle.storage.specs.Inner.Run.{ListEnd}
 use Rattle.sweep.proofs.laws.RunLaws.{run-same, stretch-one}
-use Rattle.sweep.specs.Laid.{Room, Slotted, Laid, listAt, keptIf}
+use Rattle.sweep.specs.Inner.Laid.{Room, Slotted, Laid, listAt, keptIf}
 use Rattle.sweep.proofs.laws.LaidLaws.{laid-rows, laid-spots, laid-row, laid-entry, laid-entries, laid-over}
 use Rattle.sweep.proofs.laws.ListLaws.{passed, keptTo, listOf, keys-length, next-joined, list-stretch, list-run, kept-here}
 use Rattle.point_tables.proofs.laws.HoldsLaws.{used-in-pool, used-in-spots}
-use Rattle.point_tables.specs.EntryLaws.{entryAt}
+use Rattle.point_tables.specs.Inner.Entry.{entryAt}
 
 -- the first r lists were gone over: they end at place from, and what they keep ends at place w
 pub record Sweeping (t : Tables) (r from w : ℕ) (pool : List (List ℕ)) (spots : List (List Float)) : Type 0 where

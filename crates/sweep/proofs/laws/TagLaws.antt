@@ -9,13 +9,13 @@ use lib.IntN.{ℤ, pos}
 use lib.ListN.{length, getD}
 use borrow.Author.Tests.{eqb-true, eqb-false, ne-eqb}
 use Rattle.cells.specs.declared.Cell.{Cell}
-use Rattle.storage.specs.Entries.{Entry, entry}
-use Rattle.storage.specs.FilterLaws.{by-test}
-use Rattle.objects.specs.Columns.{stateOf}
-use Rattle.point_tables.specs.Tables.{Tables, sizeOf, slotOf}
-use Rattle.maintain.specs.Walk.{Fate, stays, leaves, fateBy, fate, staying, rest}
-use Rattle.maintain.specs.Kept.{keptIn, kept}
-use Rattle.sweep.specs.Tags.{spotBy, fateOfTag, tagOn, fateIn}
+use Rattle.storage.specs.Meaning.Entries.{Entry, entry}
+use Rattle.storage.proofs.laws.FilterLaws.{by-test}
+use Rattle.objects.specs.Meaning.Columns.{stateOf}
+use Rattle.point_tables.specs.Meaning.Tables.{Tables, sizeOf, slotOf}
+use Rattle.maintain.specs.Meaning.Walk.{Fate, stays, leaves, fateBy, fate, staying, rest}
+use Rattle.maintain.specs.Inner.Kept.{keptIn, kept}
+use Rattle.sweep.specs.Inner.Tags.{spotBy, fateOfTag, tagOn, fateIn}
 
 -- two fates that keep the same, and leave the same to look at
 pub record Alike (f g : Fate) : Type 0 where

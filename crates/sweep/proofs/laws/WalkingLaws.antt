@@ -5,15 +5,17 @@ use mathlib.Core.List.{List, [], _∷_, _++_, append-nil, append-assoc}
 use native.Mathlib.Omega.{arith}
 use lib.Ieee.{Float}
 use lib.ListN.{length, set, length-append}
-use Rattle.storage.specs.Entries.{Entry, entry, entriesOf}
-use Rattle.storage.specs.Pooled.{Columns}
-use Rattle.point_tables.specs.EntryLaws.{entries-length, entryAt}
-use Rattle.maintain.specs.Walk.{Fate, stays, leaves, staying, rest}
-use Rattle.maintain.specs.Kept.{kept}
-use Rattle.maintain.specs.KeptLaws.{kept-step}
-use Rattle.sweep.specs.Runs.{run, held}
+use Rattle.storage.specs.Meaning.Entries.{Entry, entry, entriesOf}
+use Rattle.storage.specs.Inner.Pooled.{Columns}
+use Rattle.point_tables.proofs.laws.EntryLaws.{entries-length}
+use Rattle.point_tables.specs.Inner.Entry.{entryAt}
+use Rattle.maintain.specs.Meaning.Walk.{Fate, stays, leaves, staying, rest}
+use Rattle.maintain.specs.Inner.Kept.{kept}
+use Rattle.maintain.proofs.laws.KeptLaws.{kept-step}
+use Rattle.sweep.specs.Inner.Runs.{run}
+use Rattle.sweep.proofs.laws.Runs.{held}
 use Rattle.sweep.proofs.laws.RunLaws.{run-held, run-close}
-use Rattle.sweep.specs.Laid.{Room, Laid, listAt}
+use Rattle.sweep.specs.Inner.Laid.{Room, Laid, listAt}
 use Rattle.sweep.proofs.laws.LaidLaws.{laid-next, laid-rows, laid-spots, laid-entry, laid-start}
 
 -- one entry more, or the last into the gap: n entries are left, the first of them stands at p, the others behind place i

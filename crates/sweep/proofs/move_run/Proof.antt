@@ -4,7 +4,7 @@ use mathlib.Core.Path.{refl}
 use native.Mathlib.Omega.{arith}
 use lib.ListN.{getD}
 use mathlib.Core.List.{[]}
-use Rattle.maintain.specs.Walk.{stays}
+use Rattle.maintain.specs.Meaning.Walk.{stays}
 use Rattle.sweep.proofs.laws.WalkingLaws.{Walking, walking-start, walking-rows, walking-spots, walking-stays}
 use Rattle.sweep.proofs.Turns.{Within, walk-within, move-done}
 use Rattle.sweep.proofs.move_run.Statement.{statement}

@@ -6,10 +6,10 @@ use native.Mathlib.Omega.{arith}
 use lib.Dec.{eqb}
 use lib.ListN.{length}
 use borrow.Author.Needs.{needs}
-use Rattle.storage.specs.Packed.{first, second}
-use Rattle.point_tables.specs.Tables.{Tables, tables, usedOf, rowsOf}
+use Rattle.storage.specs.Meaning.Packed.{first, second}
+use Rattle.point_tables.specs.Meaning.Tables.{Tables, tables, usedOf, rowsOf}
 use Rattle.point_tables.proofs.laws.HoldsLaws.{used-in-pool, rows-in-cells}
-use Rattle.storage.specs.Run.{ListEnd}
+use Rattle.storage.specs.Inner.Run.{ListEnd}
 use Rattle.sweep.proofs.laws.SweepingLaws.{Sweeping, sweeping-start, sweeping-rows, sweeping-spots, sweeping-room, sweeping-slots, sweeping-turn, sweeping-done}
 use Rattle.sweep.proofs.sweep_lists.Statement.{statement}
 use Rattle.sweep.proofs.sweep_lists.Tie as tie

@@ -4,7 +4,7 @@ use Prim.Native.Nat.{_-_, _<_}
 use native.Mathlib.Omega.{arith}
 use lib.ListN.{length}
 use borrow.Author.Needs.{needs}
-use Rattle.sweep.specs.Tags.{fateIn}
+use Rattle.sweep.specs.Inner.Tags.{fateIn}
 use Rattle.sweep.proofs.laws.WalkingLaws.{Walking, walking-start, walking-rows, walking-spots, walking-done}
 use Rattle.sweep.proofs.Turns.{Within, walk-within, walk-slot, walk-stays, walk-leaves}
 use Rattle.sweep.proofs.walk_run.Statement.{statement}

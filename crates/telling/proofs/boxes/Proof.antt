@@ -1,6 +1,6 @@
 -- `telling::boxes` meets its contract. Assumes nothing.
 use Rattle.printing.specs.declared.Said.the-variants.{Boxes}
-use Rattle.telling.specs.Tells.{told-done, told-refused}
+use Rattle.telling.proofs.laws.Tells.{told-done, told-refused}
 use Rattle.telling.proofs.boxes.Statement.{statement}
 use Rattle.telling.proofs.boxes.Tie as tie
 

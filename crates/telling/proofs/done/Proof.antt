@@ -1,6 +1,6 @@
 -- `telling::done` meets its contract. Assumes nothing.
 use Rattle.printing.specs.declared.Said.the-variants.{Done}
-use Rattle.telling.specs.Tells.{told-done, told-refused}
+use Rattle.telling.proofs.laws.Tells.{told-done, told-refused}
 use Rattle.telling.proofs.done.Statement.{statement}
 use Rattle.telling.proofs.done.Tie as tie
 

@@ -4,7 +4,7 @@ use mathlib.Core.Path.{_≡_, refl}
 use mathlib.Core.Bool.{Bool, true, false}
 use mathlib.Core.List.{[], _∷_}
 use native.Mathlib.Omega.{arith}
-use Rattle.basics.specs.Refusals.{unless, firstOf}
+use Rattle.basics.specs.Meaning.Refusals.{unless, firstOf}
 
 pub had-room : (a b c d : Bool) → firstOf (unless a 3 ∷ unless b 6 ∷ unless c 7 ∷ unless d 9 ∷ []) ≡ 0 → d ≡ true
 had-room a b c true h = refl

@@ -1,6 +1,6 @@
 -- `telling::one` meets its contract. Assumes nothing.
 use Rattle.printing.specs.declared.Said.the-variants.{One}
-use Rattle.telling.specs.Tells.{told-done, told-refused}
+use Rattle.telling.proofs.laws.Tells.{told-done, told-refused}
 use Rattle.telling.proofs.one.Statement.{statement}
 use Rattle.telling.proofs.one.Tie as tie
 

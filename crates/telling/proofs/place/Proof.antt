@@ -3,7 +3,7 @@ use mathlib.Core.Path.{ap, _∙_}
 use mir.Syntax.{w32}
 use mir.ValLaws.{toZ-ofZ}
 use borrow.Author.Needs.{needs}
-use Rattle.sixteenths.specs.Sixteenth.{sixteenth}
+use Rattle.sixteenths.specs.Meaning.Sixteenth.{sixteenth}
 use Rattle.telling.proofs.place.Statement.{statement}
 use Rattle.telling.proofs.place.Tie as tie
 

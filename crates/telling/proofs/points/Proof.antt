@@ -1,6 +1,6 @@
 -- `telling::points` meets its contract. Assumes nothing.
 use Rattle.printing.specs.declared.Said.the-variants.{Points}
-use Rattle.telling.specs.Tells.{told-done, told-refused}
+use Rattle.telling.proofs.laws.Tells.{told-done, told-refused}
 use Rattle.telling.proofs.points.Statement.{statement}
 use Rattle.telling.proofs.points.Tie as tie
 

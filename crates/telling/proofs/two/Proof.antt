@@ -1,6 +1,6 @@
 -- `telling::two` meets its contract. Assumes nothing.
 use Rattle.printing.specs.declared.Said.the-variants.{Two}
-use Rattle.telling.specs.Tells.{told-done, told-refused}
+use Rattle.telling.proofs.laws.Tells.{told-done, told-refused}
 use Rattle.telling.proofs.two.Statement.{statement}
 use Rattle.telling.proofs.two.Tie as tie
 

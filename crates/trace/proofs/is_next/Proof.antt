@@ -1,6 +1,6 @@
 -- `trace::is_next` meets its contract. Assumes nothing.
 use borrow.Author.Needs.{needs}
-use Rattle.basics.specs.Says.{apart}
+use Rattle.basics.proofs.laws.Says.{apart}
 use Rattle.trace.proofs.is_next.Statement.{statement}
 use Rattle.trace.proofs.is_next.Tie as tie
 

@@ -3,7 +3,8 @@
 use mathlib.Core.Path.{_≡_, refl, _∙_}
 use native.Mathlib.Omega.{arith}
 use lib.ListN.{length}
-use Rattle.trace.specs.Ready.{Ready, ready-fits}
+use Rattle.trace.specs.Inner.Ready.{Ready}
+use Rattle.trace.proofs.laws.Ready.{ready-fits}
 use Rattle.trace.proofs.serve.Statement.{statement}
 use Rattle.trace.proofs.serve.Tie as tie
 

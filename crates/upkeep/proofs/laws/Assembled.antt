@@ -8,29 +8,31 @@ use native.Mathlib.Omega.{arith}
 use lib.Ieee.{Float}
 use lib.ListN.{length, take, drop, length-append, length-map}
 use lib.Seq.{slice, take-at}
-use Rattle.basics.specs.Refusals.{pick}
-use Rattle.storage.specs.Keyed.{All, Sorted, written, appendAll}
-use Rattle.storage.specs.Entries.{Entry, rowKey, rowItem, rowOf, spotOf, entryKey, zipped, entriesOf}
-use Rattle.storage.specs.CellTable.{fresh}
-use Rattle.storage.specs.Pooled.{Columns}
+use Rattle.basics.specs.Meaning.Refusals.{pick}
+use Rattle.storage.specs.Meaning.Keyed.{All, written, appendAll}
+use Rattle.storage.specs.Inner.Keyed.{Sorted}
+use Rattle.storage.specs.Meaning.Entries.{Entry, rowKey, rowItem, rowOf, spotOf, entryKey, zipped, entriesOf}
+use Rattle.storage.specs.Meaning.CellTable.{fresh}
+use Rattle.storage.specs.Inner.Pooled.{Columns}
 use Rattle.storage.proofs.laws.ColumnLaws.{zipped-whole}
-use Rattle.storage.specs.AppendLaws.{length-appendAll}
-use Rattle.storage.specs.FilterLaws.{all-map, all-append}
+use Rattle.storage.proofs.laws.AppendLaws.{length-appendAll}
+use Rattle.storage.proofs.laws.FilterLaws.{all-map, all-append}
 use Rattle.storage.proofs.laws.KeepsLaws.{sorted-map}
-use Rattle.merge.specs.Grown.{placed, grown}
+use Rattle.merge.specs.Inner.Grown.{placed, grown}
 use Rattle.objects.specs.declared.State.{State}
 use Rattle.objects.specs.declared.State.the-variants.{Unchanged, NewPos, Relocate, Removed}
-use Rattle.point_tables.specs.Tables.{Tables, tables, counting, sizeOf, slotsOf, recordOn}
-use Rattle.point_tables.specs.Holds.{Holds}
-use Rattle.point_tables.specs.CountLaws.{isLive}
-use Rattle.maintain.specs.Settle.{settledAll}
-use Rattle.maintain.specs.SettleLaws.{Shaped}
-use Rattle.maintain.specs.SettleAllLaws.{in-slots, in-shaped}
-use Rattle.maintain.specs.Closed.{keptEntries, relocatedBy, relocatedAt, relocatedBelow, relisted, settledEntries, settledTables}
-use Rattle.maintain.specs.SettledForm.{kept-sorted}
-use Rattle.maintain.specs.SpaceLaws.{after-most, after-rows-most}
+use Rattle.point_tables.specs.Meaning.Tables.{Tables, tables, counting, sizeOf, slotsOf, recordOn}
+use Rattle.point_tables.specs.Meaning.Holds.{Holds}
+use Rattle.point_tables.specs.Inner.Count.{isLive}
+use Rattle.maintain.specs.Inner.Settle.{settledAll}
+use Rattle.maintain.specs.Inner.SettleLaws.{Shaped}
+use Rattle.maintain.proofs.laws.SettleAllLaws.{in-slots, in-shaped}
+use Rattle.maintain.specs.Inner.Closed.{keptEntries, relocatedBy, relocatedAt, relocatedBelow, relisted, settledEntries, settledTables}
+use Rattle.maintain.proofs.laws.SettledForm.{kept-sorted}
+use Rattle.maintain.proofs.laws.SpaceLaws.{after-most, after-rows-most}
 use Rattle.storage.proofs.laws.WrittenLaws.{length-written}
-use Rattle.settle.specs.Pass.{bare, putAt, Passed}
+use Rattle.settle.proofs.laws.Pass.{bare}
+use Rattle.settle.specs.Inner.Pass.{putAt, Passed}
 use Rattle.settle.proofs.laws.BareLaws.{all-bare, below-bare, holds-ready}
 use Rattle.settle.proofs.laws.SpotLaws.{spotted-below}
 use Rattle.upkeep.proofs.laws.OverLaws.{written-over, put-behind, both-first, both-second}

@@ -5,8 +5,8 @@ use mathlib.Core.List.{List, _++_, append-assoc}
 use native.Mathlib.Omega.{arith}
 use lib.ListN.{length, take, drop, length-append, length-drop}
 use lib.Seq.{slice, take-at, drop-at, drop-drop, drop-append-add, take-append-add}
-use Rattle.storage.specs.Keyed.{written}
-use Rattle.settle.specs.Pass.{putAt}
+use Rattle.storage.specs.Meaning.Keyed.{written}
+use Rattle.settle.specs.Inner.Pass.{putAt}
 
 module _ {A : Type 0} where
   drop-past : (a o : List A) (n : ℕ) → length a ≤ n → drop n (written a o) ≡ drop n o

@@ -4,15 +4,15 @@ use mathlib.Core.Bool.{true, false}
 use lib.ListN.{length}
 use borrow.Author.Tests.{not-true, not-false}
 use borrow.Author.Needs.{needs}
-use Rattle.basics.specs.Says.{apart}
-use Rattle.objects.specs.States.{isRemoved}
-use Rattle.point_tables.specs.Tables.{Tables, tables, slotsOf}
-use Rattle.point_tables.specs.Holds.{Holds}
-use Rattle.point_tables.specs.Decide.{holds, holds-says}
-use Rattle.point_tables.specs.Outcome.{outcome}
-use Rattle.maintain.specs.Maintain.{isMoving, countStates, maintainedCounts}
-use Rattle.maintain.specs.SettledForm.{maintained-is}
-use Rattle.maintain.specs.MaintainLaws.{maintain-done, maintain-refused}
+use Rattle.basics.proofs.laws.Says.{apart}
+use Rattle.objects.specs.Meaning.States.{isRemoved}
+use Rattle.point_tables.specs.Meaning.Tables.{Tables, tables, slotsOf}
+use Rattle.point_tables.specs.Meaning.Holds.{Holds}
+use Rattle.point_tables.specs.Meaning.Decide.{holds, holds-says}
+use Rattle.point_tables.specs.Meaning.Outcome.{outcome}
+use Rattle.maintain.specs.Meaning.Maintain.{isMoving, countStates, maintainedCounts}
+use Rattle.maintain.proofs.laws.SettledForm.{maintained-is}
+use Rattle.maintain.proofs.laws.MaintainLaws.{maintain-done, maintain-refused}
 use Rattle.settle.proofs.laws.CountsLaws.{moved-numbered, removed-numbered}
 use Rattle.upkeep.proofs.maintain.Statement.{statement}
 use Rattle.upkeep.proofs.maintain.Tie as tie

@@ -5,8 +5,8 @@ use mathlib.Core.List.{List}
 use native.Mathlib.Omega.{arith}
 use lib.Ieee.{Float}
 use borrow.Author.Needs.{needs}
-use Rattle.point_tables.specs.Tables.{Tables, tables}
-use Rattle.settle.specs.Pass.{recordsIn}
+use Rattle.point_tables.specs.Meaning.Tables.{Tables, tables}
+use Rattle.settle.specs.Inner.Pass.{recordsIn}
 use Rattle.settle.proofs.laws.BareLaws.{holds-ready}
 use Rattle.upkeep.proofs.laws.Assembled.{room, put-room, k-is, in-pool, in-spots, few, sorted-front, named-back, map-room, used-inside, cells-room, assembled}
 use Rattle.upkeep.proofs.settle_all.Statement.{statement}

@@ -4,11 +4,11 @@ use native.Mathlib.Omega.{arith}
 use lib.Dec.{T}
 use borrow.Author.Tests.{not-true, not-false}
 use borrow.Author.Needs.{needs}
-use Rattle.basics.specs.Says.{says-t}
+use Rattle.basics.proofs.laws.Says.{says-t}
 use Rattle.geometry.specs.declared.Aabb.{Aabb}
-use Rattle.geometry.specs.Domain.{aabbInDomain}
-use Rattle.box_tables.specs.Tables.{Tables, tables, sizeOf, aabbAt}
-use Rattle.box_tables.specs.Way.{spanOf}
+use Rattle.geometry.specs.Meaning.Domain.{aabbInDomain}
+use Rattle.box_tables.specs.Meaning.Tables.{Tables, tables, sizeOf, aabbAt}
+use Rattle.box_tables.specs.Inner.Way.{spanOf}
 use Rattle.box_changes.proofs.Answers.{holding, answer-3, answer-6, answer-5, slot-inside, old-inside, answer-7, used-small, room-small, answer-8, answer-0, refuses, cells-are}
 use Rattle.box_changes.proofs.placing.judge.Statement.{statement}
 use Rattle.box_changes.proofs.placing.judge.Tie as tie

@@ -3,8 +3,9 @@ use mathlib.Core.Path.{_≡_, sym, _∙_, ap}
 use borrow.Author.Needs.{needs}
 use Rattle.box_changes.proofs.Answers.{movable, refused, done}
 use Rattle.box_changes.proofs.Shifted.{place-asks, placed-is}
-use Rattle.box_tables.specs.Tables.{Tables, tables}
-use Rattle.box_changes.specs.Steps.{oldSpan, newSpan, Movable}
+use Rattle.box_tables.specs.Meaning.Tables.{Tables, tables}
+use Rattle.box_changes.specs.Inner.Steps.{oldSpan, newSpan}
+use Rattle.box_changes.proofs.laws.Steps.{Movable}
 use Rattle.box_changes.proofs.placing.set_aabb.Statement.{statement}
 use Rattle.box_changes.proofs.placing.set_aabb.Tie as tie
 

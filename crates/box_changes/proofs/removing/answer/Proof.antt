@@ -3,7 +3,7 @@ use mathlib.Core.Path.{sym, _∙_}
 use mathlib.Core.Bool.{Bool}
 use borrow.Author.Tests.{not-true, not-false}
 use borrow.Author.Needs.{needs}
-use Rattle.slots.specs.Slot.{good}
+use Rattle.slots.specs.Meaning.Slot.{good}
 use Rattle.box_changes.proofs.Taken.{answer-3, answer-5, answer-0}
 use Rattle.box_changes.proofs.removing.answer.Statement.{statement}
 use Rattle.box_changes.proofs.removing.answer.Tie as tie

@@ -1,7 +1,7 @@
 -- `box_changes::removing::remove` meets its contract. Assumes nothing.
 use borrow.Author.Needs.{needs}
 use Rattle.box_changes.proofs.Taken.{object, refused, done}
-use Rattle.box_tables.specs.Tables.{Tables, tables}
+use Rattle.box_tables.specs.Meaning.Tables.{Tables, tables}
 use Rattle.box_changes.proofs.removing.remove.Statement.{statement}
 use Rattle.box_changes.proofs.removing.remove.Tie as tie
 

@@ -4,9 +4,9 @@ use lib.Dec.{T}
 use borrow.Author.Needs.{needs}
 use Rattle.box_changes.proofs.Taken.{leave-asks, taken-is}
 use Rattle.geometry.specs.declared.Aabb.{Aabb}
-use Rattle.geometry.specs.Domain.{aabbInDomain}
-use Rattle.box_tables.specs.Way.{spanOf}
-use Rattle.box_tables.specs.Tables.{Tables, tables}
+use Rattle.geometry.specs.Meaning.Domain.{aabbInDomain}
+use Rattle.box_tables.specs.Inner.Way.{spanOf}
+use Rattle.box_tables.specs.Meaning.Tables.{Tables, tables}
 use Rattle.box_changes.proofs.removing.take_out.Statement.{statement}
 use Rattle.box_changes.proofs.removing.take_out.Tie as tie
 

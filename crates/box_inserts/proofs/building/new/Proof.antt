@@ -1,7 +1,7 @@
 -- `box_inserts::building::new` meets its contract. Assumes nothing.
 use native.Mathlib.Omega.{arith}
 use borrow.Author.Needs.{needs}
-use Rattle.box_tables.specs.Tables.{Tables, tables}
+use Rattle.box_tables.specs.Meaning.Tables.{Tables, tables}
 use Rattle.box_inserts.proofs.Built.{sized-by, refused, done, built-is}
 use Rattle.box_inserts.proofs.building.new.Statement.{statement}
 use Rattle.box_inserts.proofs.building.new.Tie as tie

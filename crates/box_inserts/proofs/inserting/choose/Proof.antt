@@ -6,7 +6,7 @@ use lib.Dec.{leb}
 use lib.ListN.{length}
 use borrow.Author.Tests.{not-true, not-false}
 use borrow.Author.Needs.{needs}
-use Rattle.basics.specs.Says.{says-t}
+use Rattle.basics.proofs.laws.Says.{says-t}
 use Rattle.box_inserts.proofs.Chosen.{chose-3, chose-6, chose-7, chose-slot}
 use Rattle.box_inserts.proofs.inserting.choose.Statement.{statement}
 use Rattle.box_inserts.proofs.inserting.choose.Tie as tie

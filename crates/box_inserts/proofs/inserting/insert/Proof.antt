@@ -1,6 +1,6 @@
 -- `box_inserts::inserting::insert` meets its contract. Assumes nothing.
 use borrow.Author.Needs.{needs}
-use Rattle.box_tables.specs.Tables.{Tables, tables}
+use Rattle.box_tables.specs.Meaning.Tables.{Tables, tables}
 use Rattle.box_inserts.proofs.Chosen.{choose-asks, refused, chosen, done}
 use Rattle.box_inserts.proofs.inserting.insert.Statement.{statement}
 use Rattle.box_inserts.proofs.inserting.insert.Tie as tie

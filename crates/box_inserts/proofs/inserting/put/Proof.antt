@@ -1,7 +1,7 @@
 -- `box_inserts::inserting::put` meets its contract. Assumes nothing.
 use native.Mathlib.Omega.{arith}
 use borrow.Author.Needs.{needs}
-use Rattle.box_tables.specs.Tables.{Tables, tables}
+use Rattle.box_tables.specs.Meaning.Tables.{Tables, tables}
 use Rattle.box_inserts.proofs.Placed.{enter-asks, few-more, put-is}
 use Rattle.box_inserts.proofs.inserting.put.Statement.{statement}
 use Rattle.box_inserts.proofs.inserting.put.Tie as tie

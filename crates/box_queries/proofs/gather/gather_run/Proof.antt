@@ -8,9 +8,9 @@ use native.Mathlib.Omega.{arith}
 use lib.ListN.{length, getD}
 use borrow.Author.Needs.{needs}
 use borrow.Author.Tests.{not-true, not-false}
-use Rattle.storage.specs.Keyed.{All}
-use Rattle.box_queries.specs.Gather.{slotsIn}
-use Rattle.box_queries.specs.Collected.{Collected}
+use Rattle.storage.specs.Meaning.Keyed.{All}
+use Rattle.box_queries.specs.Inner.Gather.{slotsIn}
+use Rattle.box_queries.specs.Inner.Collected.{Collected}
 use Rattle.box_queries.proofs.laws.CollectLaws.{slots-next, slots-none, slots-below, collected-none, collected-room, collected-taken, collected-passed, collected-as}
 use Rattle.box_queries.proofs.gather.gather_run.Statement.{statement}
 use Rattle.box_queries.proofs.gather.gather_run.Tie as tie

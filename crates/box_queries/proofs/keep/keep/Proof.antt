@@ -6,9 +6,9 @@ use mathlib.Core.Logic.{⊎-elim}
 use native.Mathlib.Omega.{arith}
 use lib.ListN.{length, getD, take}
 use borrow.Author.Needs.{needs}
-use Rattle.geometry.specs.Intersects.{intersects}
-use Rattle.box_tables.specs.Tables.{aabbAt}
-use Rattle.storage.specs.Keyed.{filter}
+use Rattle.geometry.specs.Meaning.Intersects.{intersects}
+use Rattle.box_tables.specs.Meaning.Tables.{aabbAt}
+use Rattle.storage.specs.Meaning.Keyed.{filter}
 use Rattle.box_queries.proofs.laws.KeepLaws.{Kept, kept-none, kept-here, kept-taken, kept-passed, kept-as}
 use Rattle.box_queries.proofs.keep.keep.Statement.{statement}
 use Rattle.box_queries.proofs.keep.keep.Tie as tie

@@ -5,9 +5,9 @@ use mathlib.Core.List.{map}
 use native.Mathlib.Omega.{arith}
 use lib.ListN.{length, getD, take}
 use borrow.Author.Needs.{needs}
-use Rattle.storage.specs.Keyed.{written}
+use Rattle.storage.specs.Meaning.Keyed.{written}
 use Rattle.storage.proofs.laws.PutLaws.{put-length, put-next}
-use Rattle.box_queries.specs.Queries.{boxRow}
+use Rattle.box_queries.specs.Meaning.Queries.{boxRow}
 use Rattle.box_queries.proofs.put.put_boxes.Statement.{statement}
 use Rattle.box_queries.proofs.put.put_boxes.Tie as tie
 

@@ -2,7 +2,7 @@
 use Prim.Native.Nat.{ℕ}
 use mathlib.Core.Path.{sym, subst}
 use borrow.Author.Needs.{needs}
-use Rattle.box_queries.specs.Put.{Found}
+use Rattle.box_queries.specs.Inner.Put.{Found}
 use Rattle.box_queries.proofs.put.put_findings.Statement.{statement}
 use Rattle.box_queries.proofs.put.put_findings.Tie as tie
 

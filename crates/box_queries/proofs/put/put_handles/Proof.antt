@@ -5,12 +5,12 @@ use mathlib.Core.List.{[], _∷_, map}
 use native.Mathlib.Omega.{arith}
 use lib.ListN.{length, getD, take}
 use borrow.Author.Needs.{needs}
-use Rattle.slots.specs.Slot.{versionAt}
-use Rattle.storage.specs.Keyed.{written}
+use Rattle.slots.specs.Meaning.Slot.{versionAt}
+use Rattle.storage.specs.Meaning.Keyed.{written}
 use Rattle.storage.proofs.laws.PutLaws.{put-length, put-next}
 use Rattle.box_queries.proofs.put.put_handles.Statement.{statement}
 use Rattle.box_queries.proofs.put.put_handles.Tie as tie
-use Rattle.slot_walks.specs.Live.{handleAt}
+use Rattle.slot_walks.specs.Meaning.Live.{handleAt}
 
 abbrev Inv-loop : tie.InvT-loop
 Inv-loop nums found n handles₀ k₀ handles k = (k ≤ n) × (handles ≡ written (map (handleAt nums) (take k found)) handles₀)

@@ -5,11 +5,11 @@ use mathlib.Core.List.{map}
 use native.Mathlib.Omega.{arith}
 use lib.ListN.{length, getD, take}
 use borrow.Author.Needs.{needs}
-use Rattle.storage.specs.Keyed.{written}
+use Rattle.storage.specs.Meaning.Keyed.{written}
 use Rattle.storage.proofs.laws.PutLaws.{put-length, put-next}
 use Rattle.box_queries.proofs.put.put_objs.Statement.{statement}
 use Rattle.box_queries.proofs.put.put_objs.Tie as tie
-use Rattle.slot_walks.specs.Live.{objAt}
+use Rattle.slot_walks.specs.Meaning.Live.{objAt}
 
 abbrev Inv-loop : tie.InvT-loop
 Inv-loop nums found n objs₀ k₀ objs k = (k ≤ n) × (objs ≡ written (map (objAt nums) (take k found)) objs₀)

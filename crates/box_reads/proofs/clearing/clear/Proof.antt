@@ -1,6 +1,6 @@
 -- `box_reads::clearing::clear` meets its contract. Assumes nothing.
 use borrow.Author.Needs.{needs}
-use Rattle.box_tables.specs.Tables.{Tables, tables}
+use Rattle.box_tables.specs.Meaning.Tables.{Tables, tables}
 use Rattle.box_reads.proofs.Cleared.{a-grid, refused, grid, put-asks, done}
 use Rattle.box_reads.proofs.clearing.clear.Statement.{statement}
 use Rattle.box_reads.proofs.clearing.clear.Tie as tie

@@ -1,7 +1,7 @@
 -- `inserts::building::answer` meets its contract. Assumes nothing.
 use borrow.Author.Tests.{not-true, not-false}
 use borrow.Author.Needs.{needs}
-use Rattle.point_tables.specs.Tables.{Tables, tables}
+use Rattle.point_tables.specs.Meaning.Tables.{Tables, tables}
 use Rattle.inserts.proofs.Built.{answer-3, answer-2, answer-0}
 use Rattle.inserts.proofs.building.answer.Statement.{statement}
 use Rattle.inserts.proofs.building.answer.Tie as tie

@@ -1,6 +1,6 @@
 -- `inserts::building::new` meets its contract. Assumes nothing.
 use borrow.Author.Needs.{needs}
-use Rattle.point_tables.specs.Tables.{Tables, tables}
+use Rattle.point_tables.specs.Meaning.Tables.{Tables, tables}
 use Rattle.inserts.proofs.Built.{sized-by, refused, done, built-is}
 use Rattle.inserts.proofs.building.new.Statement.{statement}
 use Rattle.inserts.proofs.building.new.Tie as tie

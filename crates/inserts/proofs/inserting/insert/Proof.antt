@@ -1,7 +1,7 @@
 -- `inserts::inserting::insert` meets its contract. Assumes nothing.
 use borrow.Author.Needs.{needs}
-use Rattle.point_tables.specs.Tables.{Tables, tables}
-use Rattle.inserts.specs.Fresh.{Fresh}
+use Rattle.point_tables.specs.Meaning.Tables.{Tables, tables}
+use Rattle.inserts.specs.Inner.Fresh.{Fresh}
 use Rattle.inserts.proofs.Chosen.{choose-asks, refused, chosen, done}
 use Rattle.inserts.proofs.inserting.insert.Statement.{statement}
 use Rattle.inserts.proofs.inserting.insert.Tie as tie

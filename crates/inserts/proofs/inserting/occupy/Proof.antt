@@ -3,7 +3,7 @@ use mathlib.Core.Path.{_≡_, subst}
 use lib.ListN.{set}
 use borrow.Author.Needs.{needs}
 use Rattle.objects.specs.declared.Record.{Record}
-use Rattle.objects.specs.Columns.{numsOf, realsOf, intsOf}
+use Rattle.objects.specs.Meaning.Columns.{numsOf, realsOf, intsOf}
 use Rattle.inserts.proofs.inserting.occupy.Statement.{statement}
 use Rattle.inserts.proofs.inserting.occupy.Tie as tie
 

@@ -1,8 +1,8 @@
 -- `inserts::inserting::put` meets its contract. Assumes nothing.
 use native.Mathlib.Omega.{arith}
 use borrow.Author.Needs.{needs}
-use Rattle.cells.specs.ReachLaws.{position-reached}
-use Rattle.point_tables.specs.Tables.{Tables, tables}
+use Rattle.cells.proofs.laws.ReachLaws.{position-reached}
+use Rattle.point_tables.specs.Meaning.Tables.{Tables, tables}
 use Rattle.inserts.proofs.Placed.{append-asks, enter-asks, in-map, few, put-is}
 use Rattle.inserts.proofs.inserting.put.Statement.{statement}
 use Rattle.inserts.proofs.inserting.put.Tie as tie

@@ -3,9 +3,9 @@ use mathlib.Core.Path.{ap, _∙_}
 use lib.IntN.{ℤ, pos}
 use mir.Facts.{toZ-ofZ}
 use borrow.Author.Needs.{needs}
-use Rattle.lines.specs.Taken.{taken, both, takeNumber, takeCount, takeHandle, ifAsked, nobody, takePlaces}
-use Rattle.lines.specs.Requests.{request, argumentsOf, whole}
-use Rattle.lines.specs.Cursor.{fieldsFrom, numberTaken, countTaken, spotsTaken, handleTaken}
+use Rattle.lines.specs.Meaning.Taken.{taken, both, takeNumber, takeCount, takeHandle, ifAsked, nobody, takePlaces}
+use Rattle.lines.specs.Meaning.Requests.{request, argumentsOf, whole}
+use Rattle.lines.specs.Inner.Cursor.{fieldsFrom, numberTaken, countTaken, spotsTaken, handleTaken}
 use Rattle.lines.proofs.Shared.{told, none-first, none-second, both-taken, no-request, one-request}
 use Rattle.lines.proofs.arguments.arguments.Statement.{statement}
 use Rattle.lines.proofs.arguments.arguments.Tie as tie

@@ -3,8 +3,8 @@ use Prim.Native.Nat.{ℕ}
 use mathlib.Core.Path.{sym, ap, _∙_}
 use mathlib.Core.List.{List}
 use borrow.Author.Needs.{needs}
-use Rattle.lines.specs.Taken.{taken}
-use Rattle.lines.specs.Requests.{whole}
+use Rattle.lines.specs.Meaning.Taken.{taken}
+use Rattle.lines.specs.Meaning.Requests.{whole}
 use Rattle.lines.proofs.laws.CursorLaws.{field-at, no-field}
 use Rattle.lines.proofs.arguments.whole.Statement.{statement}
 use Rattle.lines.proofs.arguments.whole.Tie as tie

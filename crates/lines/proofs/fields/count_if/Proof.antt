@@ -2,8 +2,8 @@
 use mathlib.Core.Path.{_∙_}
 use lib.IntN.{pos}
 use borrow.Author.Needs.{needs}
-use Rattle.lines.specs.Taken.{takeCount}
-use Rattle.lines.specs.Cursor.{fieldsFrom}
+use Rattle.lines.specs.Meaning.Taken.{takeCount}
+use Rattle.lines.specs.Inner.Cursor.{fieldsFrom}
 use Rattle.lines.proofs.Shared.{if-asked, not-asked}
 use Rattle.lines.proofs.fields.count_if.Statement.{statement}
 use Rattle.lines.proofs.fields.count_if.Tie as tie

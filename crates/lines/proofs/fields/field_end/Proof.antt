@@ -3,7 +3,7 @@ use Prim.Native.Nat.{_+_, _-_, _≤_}
 use mathlib.Core.Path.{_≡_, refl}
 use native.Mathlib.Omega.{arith}
 use lib.ListN.{length, drop}
-use Rattle.lines.specs.Cursor.{untilComma, endFrom}
+use Rattle.lines.specs.Inner.Cursor.{untilComma, endFrom}
 use Rattle.lines.proofs.laws.CursorLaws.{at-comma, at-other, at-end}
 use Rattle.lines.proofs.fields.field_end.Statement.{statement}
 use Rattle.lines.proofs.fields.field_end.Tie as tie

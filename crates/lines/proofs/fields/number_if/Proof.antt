@@ -1,8 +1,8 @@
 -- `lines::fields::number_if` meets its contract. Assumes nothing.
 use mathlib.Core.Path.{_∙_}
 use borrow.Author.Needs.{needs}
-use Rattle.lines.specs.Taken.{takeNumber}
-use Rattle.lines.specs.Cursor.{fieldsFrom}
+use Rattle.lines.specs.Meaning.Taken.{takeNumber}
+use Rattle.lines.specs.Inner.Cursor.{fieldsFrom}
 use Rattle.lines.proofs.Shared.{if-asked, not-asked}
 use Rattle.lines.proofs.fields.number_if.Statement.{statement}
 use Rattle.lines.proofs.fields.number_if.Tie as tie

@@ -1,8 +1,8 @@
 -- `lines::fields::spots_if` meets its contract. Assumes nothing.
 use lib.Dec.{ltb}
 use borrow.Author.Needs.{needs}
-use Rattle.lines.specs.Taken.{takeSpot, ifAsked, origin}
-use Rattle.lines.specs.Cursor.{fieldsFrom, spotTaken}
+use Rattle.lines.specs.Meaning.Taken.{takeSpot, ifAsked, origin}
+use Rattle.lines.specs.Inner.Cursor.{fieldsFrom, spotTaken}
 use Rattle.lines.proofs.Shared.{told, none-first, none-second, both-taken}
 use Rattle.lines.proofs.fields.spots_if.Statement.{statement}
 use Rattle.lines.proofs.fields.spots_if.Tie as tie

@@ -3,13 +3,13 @@ use Prim.Native.Nat.{_+_}
 use mathlib.Core.Path.{ap, _∙_}
 use lib.IntN.{ℤ}
 use mir.Facts.{toZ-ofZ}
-use Rattle.lines.specs.Taken.{taken}
+use Rattle.lines.specs.Meaning.Taken.{taken}
 use native.Mathlib.Omega.{arith}
 use borrow.Author.Needs.{needs}
 use Rattle.decimals.specs.declared.Count.{Count}
-use Rattle.lines.specs.Cursor.{fieldsFrom}
+use Rattle.lines.specs.Inner.Cursor.{fieldsFrom}
 use Rattle.lines.proofs.laws.CursorLaws.{end-within}
-use Rattle.lines.specs.Taken.{countThen}
+use Rattle.lines.specs.Meaning.Taken.{countThen}
 use Rattle.lines.proofs.Shared.{told, no-count, count-here}
 use Rattle.lines.proofs.fields.take_count.Statement.{statement}
 use Rattle.lines.proofs.fields.take_count.Tie as tie

@@ -3,9 +3,9 @@ use Prim.Native.Nat.{_+_}
 use native.Mathlib.Omega.{arith}
 use borrow.Author.Needs.{needs}
 use Rattle.decimals.specs.declared.Number.{Number}
-use Rattle.lines.specs.Cursor.{fieldsFrom}
+use Rattle.lines.specs.Inner.Cursor.{fieldsFrom}
 use Rattle.lines.proofs.laws.CursorLaws.{end-within}
-use Rattle.lines.specs.Taken.{numberThen}
+use Rattle.lines.specs.Meaning.Taken.{numberThen}
 use Rattle.lines.proofs.Shared.{told, no-number, number-here}
 use Rattle.lines.proofs.fields.take_number.Statement.{statement}
 use Rattle.lines.proofs.fields.take_number.Tie as tie

@@ -3,8 +3,8 @@ use mathlib.Core.Path.{ap, _∙_}
 use mir.Facts.{toZ-ofZ}
 use borrow.Author.Needs.{needs}
 use Rattle.lines.specs.declared.Spot.{Spot}
-use Rattle.lines.specs.Taken.{taken, both, spotOf, takeCount}
-use Rattle.lines.specs.Cursor.{fieldsFrom, countTaken}
+use Rattle.lines.specs.Meaning.Taken.{taken, both, spotOf, takeCount}
+use Rattle.lines.specs.Inner.Cursor.{fieldsFrom, countTaken}
 use Rattle.lines.proofs.Shared.{told, none-first, none-second, both-taken, none-made, one-made}
 use Rattle.lines.proofs.fields.take_spot.Statement.{statement}
 use Rattle.lines.proofs.fields.take_spot.Tie as tie

@@ -2,9 +2,9 @@
 use mathlib.Core.Path.{_≡_, sym, _∙_}
 use native.Mathlib.Omega.{arith}
 use borrow.Author.Needs.{needs}
-use Rattle.point_tables.specs.Tables.{Tables, tables}
-use Rattle.moves.specs.Batch.{batchAnswer}
-use Rattle.moves.specs.Held.{poolless}
+use Rattle.point_tables.specs.Meaning.Tables.{Tables, tables}
+use Rattle.moves.specs.Meaning.Batch.{batchAnswer}
+use Rattle.moves.specs.Inner.Held.{poolless}
 use Rattle.moves.proofs.laws.BatchAnswerLaws.{batch-accepted}
 use Rattle.moves.proofs.Ends.{answered, short, refused, found, readied, ran}
 use Rattle.moves.proofs.batches.batch.Statement.{statement}

@@ -4,8 +4,8 @@ use Prim.Native.Nat.{_-_}
 use native.Mathlib.Omega.{arith}
 use lib.ListN.{length}
 use borrow.Author.Needs.{needs}
-use Rattle.point_tables.specs.Tables.{Tables}
-use Rattle.moves.specs.Held.{poolless}
+use Rattle.point_tables.specs.Meaning.Tables.{Tables}
+use Rattle.moves.specs.Inner.Held.{poolless}
 use Rattle.moves.proofs.laws.BatchLaws.{Running, start, step, finish}
 use Rattle.moves.proofs.batches.run.Statement.{statement}
 use Rattle.moves.proofs.batches.run.Tie as tie

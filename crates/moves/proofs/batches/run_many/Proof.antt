@@ -4,9 +4,9 @@ use mathlib.Core.Path.{_≡_, sym, subst}
 use native.Mathlib.Omega.{arith}
 use lib.ListN.{length}
 use borrow.Author.Needs.{needs}
-use Rattle.point_tables.specs.Tables.{Tables, usedOf, rowsOf}
-use Rattle.moves.specs.Held.{poolless}
-use Rattle.moves.specs.Marks.{Walkable, MarkedTo}
+use Rattle.point_tables.specs.Meaning.Tables.{Tables, usedOf, rowsOf}
+use Rattle.moves.specs.Inner.Held.{poolless}
+use Rattle.moves.specs.Inner.Marks.{Walkable, MarkedTo}
 use Rattle.moves.proofs.laws.ManyLaws.{RunningMany, start-many, step-many, walkable, finish-many}
 use Rattle.moves.proofs.batches.run_many.Statement.{statement}
 use Rattle.moves.proofs.batches.run_many.Tie as tie

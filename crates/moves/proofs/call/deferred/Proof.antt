@@ -1,10 +1,10 @@
 -- `moves::call::deferred` meets its contract. Assumes nothing.
 use Prim.Native.Nat.{ℕ}
 use mathlib.Core.Path.{refl, ap, sym, _∙_, subst}
-use Rattle.point_tables.specs.Tables.{Tables}
-use Rattle.moves.specs.Batch.{Call}
-use Rattle.moves.specs.Held.{poolless, call, worked}
-use Rattle.moves.specs.Ready.{Workable}
+use Rattle.point_tables.specs.Meaning.Tables.{Tables}
+use Rattle.moves.specs.Meaning.Batch.{Call}
+use Rattle.moves.specs.Inner.Held.{poolless, call, worked}
+use Rattle.moves.specs.Inner.Ready.{Workable}
 use Rattle.moves.proofs.laws.HeldLaws.{held-accepted}
 use Rattle.moves.proofs.Shared.{refused, done}
 use Rattle.moves.proofs.call.deferred.Statement.{statement}

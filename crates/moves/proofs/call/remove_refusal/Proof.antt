@@ -2,7 +2,7 @@
 use mathlib.Core.Path.{sym, _∙_}
 use borrow.Author.Tests.{not-true, not-false}
 use borrow.Author.Needs.{needs}
-use Rattle.moves.specs.Held.{removeRefusal}
+use Rattle.moves.specs.Inner.Held.{removeRefusal}
 use Rattle.moves.proofs.call.remove_refusal.Statement.{statement}
 use Rattle.moves.proofs.call.remove_refusal.Tie as tie
 

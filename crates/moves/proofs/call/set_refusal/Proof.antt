@@ -7,12 +7,12 @@ use lib.ListN.{length, getD}
 use borrow.Author.Tests.{not-true, not-false}
 use borrow.Author.Needs.{needs}
 use native.Mathlib.Omega.{arith}
-use Rattle.geometry.specs.Domain.{positionInDomain}
-use Rattle.slots.specs.Slot.{good}
+use Rattle.geometry.specs.Meaning.Domain.{positionInDomain}
+use Rattle.slots.specs.Meaning.Slot.{good}
 use Rattle.slots.proofs.laws.HandleLaws.{good-says}
-use Rattle.objects.specs.Columns.{recordAt}
-use Rattle.objects.specs.States.{isRemoved}
-use Rattle.moves.specs.Held.{setRefusal}
+use Rattle.objects.specs.Meaning.Columns.{recordAt}
+use Rattle.objects.specs.Meaning.States.{isRemoved}
+use Rattle.moves.specs.Inner.Held.{setRefusal}
 use Rattle.moves.proofs.Shared.{above-two, up-to-two}
 use Rattle.moves.proofs.call.set_refusal.Statement.{statement}
 use Rattle.moves.proofs.call.set_refusal.Tie as tie

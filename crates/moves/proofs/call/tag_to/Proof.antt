@@ -1,6 +1,6 @@
 -- `moves::call::tag_to` meets its contract. Assumes nothing.
 use mathlib.Core.Path.{_≡_, sym, _∙_}
-use Rattle.basics.specs.Says.{apart}
+use Rattle.basics.proofs.laws.Says.{apart}
 use Rattle.moves.proofs.Shared.{tag-same, tag-other}
 use borrow.Author.Needs.{needs}
 use Rattle.moves.proofs.call.tag_to.Statement.{statement}

@@ -3,9 +3,9 @@ use mathlib.Core.Path.{sym, _∙_}
 use mathlib.Core.List.{[], _∷_}
 use native.Mathlib.Omega.{arith}
 use borrow.Author.Needs.{needs}
-use Rattle.point_tables.specs.Tables.{Tables}
-use Rattle.moves.specs.Batch.{Call}
-use Rattle.moves.specs.Held.{poolless, call}
+use Rattle.point_tables.specs.Meaning.Tables.{Tables}
+use Rattle.moves.specs.Meaning.Batch.{Call}
+use Rattle.moves.specs.Inner.Held.{poolless, call}
 use Rattle.moves.proofs.laws.HeldLaws.{held-accepted}
 use Rattle.moves.proofs.Shared.{refused-unmarked, done-unmarked}
 use Rattle.moves.proofs.call.unmarked.Statement.{statement}

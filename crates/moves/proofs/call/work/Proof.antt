@@ -1,9 +1,9 @@
 -- `moves::call::work` meets its contract. Assumes nothing.
 use native.Mathlib.Omega.{arith}
 use borrow.Author.Needs.{needs}
-use Rattle.cells.specs.Numbers.{cell-ext}
-use Rattle.point_tables.specs.Tables.{Tables}
-use Rattle.moves.specs.Held.{poolless}
+use Rattle.cells.proofs.laws.Numbers.{cell-ext}
+use Rattle.point_tables.specs.Meaning.Tables.{Tables}
+use Rattle.moves.specs.Inner.Held.{poolless}
 use Rattle.moves.proofs.Shared.{back, made, rising}
 use Rattle.moves.proofs.call.work.Statement.{statement}
 use Rattle.moves.proofs.call.work.Tie as tie

@@ -5,8 +5,8 @@ use mathlib.Core.List.{List, [], _∷_}
 use mathlib.Core.Logic.{⊎-elim}
 use native.Mathlib.Omega.{arith}
 use lib.ListN.{length, getD, set}
-use Rattle.storage.specs.Packed.{first, second}
-use Rattle.moves.specs.Marks.{tagAt, Walkable, MarkedTo}
+use Rattle.storage.specs.Meaning.Packed.{first, second}
+use Rattle.moves.specs.Inner.Marks.{tagAt, Walkable, MarkedTo}
 use Rattle.moves.proofs.laws.MarkLaws.{Ahead, start, ahead-start, in-rows, ahead-entry, ahead-row, key-kept, passed-by, set-row}
 use borrow.Author.Needs.{needs}
 use Rattle.moves.proofs.marks.mark_all.Statement.{statement}

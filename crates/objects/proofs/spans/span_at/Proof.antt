@@ -8,8 +8,8 @@ use lib.Ieee.{nan}
 use lib.ListN.{getD}
 use borrow.Author.Needs.{needs}
 use Rattle.cells.specs.declared.Cell.{Cell}
-use Rattle.cells.specs.Key.{cellOfKey}
-use Rattle.cells.specs.Span.{Spans}
+use Rattle.cells.specs.Inner.Key.{cellOfKey}
+use Rattle.cells.specs.Inner.Span.{Spans}
 use Rattle.objects.proofs.Shared.{back}
 use Rattle.objects.proofs.laws.KeptLaws.{kept-more}
 use Rattle.objects.proofs.spans.span_at.Statement.{statement}

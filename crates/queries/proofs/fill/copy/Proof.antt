@@ -4,7 +4,7 @@ use mathlib.Core.Path.{_≡_, refl, ap, _∙_}
 use native.Mathlib.Omega.{arith}
 use lib.ListN.{length, take}
 use borrow.Author.Needs.{needs}
-use Rattle.storage.specs.Keyed.{written}
+use Rattle.storage.specs.Meaning.Keyed.{written}
 use Rattle.queries.proofs.laws.BegunLaws.{copy-length, copy-next}
 use Rattle.queries.proofs.fill.copy.Statement.{statement}
 use Rattle.queries.proofs.fill.copy.Tie as tie

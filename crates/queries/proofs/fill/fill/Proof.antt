@@ -5,13 +5,13 @@ use mathlib.Core.List.{List}
 use native.Mathlib.Omega.{arith}
 use lib.ListN.{length}
 use borrow.Author.Needs.{needs}
-use Rattle.queries.specs.Queries.{findings}
-use Rattle.queries.specs.Places.{placesOf}
+use Rattle.queries.specs.Meaning.Queries.{findings}
+use Rattle.queries.specs.Inner.Places.{placesOf}
 use Rattle.queries.proofs.laws.StretchLaws.{places-most}
 use Rattle.queries.proofs.laws.FillLaws.{filled-0}
 use Rattle.queries.proofs.fill.fill.Statement.{statement}
 use Rattle.queries.proofs.fill.fill.Tie as tie
-use Rattle.replies.specs.Replies.{count}
+use Rattle.replies.specs.Meaning.Replies.{count}
 
 -- what was met, where the outputs have room for all entries in use
 module _ (p : tie.After-put-range) where

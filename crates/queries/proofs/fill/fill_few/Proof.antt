@@ -4,9 +4,9 @@ use mathlib.Core.Path.{ap, _∙_}
 use mathlib.Core.List.{List}
 use native.Mathlib.Omega.{arith}
 use borrow.Author.Needs.{needs}
-use Rattle.queries.specs.Places.{placesOf}
-use Rattle.queries.specs.Fill.{filled, Findable}
-use Rattle.queries.specs.Begun.{Begun}
+use Rattle.queries.specs.Inner.Places.{placesOf}
+use Rattle.queries.specs.Inner.Fill.{filled, Findable}
+use Rattle.queries.specs.Inner.Begun.{Begun}
 use Rattle.queries.proofs.laws.BegunLaws.{begun-none, begun-few, begun-room, begun-each}
 use Rattle.queries.proofs.fill.fill_few.Statement.{statement}
 use Rattle.queries.proofs.fill.fill_few.Tie as tie

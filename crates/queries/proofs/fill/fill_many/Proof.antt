@@ -5,9 +5,9 @@ use mathlib.Core.List.{List}
 use native.Mathlib.Omega.{arith}
 use lib.ListN.{take}
 use borrow.Author.Needs.{needs}
-use Rattle.queries.specs.Places.{placesOf}
-use Rattle.queries.specs.Fill.{filled, Findable}
-use Rattle.queries.specs.Begun.{Begun}
+use Rattle.queries.specs.Inner.Places.{placesOf}
+use Rattle.queries.specs.Inner.Fill.{filled, Findable}
+use Rattle.queries.specs.Inner.Begun.{Begun}
 use Rattle.queries.proofs.laws.BegunLaws.{begun-few, begun-room, begun-each, begun-copied}
 use Rattle.queries.proofs.fill.fill_many.Statement.{statement}
 use Rattle.queries.proofs.fill.fill_many.Tie as tie

@@ -6,9 +6,9 @@ use native.Mathlib.Omega.{arith}
 use lib.Ieee.{Float}
 use lib.ListN.{length, getD, take}
 use borrow.Author.Needs.{needs}
-use Rattle.storage.specs.Keyed.{written}
+use Rattle.storage.specs.Meaning.Keyed.{written}
 use Rattle.objects.specs.declared.Entry.{Entry}
-use Rattle.queries.specs.Fill.{findingOf, findingAt, handleOf, placeOf, handleAt, placeAt, Findable}
+use Rattle.queries.specs.Inner.Fill.{findingOf, findingAt, handleOf, placeOf, handleAt, placeAt, Findable}
 use Rattle.storage.proofs.laws.PutLaws.{put-length, put-next}
 use Rattle.queries.proofs.fill.put_findings.Statement.{statement}
 use Rattle.queries.proofs.fill.put_findings.Tie as tie

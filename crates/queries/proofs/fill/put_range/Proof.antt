@@ -7,13 +7,13 @@ use lib.Ieee.{Float}
 use lib.ListN.{length, length-append, length-map}
 use borrow.Author.Needs.{needs}
 use Rattle.cells.specs.declared.Cell.{Cell}
-use Rattle.cells.specs.Numbers.{Near}
-use Rattle.cells.specs.Key.{keyOf}
-use Rattle.storage.specs.Keyed.{written}
+use Rattle.cells.specs.Inner.Numbers.{Near}
+use Rattle.cells.specs.Meaning.Key.{keyOf}
+use Rattle.storage.specs.Meaning.Keyed.{written}
 use Rattle.storage.proofs.laws.WrittenLaws.{length-written}
 use Rattle.storage.proofs.laws.RunLaws.{run-onward}
-use Rattle.queries.specs.Places.{placesIn, spotPasses, placesOf}
-use Rattle.queries.specs.Fill.{handleAt, placeAt}
+use Rattle.queries.specs.Inner.Places.{placesIn, spotPasses, placesOf}
+use Rattle.queries.specs.Inner.Fill.{handleAt, placeAt}
 use Rattle.queries.proofs.laws.StretchLaws.{places-most, places-run}
 use Rattle.queries.proofs.laws.RowLaws.{rows-behind}
 use Rattle.queries.proofs.fill.put_range.Statement.{statement}

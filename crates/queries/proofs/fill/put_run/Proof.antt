@@ -8,11 +8,11 @@ use native.Mathlib.Omega.{arith}
 use lib.Ieee.{Float}
 use lib.ListN.{length, take, length-append}
 use borrow.Author.Needs.{needs}
-use Rattle.storage.specs.Keyed.{written}
+use Rattle.storage.specs.Meaning.Keyed.{written}
 use Rattle.objects.specs.declared.Entry.{Entry}
-use Rattle.queries.specs.Queries.{passes}
-use Rattle.queries.specs.Places.{spotPasses}
-use Rattle.queries.specs.Fill.{findingOf, handleOf, placeOf, handleAt, placeAt}
+use Rattle.queries.specs.Meaning.Queries.{passes}
+use Rattle.queries.specs.Inner.Places.{spotPasses}
+use Rattle.queries.specs.Inner.Fill.{findingOf, handleOf, placeOf, handleAt, placeAt}
 use Rattle.queries.proofs.laws.PlacesLaws.{passed, passed-more, passed-same, places-length}
 use Rattle.queries.proofs.laws.RowLaws.{rowsTo, rows-none, rows-kept, rows-taken, rows-passed}
 use Rattle.queries.proofs.fill.put_run.Statement.{statement}

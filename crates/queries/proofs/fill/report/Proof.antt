@@ -6,12 +6,12 @@ use native.Mathlib.Omega.{arith}
 use lib.ListN.{length, take}
 use lib.Seq.{length-take-le}
 use borrow.Author.Needs.{needs}
-use Rattle.queries.specs.Queries.{findings}
-use Rattle.queries.specs.Fill.{filled}
+use Rattle.queries.specs.Meaning.Queries.{findings}
+use Rattle.queries.specs.Inner.Fill.{filled}
 use Rattle.queries.proofs.laws.FillLaws.{filled-9, filled-put}
 use Rattle.queries.proofs.fill.report.Statement.{statement}
 use Rattle.queries.proofs.fill.report.Tie as tie
-use Rattle.replies.specs.Replies.{count}
+use Rattle.replies.specs.Meaning.Replies.{count}
 
 -- the places found
 module _ (s : tie.Start) where

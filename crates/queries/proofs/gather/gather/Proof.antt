@@ -5,9 +5,9 @@ use native.Mathlib.Omega.{arith}
 use lib.ListN.{length}
 use borrow.Author.Needs.{needs}
 use Rattle.cells.specs.declared.Cell.{Cell}
-use Rattle.cells.specs.Numbers.{Near}
-use Rattle.cells.specs.Key.{keyOf}
-use Rattle.queries.specs.Begun.{Begun}
+use Rattle.cells.specs.Inner.Numbers.{Near}
+use Rattle.cells.specs.Meaning.Key.{keyOf}
+use Rattle.queries.specs.Inner.Begun.{Begun}
 use Rattle.queries.proofs.laws.BegunLaws.{run-moves, begun-few, begun-room, begun-run}
 use Rattle.queries.proofs.gather.gather.Statement.{statement}
 use Rattle.queries.proofs.gather.gather.Tie as tie

@@ -6,7 +6,7 @@ use mathlib.Core.List.{_++_}
 use native.Mathlib.Omega.{arith}
 use lib.ListN.{length, take}
 use borrow.Author.Needs.{needs}
-use Rattle.queries.specs.Places.{placesIn, spotPasses}
+use Rattle.queries.specs.Inner.Places.{placesIn, spotPasses}
 use Rattle.queries.proofs.laws.PlacesLaws.{places-length}
 use Rattle.queries.proofs.laws.BegunLaws.{stretch-none, stretch-room, stretch-kept, stretch-count, stretch-first}
 use Rattle.queries.proofs.gather.gather_part.Statement.{statement}

@@ -7,10 +7,10 @@ use mathlib.Core.Logic.{⊎-elim}
 use native.Mathlib.Omega.{arith}
 use lib.ListN.{length, set}
 use borrow.Author.Needs.{needs}
-use Rattle.storage.specs.Keyed.{written}
+use Rattle.storage.specs.Meaning.Keyed.{written}
 use Rattle.storage.proofs.laws.WrittenLaws.{length-written}
-use Rattle.queries.specs.Queries.{passes}
-use Rattle.queries.specs.Places.{placesIn, spotPasses}
+use Rattle.queries.specs.Meaning.Queries.{passes}
+use Rattle.queries.specs.Inner.Places.{placesIn, spotPasses}
 use Rattle.queries.proofs.laws.GatherLaws.{upTo, up-length, up-most, up-start, up-none, up-count, up-passed, up-room, up-written}
 use Rattle.queries.proofs.gather.gather_run.Statement.{statement}
 use Rattle.queries.proofs.gather.gather_run.Tie as tie

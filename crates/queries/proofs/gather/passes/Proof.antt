@@ -2,7 +2,7 @@
 use mathlib.Core.Path.{sym, ap, _∙_}
 use borrow.Author.Needs.{needs}
 use Rattle.queries.specs.declared.Test.{Test}
-use Rattle.queries.specs.Queries.{passes}
+use Rattle.queries.specs.Meaning.Queries.{passes}
 use Rattle.queries.proofs.gather.passes.Statement.{statement}
 use Rattle.queries.proofs.gather.passes.Tie as tie
 

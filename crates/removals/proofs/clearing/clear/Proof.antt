@@ -1,6 +1,6 @@
 -- `removals::clearing::clear` meets its contract. Assumes nothing.
 use borrow.Author.Needs.{needs}
-use Rattle.point_tables.specs.Tables.{Tables, tables}
+use Rattle.point_tables.specs.Meaning.Tables.{Tables, tables}
 use Rattle.removals.proofs.Cleared.{answer-asks, refused, grid, put-asks, done}
 use Rattle.removals.proofs.clearing.clear.Statement.{statement}
 use Rattle.removals.proofs.clearing.clear.Tie as tie

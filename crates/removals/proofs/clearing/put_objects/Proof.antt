@@ -7,8 +7,8 @@ use native.Mathlib.Omega.{arith}
 use lib.ListN.{length, set}
 use lib.Seq.{take-all}
 use borrow.Author.Needs.{needs}
-use Rattle.storage.specs.Keyed.{written}
-use Rattle.slot_walks.specs.Live.{liveFrom, objAt}
+use Rattle.storage.specs.Meaning.Keyed.{written}
+use Rattle.slot_walks.specs.Meaning.Live.{liveFrom, objAt}
 use Rattle.slot_walks.proofs.laws.LiveLaws.{liveTo, live-most, live-within}
 use Rattle.removals.specs.Inner.{placeAt, placesOf, objsOf}
 use Rattle.slot_walks.proofs.laws.FillLaws.{filled-length, filled-room, filled-next, filled-same, one-more, as-many}

@@ -3,7 +3,7 @@ use mathlib.Core.Path.{sym, _∙_}
 use mathlib.Core.Bool.{Bool}
 use borrow.Author.Needs.{needs}
 use borrow.Author.Tests.{not-true, not-false}
-use Rattle.slots.specs.Slot.{good}
+use Rattle.slots.specs.Meaning.Slot.{good}
 use Rattle.removals.proofs.Answers.{answer-3, answer-5, answer-0}
 use Rattle.removals.proofs.removing.answer.Statement.{statement}
 use Rattle.removals.proofs.removing.answer.Tie as tie

@@ -1,6 +1,6 @@
 -- `removals::removing::remove_maintain` meets its contract. Assumes nothing.
 use borrow.Author.Needs.{needs}
-use Rattle.point_tables.specs.Tables.{Tables, tables}
+use Rattle.point_tables.specs.Meaning.Tables.{Tables, tables}
 use Rattle.removals.proofs.Answers.{refused, object, done}
 use Rattle.removals.proofs.removing.remove_maintain.Statement.{statement}
 use Rattle.removals.proofs.removing.remove_maintain.Tie as tie

@@ -1,7 +1,7 @@
 -- `removals::removing::take_out` meets its contract. Assumes nothing.
 use mathlib.Core.Path.{refl}
 use borrow.Author.Needs.{needs}
-use Rattle.point_tables.specs.Tables.{Tables, tables}
+use Rattle.point_tables.specs.Meaning.Tables.{Tables, tables}
 use Rattle.removals.proofs.Taken.{in-columns, in-map, take-asks, cells-asks, pool-asks, taken-is}
 use Rattle.removals.proofs.removing.take_out.Statement.{statement}
 use Rattle.removals.proofs.removing.take_out.Tie as tie

@@ -4,11 +4,12 @@ use lib.ListN.{take, replicate, length-replicate}
 use Prim.Native.Nat.{ℕ}
 use lib.Ieee.{ofBits}
 use borrow.Author.Needs.{needs}
-use Rattle.decimals.specs.Written.{written}
-use Rattle.telling.specs.InRange.{InRange, read-in-range}
-use Rattle.point_tables.specs.Lent as point
-use Rattle.box_tables.specs.Lent as box
-use Rattle.replay.specs.Replay.{grids, naught}
+use Rattle.decimals.specs.Meaning.Written.{written}
+use Rattle.telling.specs.Inner.InRange.{InRange}
+use Rattle.telling.proofs.laws.InRange.{read-in-range}
+use Rattle.point_tables.specs.Meaning.Lent as point
+use Rattle.box_tables.specs.Meaning.Lent as box
+use Rattle.replay.specs.Meaning.Replay.{grids, naught}
 use Rattle.replay.proofs.laws.ReplayLaws.{can-tell, is-replayed}
 use Rattle.replay.proofs.answering.answer_record.Statement.{statement}
 use Rattle.replay.proofs.answering.answer_record.Tie as tie

@@ -4,8 +4,8 @@ use Prim.Native.Nat.{ℕ, _-_}
 use mathlib.Core.Path.{_≡_, refl, sym, ap, _∙_}
 use native.Mathlib.Omega.{arith}
 use lib.ListN.{length, drop, getD}
-use Rattle.splits.specs.Sofar.{sofar, feed}
-use Rattle.replay.specs.Next.{nextOf}
+use Rattle.splits.specs.Meaning.Sofar.{sofar, feed}
+use Rattle.replay.specs.Meaning.Next.{nextOf}
 use Rattle.replay.proofs.laws.NextLaws.{at-end, a-record, no-record}
 use Rattle.replay.proofs.blocks.next_record.Statement.{statement}
 use Rattle.replay.proofs.blocks.next_record.Tie as tie

@@ -4,7 +4,7 @@ use mathlib.Core.Path.{_≡_, refl, _∙_}
 use mathlib.Core.List.{[]}
 use lib.ListN.{length, getD, length-set}
 use native.Mathlib.Omega.{arith}
-use Rattle.storage.specs.Places.{opened}
+use Rattle.storage.specs.Inner.Places.{opened}
 use Rattle.storage.proofs.laws.GapLaws.{open-start, open-step, open-end}
 use Rattle.storage.proofs.gap.open_spot.Statement.{statement}
 use Rattle.storage.proofs.gap.open_spot.Tie as tie

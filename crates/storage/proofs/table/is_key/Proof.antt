@@ -3,7 +3,7 @@ use mathlib.Core.Path.{sym, _∙_}
 use native.Mathlib.Omega.{arith}
 use borrow.Author.Needs.{needs}
 use borrow.Author.Tests.{eqb-true, eq-eqb}
-use Rattle.basics.specs.Says.{says-no}
+use Rattle.basics.proofs.laws.Says.{says-no}
 use Rattle.storage.proofs.table.is_key.Statement.{statement}
 use Rattle.storage.proofs.table.is_key.Tie as tie
 

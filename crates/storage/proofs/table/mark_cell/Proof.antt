@@ -3,7 +3,7 @@ use Prim.Native.Nat.{_<_}
 use native.Mathlib.Omega.{arith}
 use lib.ListN.{length, take}
 use borrow.Author.Needs.{needs}
-use Rattle.storage.specs.Entries.{rowKey}
+use Rattle.storage.specs.Meaning.Entries.{rowKey}
 use Rattle.storage.proofs.laws.TableLaws.{rising-sorted}
 use Rattle.storage.proofs.laws.TableMoveLaws.{mark-old, mark-none}
 use Rattle.storage.proofs.Tests.{denied}

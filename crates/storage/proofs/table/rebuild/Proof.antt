@@ -6,7 +6,7 @@ use mathlib.Core.Logic.{⊎-elim}
 use mathlib.Core.List.{List, [], _∷_}
 use native.Mathlib.Omega.{arith}
 use lib.ListN.{length, set}
-use Rattle.storage.specs.Packed.{first}
+use Rattle.storage.specs.Meaning.Packed.{first}
 use Rattle.storage.proofs.laws.RebuildLaws.{Built, built-none, built-room, built-more, built-same}
 use Rattle.storage.proofs.Tests.{denied}
 use Rattle.storage.proofs.table.rebuild.Statement.{statement}

@@ -6,13 +6,13 @@ use mathlib.Core.Bool.{false}
 use mathlib.Core.List.{[]}
 use native.Mathlib.Omega.{arith}
 use lib.ListN.{length, take}
-use Rattle.cells.specs.Key.{columnOf, lineOf}
-use Rattle.storage.specs.Keyed.{below}
-use Rattle.storage.specs.Entries.{rowKey}
-use Rattle.storage.specs.Packed.{first}
-use Rattle.storage.specs.Window.{inWindow}
-use Rattle.storage.specs.Run.{NextKey}
-use Rattle.storage.specs.FilterLaws.{by-order}
+use Rattle.cells.specs.Inner.Key.{columnOf, lineOf}
+use Rattle.storage.specs.Meaning.Keyed.{below}
+use Rattle.storage.specs.Meaning.Entries.{rowKey}
+use Rattle.storage.specs.Meaning.Packed.{first}
+use Rattle.storage.specs.Inner.Window.{inWindow}
+use Rattle.storage.specs.Inner.Run.{NextKey}
+use Rattle.storage.proofs.laws.FilterLaws.{by-order}
 use Rattle.storage.proofs.laws.CutLaws.{low-of, most-of}
 use Rattle.storage.proofs.laws.RunLaws.{skip, behind}
 use Rattle.storage.proofs.walk.first_in.Statement.{statement}

@@ -3,7 +3,7 @@ use Prim.Native.Nat.{ℕ, _-_, _<_, _≤_}
 use mathlib.Core.Path.{_≡_, sym, _∙_}
 use native.Mathlib.Omega.{arith}
 use borrow.Author.Count.{below-more}
-use Rattle.storage.specs.Packed.{first}
+use Rattle.storage.specs.Meaning.Packed.{first}
 use Rattle.storage.proofs.walk.list_end.Statement.{statement}
 use Rattle.storage.proofs.walk.list_end.Tie as tie
 

@@ -1,7 +1,7 @@
 -- `storage::walk::next_key` meets its contract, case by case. Assumes nothing.
 use native.Mathlib.Omega.{arith}
 use borrow.Author.Needs.{needs}
-use Rattle.cells.specs.Key.{columnOf, lineOf}
+use Rattle.cells.specs.Inner.Key.{columnOf, lineOf}
 use Rattle.storage.proofs.laws.RunLaws.{next-below, next-left, next-right, next-here, inside}
 use Rattle.storage.proofs.walk.next_key.Statement.{statement}
 use Rattle.storage.proofs.walk.next_key.Tie as tie

@@ -1,0 +1,99 @@
+-- The length law: since an accepted `new`, the number of objects is that of the accepted inserts less the objects taken out. Assumes nothing.
+use Prim.Native.Nat.{ℕ, zero, suc, _+_, _<_}
+use mathlib.Core.Path.{_≡_, refl, ap}
+use mathlib.Core.Bool.{Bool, true, false}
+use mathlib.Core.List.{List, [], _∷_}
+use native.Mathlib.Omega.{arith}
+use lib.Dec.{eqb}
+use lib.Ieee.{Float}
+use lib.ListN.{length}
+use borrow.Author.Tests.{eqb-true, eqb-false, ne-eqb}
+use Rattle.basics.specs.Meaning.Refusals.{pick}
+use Rattle.basics.specs.Inner.Counting.{one, countBelow}
+use Rattle.slots.specs.Meaning.Slot.{live, phaseAt}
+use Rattle.slot_walks.proofs.laws.Live.{liveAt}
+use Rattle.blank.specs.Meaning.Blank.{blankNums}
+use Rattle.blank.proofs.laws.BlankLaws.{blank-not-live}
+use Rattle.box_tables.specs.Meaning.Tables.{Tables, slotsOf}
+use Rattle.box_tables.specs.Meaning.Holds.{Holds}
+use Rattle.box_tables.specs.Meaning.Outcome.{Outcome, outcome}
+use Rattle.box_inserts.specs.Meaning.New.{built, newAnswer, newOf}
+use Rattle.box_inserts.proofs.laws.NewLaws.{new-holds}
+use Rattle.box_inserts.proofs.laws.InsertLaws.{insert-holds, insert-count}
+use Rattle.box_inserts.proofs.laws.LiveLaws.{liveCount}
+use Rattle.box_changes.proofs.laws.SetAabbLaws.{set-aabb-holds, set-live}
+use Rattle.box_changes.proofs.laws.RemoveLaws.{remove-holds, remove-live}
+use Rattle.box_reads.specs.Meaning.Reads.{lenOf}
+use Rattle.box_reads.proofs.laws.ReadsLaws.{len-counts}
+use Rattle.box_reads.specs.Meaning.Clear.{clearOf}
+use Rattle.box_reads.proofs.laws.ClearLaws.{clear-refused, clear-none, clear-holds, clear-counts}
+use Rattle.box_histories.specs.Inner.History.{Op, insert, setAabb, remove, clear, after, afterAll, accepted, putIn, takenOut, allIn, allOut}
+
+-- ---- every call keeps the tables holding a grid
+pub after-holds : (t : Tables) (o : Op) → Holds t → Holds (after t o)
+unfolding after
+after-holds t (insert b d) h = insert-holds t b d h
+after-holds t (setAabb g b) h = set-aabb-holds t g b h
+after-holds t (remove g) h = remove-holds t g h
+after-holds t (clear bs os) h = clear-holds t bs os h
+
+pub all-hold : (t : Tables) (os : List Op) → Holds t → Holds (afterAll t os)
+unfolding afterAll
+all-hold t [] h = h
+all-hold t (o ∷ os) h = all-hold (after t o) os (after-holds t o h)
+
+-- ---- no slot live, none counted
+none-live : (nums : List (List ℕ)) (k : ℕ) → ((s : ℕ) → s < k → phaseAt nums s ≡ live → ⊥) → countBelow (liveAt nums) k ≡ 0
+unfolding countBelow
+none-live nums zero n = refl
+none-live nums (suc k) n = omega (arith, none-live nums k (λ s l. n s (omega arith)), ap one (ne-eqb (phaseAt nums k) live (n k (omega arith))))
+
+module _ (t : Tables) (h : Holds t) where
+  cleared-live : (bs : List (List Float)) (os : List ℕ) → liveCount (clearOf t bs os .after) + accepted (clearOf t bs os .result .returned .answer) (clearOf t bs os .result .returned .count) ≡ liveCount t
+  cleared-live bs os = go (eqb (clearOf t bs os .result .returned .answer) 0) refl
+    where
+      go : (b : Bool) → eqb (clearOf t bs os .result .returned .answer) 0 ≡ b → liveCount (clearOf t bs os .after) + pick (eqb (clearOf t bs os .result .returned .answer) 0) (clearOf t bs os .result .returned .count) 0 ≡ liveCount t
+      go true e =
+          rw e
+          (unfold liveCount in
+          omega (arith, clear-counts t bs os h, none-live (clearOf t bs os .after .nums) (slotsOf (clearOf t bs os .after)) (λ s l. clear-none t bs os (eqb-true _ _ e) s)))
+      go false e = rw e (omega (arith, ap (λ w. liveCount (w .after)) (clear-refused t bs os (eqb-false _ _ e))))
+
+  -- ---- one call
+  pub one-length : (o : Op) → liveCount (after t o) + takenOut t o ≡ liveCount t + putIn t o
+  unfolding after takenOut putIn
+  one-length (insert b d) = omega (arith, insert-count t b d h)
+  one-length (setAabb g b) = omega (arith, set-live t g b)
+  one-length (remove g) = omega (arith, remove-live t g)
+  one-length (clear bs os) = omega (arith, cleared-live bs os)
+
+-- ---- and any history
+pub all-length : (t : Tables) (os : List Op) → Holds t → liveCount (afterAll t os) + allOut t os ≡ liveCount t + allIn t os
+unfolding afterAll allOut allIn
+all-length t [] h = omega arith
+all-length t (o ∷ os) h = omega (arith, one-length t h o, all-length (after t o) os (after-holds t o h))
+
+-- an accepted `new` leaves no slot live
+none-yet : (t : Tables) (size : ℕ) → newOf t size .result ≡ 0 → liveCount (newOf t size .after) ≡ 0
+unfolding liveCount newOf built
+none-yet t size z = go (eqb (newAnswer t size) 0) refl z
+  where
+    by : Bool → Outcome ℕ
+    by b = pick b (outcome 0 (built t size)) (outcome (newAnswer t size) t)
+
+    go : (b : Bool) → eqb (newAnswer t size) 0 ≡ b → by b .result ≡ 0 → countBelow (liveAt (by b .after .nums)) (slotsOf (by b .after)) ≡ 0
+    go true e z = none-live (blankNums (slotsOf t)) (length (blankNums (slotsOf t))) (blank-not-live (slotsOf t) size)
+    go false e z = absurd (eqb-false (newAnswer t size) 0 e z)
+
+-- since building, on tables of any content that `new` accepts: `len` answers 0 with the accepted inserts less the objects taken out
+module _ (t : Tables) (size : ℕ) (accepts : newOf t size .result ≡ 0) where
+  abbrev fresh : Tables
+  fresh = newOf t size .after
+
+  pub len-since-new : (os : List Op) → (lenOf (afterAll fresh os) .answer ≡ 0) × (lenOf (afterAll fresh os) .count + allOut fresh os ≡ allIn fresh os)
+  unfolding liveCount
+  len-since-new os =
+      let h = new-holds t size accepts in
+      let k = all-hold fresh os h in
+      let e = len-counts (afterAll fresh os) k in
+      (ap (λ c. c .answer) e, omega (arith, ap (λ c. c .count) e, all-length fresh os h, none-yet t size accepts))

@@ -1,0 +1,21 @@
+-- Collecting slots with marks: a slot that has no mark is taken and marked. Assumes nothing.
+use Prim.Native.Nat.{ℕ, _+_}
+use mathlib.Core.Bool.{Bool, true, false}
+use mathlib.Core.List.{List, [], _∷_}
+use lib.ListN.{getD, set}
+use Rattle.basics.specs.Meaning.Refusals.{pick}
+
+-- the marks after the slots of a list
+unfoldable pub marked : List Bool → List ℕ → List Bool
+marked marks [] = marks
+marked marks (s ∷ l) = marked (set marks s true) l
+
+-- the slots of a list that have no mark, each once
+unfoldable pub fresh : List Bool → List ℕ → List ℕ
+fresh marks [] = []
+fresh marks (s ∷ l) = pick (getD marks s false) (fresh (set marks s true) l) (s ∷ fresh (set marks s true) l)
+
+-- how many have no mark
+unfoldable pub unmarked : List Bool → ℕ
+unmarked [] = 0
+unmarked (m ∷ marks) = pick m 0 1 + unmarked marks

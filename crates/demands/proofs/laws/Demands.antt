@@ -1,0 +1,159 @@
+-- The user's demands on the point grid. Demand 2 is each call's own promise, read beside 01 and the Rust: docs/PROMISES.md. Assumes nothing.
+-- Here: the laws.
+use Prim.Native.Nat.{ℕ}
+use mathlib.Core.Path.{_≡_, refl, ap, _∙_}
+use mathlib.Core.Bool.{Bool, true, false, not, _&&_, _||_}
+use mathlib.Core.List.{List, [], _∷_, _++_}
+use mathlib.Core.Logic.{⊎-elim}
+use lib.Dec.{eqb}
+use lib.Ieee.{Float}
+use Rattle.basics.proofs.laws.Says.{d-eq}
+use Rattle.basics.specs.Meaning.Refusals.{applies, firstThat}
+use Rattle.basics.proofs.laws.RefusalLaws.{three-first}
+use Rattle.geometry.specs.declared.Position.{Position}
+use Rattle.geometry.specs.Meaning.Circle.{inCircle}
+use Rattle.slots.specs.declared.Handle.{Handle}
+use Rattle.storage.specs.Meaning.Keyed.{All}
+use Rattle.point_tables.specs.Meaning.Tables.{Tables}
+use Rattle.point_tables.specs.Meaning.Holds.{Holds}
+use Rattle.point_tables.specs.Meaning.Decide.{sized-says, holds, holds-says}
+use Rattle.inserts.specs.Meaning.New.{newOf}
+use Rattle.inserts.proofs.laws.NewLaws.{new-holds, new-refused}
+use Rattle.inserts.proofs.laws.InsertLaws.{insert-holds}
+use Rattle.moves.proofs.laws.MovesKeeps.{set-position-keeps, remove-keeps}
+use Rattle.moves.proofs.laws.BatchAnswerLaws.{batch-keeps}
+use Rattle.removals.proofs.laws.RemoveLaws.{remove-holds}
+use Rattle.removals.proofs.laws.ClearLaws.{clear-holds}
+use Rattle.maintain.proofs.laws.MaintainLaws.{maintain-keeps}
+use Rattle.moves.specs.Meaning.Batch.{Call, callOf, tablesAfter, even}
+use Rattle.maintain.specs.Meaning.Maintain.{maintainOf}
+use Rattle.queries.specs.Meaning.Queries.{Findings, aroundOf}
+use Rattle.trackers.specs.Meaning.Merges.{Turn, calls, Merge, NotShared, Alike, batchFor, SameBatch}
+use Rattle.trackers.proofs.laws.MergeLaws.{any-merge}
+use Rattle.trackers.proofs.laws.BatchMergeLaws.{any-merge-batch}
+use Rattle.stands.specs.Meaning.Report.{ReportedAt, Reports, Due}
+use Rattle.stands.proofs.laws.StandsLaws.{maintain-settles, next-accepted}
+use Rattle.stands.specs.Meaning.Stands.{nextMaintain}
+use Rattle.stands.proofs.laws.ReportLaws.{circle-reports, reports-once}
+use Rattle.stands.specs.Meaning.Moved.{Other}
+use Rattle.stands.proofs.laws.MovedLaws.{moved-found}
+use Rattle.demands.proofs.laws.Tested.{first-answer, first-refused}
+use Rattle.demands.specs.Meaning.PointCalls.{PointCall, new, insert, setPosition, remove, batch, maintain, removeMaintain, clear}
+use Rattle.demands.specs.Meaning.PointCalls.{get, len, handles, query, queryAround, queryAabb}
+use Rattle.demands.specs.Meaning.PointCalls.{leaves, refusals, refusedWith, uneven}
+use Rattle.demands.proofs.laws.PointSteps.{step}
+use Rattle.demands.specs.Meaning.Demands.{afterCalls}
+
+-- ---- demand 1: no call traps, whatever tables, handles and numbers it is handed: no public call has a `requires`, so that its theorem is of
+-- any of them. Bad input gets the refusal that document 01 lists,
+pub demand-1-answer : (t : Tables) (c : PointCall) → leaves t c .answer ≡ firstThat (refusals t c)
+demand-1-answer t c = first-answer (step t c) (λ n. refl)
+
+-- and a refused call leaves the tables and the outputs as they were, and returns zeros; 9 also returns the number found
+pub demand-1-refused : (t : Tables) (c : PointCall) → (firstThat (refusals t c) ≡ 0 → ⊥) → leaves t c ≡ refusedWith t c (firstThat (refusals t c))
+demand-1-refused t c n = first-refused (step t c) n
+
+-- ---- on tables that hold a grid no call but an uneven batch answers 3, `new` included: they have the right lengths
+holding-three : (t : Tables) (c : PointCall) → Holds t → applies (refusals t c) 3 ≡ uneven c
+unfolding refusals uneven
+holding-three t (new size) h = rw (sized-says t .no (h .sized))
+holding-three t (insert p d) h = rw (holds-says t .no h)
+holding-three t (setPosition g p) h = rw (holds-says t .no h)
+holding-three t (remove g) h = rw (holds-says t .no h)
+holding-three t (batch ks hs ps out) h = rw (holds-says t .no h) (go (even ks hs ps))
+  where
+    go : (b : Bool) → (not (b && true) || false) ≡ not b
+    go true = refl
+    go false = refl
+holding-three t maintain h = rw (holds-says t .no h)
+holding-three t (removeMaintain g) h = rw (holds-says t .no h)
+holding-three t (clear ps os) h = rw (holds-says t .no h)
+holding-three t (get g) h = rw (holds-says t .no h)
+holding-three t len h = rw (holds-says t .no h)
+holding-three t (handles out) h = rw (holds-says t .no h)
+holding-three t (query ll ur hs ps) h = rw (holds-says t .no h)
+holding-three t (queryAround c r hs ps) h = rw (holds-says t .no h)
+holding-three t (queryAabb a b hs ps) h = rw (holds-says t .no h)
+
+pub never-three : (t : Tables) (c : PointCall) → Holds t → eqb (leaves t c .answer) 3 ≡ uneven c
+never-three t c h = ap (λ (a : ℕ). eqb a 3) (demand-1-answer t c) ∙ three-first (refusals t c) ∙ holding-three t c h
+
+-- ---- demand 3, first half: t is the grid right after an accepted maintain; l k are the calls of tracker k, no handle used by two trackers.
+-- Every two merges m and n that keep each tracker's own order give each call the same answer and data and leave the same tables.
+module _ (before : Tables) (a : maintainOf before .result .answer ≡ 0) (l : ℕ → List Call) (apart : NotShared l) where
+  abbrev t : Tables
+  t = maintainOf before .after
+
+  pub demand-3-merges : (m n : List Turn) → Merge l m → Merge l n → Alike t m n
+  demand-3-merges m n p q = any-merge t l apart m n p q
+
+  -- the same of the merges as two batches
+  pub demand-3-batches : (m n : List Turn) → Merge l m → Merge l n → (out : List (List ℕ)) → SameBatch m n (batchFor t m out) (batchFor t n out)
+  demand-3-batches m n p q out = any-merge-batch t out l apart m n p q
+
+  -- ---- second half: after any such merge the next maintain is accepted, and a circle that is not refused reports, once each, exactly the
+  -- points live before and not removed, each at its last accepted position (or unmoved), that are strictly nearer than the radius
+  pub demand-3-maintain : (m : List Turn) → nextMaintain t (calls m) .result .answer ≡ 0
+  demand-3-maintain m = next-accepted t (maintain-settles before a) (calls m)
+
+  -- what the circle leaves after the calls cs and the next maintain
+  abbrev reportAfter : List Call → Position → Float → List (List ℕ) → List (List Float) → Findings
+  reportAfter cs centre radius hs ps = aroundOf (nextMaintain t cs .after) centre radius hs ps
+
+  module _ (m : List Turn) (p : Merge l m) (centre : Position) (radius : Float) (hs : List (List ℕ)) (ps : List (List Float)) where
+    abbrev report : Findings
+    report = reportAfter (calls m) centre radius hs ps
+
+    module _ (b : report .returned .answer ≡ 0) where
+      pub demand-3-exactly : (g : Handle) (at : Position)
+          → (Reports report g at → Due t (calls m) centre radius g at) × (Due t (calls m) centre radius g at → Reports report g at)
+      demand-3-exactly g at = circle-reports t (maintain-settles before a) (calls m) centre radius hs ps b g at
+
+      pub demand-3-once : (i j : ℕ) (g k : Handle) (x y : Position) → ReportedAt report i g x → ReportedAt report j k y → g .slot ≡ k .slot → i ≡ j
+      demand-3-once i j g k x y r q e = reports-once t (maintain-settles before a) (calls m) centre radius hs ps b i j g k x y r q e
+
+  -- ---- the historic failure: a point that an accepted set_position moved last, by any distance within the domain, and that lies strictly
+  -- inside the circle, is in the report. The calls are xs, then c, then ys, and none of ys has its handle.
+  pub no-hand-is-lost : (xs : List Call) (c : Call) (ys : List Call)
+      → c .kind ≡ 0 → callOf (tablesAfter t xs) c .result .answer ≡ 0 → All (Other (c .handle)) ys
+      → (centre : Position) (radius : Float) (hs : List (List ℕ)) (ps : List (List Float))
+      → reportAfter (xs ++ (c ∷ ys)) centre radius hs ps .returned .answer ≡ 0
+      → inCircle (c .at) centre radius ≡ true → Reports (reportAfter (xs ++ (c ∷ ys)) centre radius hs ps) (c .handle) (c .at)
+  no-hand-is-lost xs c ys k e o centre radius hs ps b n = moved-found t (maintain-settles before a) xs c ys k e o centre radius hs ps b n
+
+-- ---- tables built and changed only by these calls always hold a grid and are never refused as not holding one: on tables of any content that
+-- `new` accepts, any history of public calls, accepted or refused, in which the grid may be built anew
+new-keeps : (t : Tables) (size : ℕ) → Holds t → Holds (newOf t size .after)
+new-keeps t size h = ⊎-elim (new-holds t size) (λ n. rw (new-refused t size n) h) (d-eq (newOf t size .result) 0)
+
+pub keeps-a-grid : (t : Tables) (c : PointCall) → Holds t → Holds (leaves t c .after)
+unfolding leaves
+keeps-a-grid t (new size) h = new-keeps t size h
+keeps-a-grid t (insert p d) h = insert-holds t p d h
+keeps-a-grid t (setPosition g p) h = set-position-keeps t g p h
+keeps-a-grid t (remove g) h = remove-keeps t g h
+keeps-a-grid t (batch ks hs ps out) h = batch-keeps t ks hs ps out h
+keeps-a-grid t maintain h = maintain-keeps t h
+keeps-a-grid t (removeMaintain g) h = remove-holds t g h
+keeps-a-grid t (clear ps os) h = clear-holds t ps os h
+keeps-a-grid t (get g) h = h
+keeps-a-grid t len h = h
+keeps-a-grid t (handles out) h = h
+keeps-a-grid t (query ll ur hs ps) h = h
+keeps-a-grid t (queryAround c r hs ps) h = h
+keeps-a-grid t (queryAabb a b hs ps) h = h
+
+all-keep : (t : Tables) (cs : List PointCall) → Holds t → Holds (afterCalls t cs)
+unfolding afterCalls
+all-keep t [] h = h
+all-keep t (c ∷ cs) h = all-keep (leaves t c .after) cs (keeps-a-grid t c h)
+
+module _ (t : Tables) (size : ℕ) (accepts : newOf t size .result ≡ 0) (cs : List PointCall) where
+  kept : Holds (afterCalls (newOf t size .after) cs)
+  kept = all-keep (newOf t size .after) cs (new-holds t size accepts)
+
+  pub always-a-grid : holds (afterCalls (newOf t size .after) cs) ≡ true
+  always-a-grid = holds-says (afterCalls (newOf t size .after) cs) .no kept
+
+  pub never-refused-as-none : (c : PointCall) → eqb (leaves (afterCalls (newOf t size .after) cs) c .answer) 3 ≡ uneven c
+  never-refused-as-none c = never-three (afterCalls (newOf t size .after) cs) c kept

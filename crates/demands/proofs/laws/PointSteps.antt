@@ -1,0 +1,91 @@
+-- Each call of the point grid makes its tests one after the other: it is done if they pass, and else leaves what a call refused with the
+-- first number leaves. Assumes nothing.
+use Prim.Native.Nat.{ℕ}
+use mathlib.Core.Path.{_≡_, refl, subst}
+use mathlib.Core.Bool.{Bool, _&&_}
+use mathlib.Core.List.{List, []}
+use lib.Dec.{eqb}
+use lib.Ieee.{Float}
+use lib.ListN.{length, length-map}
+use Rattle.basics.specs.Meaning.Refusals.{pick}
+use Rattle.replies.specs.Meaning.Replies.{count, inserted, reply}
+use Rattle.geometry.specs.declared.Position.{Position}
+use Rattle.geometry.specs.Meaning.Domain.{positionInDomain, radiusInDomain}
+use Rattle.geometry.specs.Meaning.Rectangle.{lowerCorner, upperCorner}
+use Rattle.slot_walks.specs.Meaning.Live.{handleAt, liveFrom}
+use Rattle.point_tables.specs.Meaning.Tables.{Tables}
+use Rattle.point_tables.specs.Meaning.Outcome.{outcome}
+use Rattle.inserts.specs.Meaning.New.{newOf}
+use Rattle.inserts.specs.Meaning.Insert.{insertOf}
+use Rattle.moves.specs.Meaning.Moves.{setPositionOf, removeOf}
+use Rattle.moves.specs.Meaning.Batch.{batched, batchOf}
+use Rattle.maintain.specs.Meaning.Maintain.{maintainedCounts, maintainOf}
+use Rattle.removals.specs.Meaning.RemoveMaintain.{removeMaintainOf}
+use Rattle.removals.specs.Meaning.Clear.{wrote, liveSlots, clearOf}
+use Rattle.reads.specs.Meaning.{got, listing, liveHandles, getOf, lenOf, handlesTests, handlesOf}
+use Rattle.geometry.specs.Meaning.Zero.{zero-position}
+use Rattle.queries.specs.declared.Test.{Test}
+use Rattle.queries.specs.declared.Test.the-variants.{Any, Circle, Rectangle}
+use Rattle.queries.specs.Meaning.Queries.{findings, found, roomOf, searchTests, searchOf, queryOf, aroundOf, aabbOf}
+use Rattle.geometry.specs.Meaning.Circle.{cornerBelow, cornerAbove}
+use Rattle.demands.proofs.laws.Tested.{Tested, tested, no-nine, at-nine}
+use Rattle.demands.specs.Meaning.Left.{outputs, none, refused}
+use Rattle.demands.specs.Meaning.PointCalls.{PointCall, new, insert, setPosition, remove, batch, maintain, removeMaintain, clear}
+use Rattle.demands.specs.Meaning.PointCalls.{get, len, handles, query, queryAround, queryAabb}
+use Rattle.demands.specs.Meaning.PointCalls.{ofNumber, ofInserted, ofReply, ofBatched, ofMaintained, ofWritten, ofGot, ofCount, ofListing}
+use Rattle.demands.specs.Meaning.PointCalls.{ofFindings}
+use Rattle.demands.specs.Meaning.PointCalls.{Leaves, leaves, refusals, numberFound, refusedWith}
+
+-- the three queries are one search
+module _ (t : Tables) (ok : Bool) (ll ur : Position) (test : Test) (hs : List (List ℕ)) (ps : List (List Float)) where
+  abbrev finds : ℕ
+  finds = length (found t ll ur test)
+
+  abbrev refusal : ℕ → Leaves
+  refusal = refused zero-position finds t (outputs hs ps [])
+
+  search : Tested (searchTests t ok ll ur test (roomOf hs ps)) refusal (ofFindings t (searchOf t ok ll ur test hs ps))
+  unfolding searchOf
+  search = tested (ofFindings t) _ (λ a. findings (count a (pick (eqb a 9) finds 0)) hs ps) refl (at-nine zero-position t (outputs hs ps []) finds) _ refl
+
+-- `handles` has a row for each object: as many as `clear` has
+module _ (t : Tables) (out : List (List ℕ)) where
+  abbrev listedBy : ℕ → Type 0
+  listedBy n = Tested (handlesTests t out) (refused zero-position n t (outputs out [] [])) (ofListing t (handlesOf t out))
+
+  listed : listedBy (length (liveHandles t))
+  unfolding handlesOf
+  listed =
+      let n = length (liveHandles t) in
+      tested (ofListing t) _ (λ a. listing (count a (pick (eqb a 9) n 0)) out) refl (at-nine zero-position t (outputs out [] []) n) _ refl
+
+  as-many : length (liveHandles t) ≡ length (liveSlots t)
+  unfolding liveHandles liveSlots
+  as-many = length-map (liveFrom 0 (t .nums)) (handleAt (t .nums))
+
+pub step : (t : Tables) (c : PointCall) → Tested (refusals t c) (refusedWith t c) (leaves t c)
+unfolding leaves refusals numberFound
+step t (new size) = unfold newOf in tested ofNumber _ (λ a. outcome a t) refl (no-nine zero-position t none) _ refl
+step t (insert p d) = unfold insertOf in tested ofInserted _ (λ a. outcome (inserted a 0 0) t) refl (no-nine zero-position t none) _ refl
+step t (setPosition h p) = unfold setPositionOf in tested ofReply _ (λ a. outcome (reply a 0) t) refl (no-nine zero-position t none) _ refl
+step t (remove h) = unfold removeOf in tested ofReply _ (λ a. outcome (reply a 0) t) refl (no-nine zero-position t none) _ refl
+step t (batch ks hs ps out) =
+    unfold batchOf in
+    let n = length ks in
+    tested ofBatched _ (λ a. outcome (batched a (pick (eqb a 9) n 0) out) t) refl (at-nine zero-position t (outputs out [] []) n) _ refl
+step t maintain = unfold maintainOf in tested ofMaintained _ (λ a. outcome (maintainedCounts a 0 0) t) refl (no-nine zero-position t none) _ refl
+step t (removeMaintain h) =
+    unfold removeMaintainOf in tested ofReply _ (λ a. outcome (reply a 0) t) refl (no-nine zero-position t none) _ refl
+step t (clear ps os) =
+    unfold clearOf in
+    let n = length (liveSlots t) in
+    tested ofWritten _ (λ a. outcome (wrote (count a (pick (eqb a 9) n 0)) ps os) t) refl (at-nine zero-position t (outputs [] ps os) n) _ refl
+step t (get h) = unfold getOf in tested (ofGot t) _ (λ a. got a zero-position 0) refl (no-nine zero-position t none) _ refl
+step t len = unfold lenOf in tested (ofCount t) _ (λ a. count a 0) refl (no-nine zero-position t none) _ refl
+step t (handles out) = subst (listedBy t out) (as-many t out) (listed t out)
+step t (query ll ur hs ps) = unfold queryOf in search t (positionInDomain ll && positionInDomain ur) ll ur Any hs ps
+step t (queryAround c r hs ps) =
+    unfold aroundOf in search t (positionInDomain c && radiusInDomain r) (cornerBelow c r) (cornerAbove c r) (Circle c r) hs ps
+step t (queryAabb a b hs ps) =
+    unfold aabbOf in
+    search t (positionInDomain a && positionInDomain b) (lowerCorner a b) (upperCorner a b) (Rectangle (lowerCorner a b) (upperCorner a b)) hs ps

@@ -1,0 +1,57 @@
+-- A call that makes its tests one after the other, and leaves what a refused call leaves if one does not pass. Assumes nothing.
+use Prim.Native.Nat.{ℕ}
+use mathlib.Core.Path.{_≡_, refl, sym, ap, _∙_}
+use mathlib.Core.Bool.{Bool, true, false}
+use mathlib.Core.List.{List}
+use lib.Dec.{eqb}
+use borrow.Author.Tests.{eqb-true, ne-eqb}
+use Rattle.basics.specs.Meaning.Refusals.{Refusal, firstOf, pick, byTests, order, firstThat}
+use Rattle.basics.proofs.laws.RefusalLaws.{ordered, in-order}
+use Rattle.demands.specs.Meaning.Left.{Outputs, zeros, theCount, Left, left, refused}
+
+-- what a call leaves, l, is `done` if they pass, and else what `refusal` says of the first that does not
+pub record Tested {T P : Type 0} (rs : List Refusal) (refusal : ℕ → Left T P) (l : Left T P) : Type 0 where
+  pub done : Left T P
+  pub accepted : done .answer ≡ 0
+  pub in-turn : ordered order rs ≡ true
+  pub by-tests : l ≡ byTests rs done refusal
+
+module _ {T P : Type 0} {rs : List Refusal} {refusal : ℕ → Left T P} {l : Left T P} (s : Tested rs refusal l) where
+  -- the answer is the first that applies
+  pub first-answer : ((n : ℕ) → refusal n .answer ≡ n) → l .answer ≡ firstThat rs
+  first-answer says = ap (λ (l : Left T P). l .answer) (s .by-tests) ∙ go (eqb (firstOf rs) 0) refl ∙ in-order rs (s .in-turn)
+    where
+      go : (b : Bool) → eqb (firstOf rs) 0 ≡ b → pick b (s .done) (refusal (firstOf rs)) .answer ≡ firstOf rs
+      go true z = s .accepted ∙ sym (eqb-true (firstOf rs) 0 z)
+      go false z = says (firstOf rs)
+
+  -- and if that is a refusal, nothing is left but what it says
+  pub first-refused : (firstThat rs ≡ 0 → ⊥) → l ≡ refusal (firstThat rs)
+  first-refused n =
+      s .by-tests ∙ rw (ne-eqb (firstOf rs) 0 (λ z. n (sym (in-order rs (s .in-turn)) ∙ z))) (ap refusal (in-order rs (s .in-turn)))
+
+-- ---- what a call gives, x or y by its tests, seen as what it leaves
+module _ {R T P : Type 0} {refusal : ℕ → Left T P} (view : R → Left T P) (x : R) (y : ℕ → R) where
+  module _ (zero : view x .answer ≡ 0) (same : (n : ℕ) → view (y n) ≡ refusal n) where
+    pub tested : (rs : List Refusal) → ordered order rs ≡ true → Tested rs refusal (view (byTests rs x y))
+    tested rs o = record { done = view x; accepted = zero; in-turn = o; by-tests = go (eqb (firstOf rs) 0) (firstOf rs) }
+      where
+        go : (b : Bool) (n : ℕ) → view (pick b x (y n)) ≡ pick b (view x) (refusal n)
+        go true n = refl
+        go false n = same n
+
+-- ---- the count that a refusal returns: none, or the number found if it is 9
+module _ {T P : Type 0} (z : P) (t : T) (lent : Outputs) where
+  pub no-nine : (n : ℕ) → left n (zeros z) t lent ≡ refused z 0 t lent n
+  no-nine n = go (eqb n 9)
+    where
+      go : (b : Bool) → left n (zeros z) t lent ≡ left n (pick b (theCount z 0) (zeros z)) t lent
+      go true = refl
+      go false = refl
+
+  pub at-nine : (k n : ℕ) → left n (theCount z (pick (eqb n 9) k 0)) t lent ≡ refused z k t lent n
+  at-nine k n = go (eqb n 9)
+    where
+      go : (b : Bool) → left n (theCount z (pick b k 0)) t lent ≡ left n (pick b (theCount z k) (zeros z)) t lent
+      go true = refl
+      go false = refl

@@ -1,0 +1,168 @@
+-- Every public call of the point grid with all that it is handed besides the tables, what it leaves, which refusals apply to it, and what
+-- it leaves if it is refused. Assumes nothing.
+use Prim.Native.Nat.{ℕ}
+use mathlib.Core.Bool.{Bool, false, not}
+use mathlib.Core.List.{List, []}
+use lib.Ieee.{Float}
+use lib.ListN.{length}
+use Rattle.geometry.specs.declared.Position.{Position}
+use Rattle.slots.specs.declared.Handle.{Handle}
+use Rattle.point_tables.specs.Meaning.Tables.{Tables}
+use Rattle.point_tables.specs.Meaning.Outcome.{Outcome}
+use Rattle.replies.specs.declared.Inserted.{Inserted}
+use Rattle.replies.specs.declared.Reply.{Reply}
+use Rattle.replies.specs.declared.Count.{Count}
+use Rattle.inserts.specs.Meaning.New.{newTests, newOf}
+use Rattle.inserts.specs.Meaning.Insert.{insertTests, insertOf}
+use Rattle.moves.specs.Meaning.Moves.{setPositionTests, setPositionOf, removeTests, removeOf}
+use Rattle.moves.specs.Meaning.Batch.{Batched, even, batchTests, batchOf}
+use Rattle.maintain.specs.declared.Maintained.{Maintained}
+use Rattle.maintain.specs.Meaning.Maintain.{maintainTests, maintainOf}
+use Rattle.removals.specs.Meaning.RemoveMaintain.{removeMaintainTests, removeMaintainOf}
+use Rattle.removals.specs.Meaning.Clear.{Written, liveSlots, clearTests, clearOf}
+use Rattle.reads.specs.declared.Got.{Got}
+use Rattle.reads.specs.Meaning.{Listing, getTests, getOf, lenTests, lenOf, handlesTests, handlesOf}
+use Rattle.geometry.specs.Meaning.Zero.{zero-position}
+use Rattle.queries.specs.Meaning.Queries.{Findings, queryFinds, queryTests, queryOf, aroundFinds, aroundTests, aroundOf, aabbFinds, aabbTests, aabbOf}
+use Rattle.basics.specs.Meaning.Refusals.{Refusal}
+use Rattle.demands.specs.Meaning.Left.{Outputs, outputs, none, zeros, theCount, theHandle, theData, theChanges, theObject, Left, left, refused}
+
+pub data PointCall : Type 0 where
+  new : ℕ → PointCall
+  insert : Position → ℕ → PointCall
+  setPosition : Handle → Position → PointCall
+  remove : Handle → PointCall
+  batch : List ℕ → List (List ℕ) → List (List Float) → List (List ℕ) → PointCall
+  maintain : PointCall
+  removeMaintain : Handle → PointCall
+  clear : List (List Float) → List ℕ → PointCall
+  get : Handle → PointCall
+  len : PointCall
+  handles : List (List ℕ) → PointCall
+  query : Position → Position → List (List ℕ) → List (List Float) → PointCall
+  queryAround : Position → Float → List (List ℕ) → List (List Float) → PointCall
+  queryAabb : Position → Position → List (List ℕ) → List (List Float) → PointCall
+
+-- the outputs as they are lent
+abbrev pub lentTo : PointCall → Outputs
+lentTo (new size) = none
+lentTo (insert p d) = none
+lentTo (setPosition h p) = none
+lentTo (remove h) = none
+lentTo (batch ks hs ps out) = outputs out [] []
+lentTo maintain = none
+lentTo (removeMaintain h) = none
+lentTo (clear ps os) = outputs [] ps os
+lentTo (get h) = none
+lentTo len = none
+lentTo (handles out) = outputs out [] []
+lentTo (query ll ur hs ps) = outputs hs ps []
+lentTo (queryAround c r hs ps) = outputs hs ps []
+lentTo (queryAabb a b hs ps) = outputs hs ps []
+
+-- ---- what is left, by the kind of what a call gives
+abbrev pub Leaves : Type 0
+Leaves = Left Tables Position
+
+abbrev pub ofNumber : Outcome ℕ → Leaves
+ofNumber o = left (o .result) (zeros zero-position) (o .after) none
+
+abbrev pub ofInserted : Outcome Inserted → Leaves
+ofInserted o = left (o .result .answer) (theHandle zero-position (o .result .handle)) (o .after) none
+
+abbrev pub ofReply : Outcome Reply → Leaves
+ofReply o = left (o .result .answer) (theData zero-position (o .result .obj)) (o .after) none
+
+abbrev pub ofBatched : Outcome Batched → Leaves
+ofBatched o = left (o .result .answer) (theCount zero-position (o .result .count)) (o .after) (outputs (o .result .out) [] [])
+
+abbrev pub ofMaintained : Outcome Maintained → Leaves
+ofMaintained o = left (o .result .answer) (theChanges zero-position (o .result .moved) (o .result .removed)) (o .after) none
+
+abbrev pub ofWritten : Outcome Written → Leaves
+ofWritten o =
+    let w = o .result in left (w .returned .answer) (theCount zero-position (w .returned .count)) (o .after) (outputs [] (w .places) (w .objs))
+
+-- the calls that only read: the tables are lent to them by `&`
+abbrev pub ofGot : Tables → Got → Leaves
+ofGot t g = left (g .answer) (theObject (g .position) (g .obj)) t none
+
+abbrev pub ofCount : Tables → Count → Leaves
+ofCount t c = left (c .answer) (theCount zero-position (c .count)) t none
+
+abbrev pub ofListing : Tables → Listing → Leaves
+ofListing t l = left (l .returned .answer) (theCount zero-position (l .returned .count)) t (outputs (l .out) [] [])
+
+abbrev pub ofFindings : Tables → Findings → Leaves
+ofFindings t f = left (f .returned .answer) (theCount zero-position (f .returned .count)) t (outputs (f .handles) (f .places) [])
+
+unfoldable pub leaves : Tables → PointCall → Leaves
+leaves t (new size) = ofNumber (newOf t size)
+leaves t (insert p d) = ofInserted (insertOf t p d)
+leaves t (setPosition h p) = ofReply (setPositionOf t h p)
+leaves t (remove h) = ofReply (removeOf t h)
+leaves t (batch ks hs ps out) = ofBatched (batchOf t ks hs ps out)
+leaves t maintain = ofMaintained (maintainOf t)
+leaves t (removeMaintain h) = ofReply (removeMaintainOf t h)
+leaves t (clear ps os) = ofWritten (clearOf t ps os)
+leaves t (get h) = ofGot t (getOf t h)
+leaves t len = ofCount t (lenOf t)
+leaves t (handles out) = ofListing t (handlesOf t out)
+leaves t (query ll ur hs ps) = ofFindings t (queryOf t ll ur hs ps)
+leaves t (queryAround c r hs ps) = ofFindings t (aroundOf t c r hs ps)
+leaves t (queryAabb a b hs ps) = ofFindings t (aabbOf t a b hs ps)
+
+-- ---- document 01's refusals of each call: its tests, which stand beside its outcome
+unfoldable pub refusals : Tables → PointCall → List Refusal
+refusals t (new size) = newTests t size
+refusals t (insert p d) = insertTests t p
+refusals t (setPosition h p) = setPositionTests t h p
+refusals t (remove h) = removeTests t h
+refusals t (batch ks hs ps out) = batchTests t ks hs ps out
+refusals t maintain = maintainTests t
+refusals t (removeMaintain h) = removeMaintainTests t h
+refusals t (clear ps os) = clearTests t ps os
+refusals t (get h) = getTests t h
+refusals t len = lenTests t
+refusals t (handles out) = handlesTests t out
+refusals t (query ll ur hs ps) = queryTests t ll ur hs ps
+refusals t (queryAround c r hs ps) = aroundTests t c r hs ps
+refusals t (queryAabb a b hs ps) = aabbTests t a b hs ps
+
+-- ---- the number found: the findings, for `clear` and `handles` the objects, for a batch its calls; of the others none answers 9
+unfoldable pub numberFound : Tables → PointCall → ℕ
+numberFound t (new size) = 0
+numberFound t (insert p d) = 0
+numberFound t (setPosition h p) = 0
+numberFound t (remove h) = 0
+numberFound t (batch ks hs ps out) = length ks
+numberFound t maintain = 0
+numberFound t (removeMaintain h) = 0
+numberFound t (clear ps os) = length (liveSlots t)
+numberFound t (get h) = 0
+numberFound t len = 0
+numberFound t (handles out) = length (liveSlots t)
+numberFound t (query ll ur hs ps) = length (queryFinds t ll ur)
+numberFound t (queryAround c r hs ps) = length (aroundFinds t c r)
+numberFound t (queryAabb a b hs ps) = length (aabbFinds t a b)
+
+-- what a call leaves if it is refused with number n
+abbrev pub refusedWith : Tables → PointCall → ℕ → Leaves
+refusedWith t c n = refused zero-position (numberFound t c) t (lentTo c) n
+
+-- ---- whether a call is a batch whose lists differ in length
+unfoldable pub uneven : PointCall → Bool
+uneven (new size) = false
+uneven (insert p d) = false
+uneven (setPosition h p) = false
+uneven (remove h) = false
+uneven (batch ks hs ps out) = not (even ks hs ps)
+uneven maintain = false
+uneven (removeMaintain h) = false
+uneven (clear ps os) = false
+uneven (get h) = false
+uneven len = false
+uneven (handles out) = false
+uneven (query ll ur hs ps) = false
+uneven (queryAround c r hs ps) = false
+uneven (queryAabb a b hs ps) = false

@@ -1,0 +1,32 @@
+-- What the calls of the point grid tell, with the lent outputs after them. Assumes nothing.
+use Prim.Native.Nat.{ℕ}
+use mathlib.Core.Path.{_≡_}
+use mathlib.Core.List.{List}
+use lib.IntN.{ℤ}
+use lib.Ieee.{Float}
+use Rattle.basics.specs.Meaning.Lent.{Lent, was, is}
+use Rattle.point_tables.specs.Meaning.Tables.{Tables}
+use Rattle.point_tables.specs.Meaning.Lent.{before}
+use Rattle.moves.specs.Meaning.Batch.{Batched, batched}
+use Rattle.removals.specs.Meaning.Clear.{Written, wrote}
+use Rattle.queries.specs.Meaning.Queries.{Findings, findings}
+use Rattle.maintain.specs.declared.Maintained as Settled
+use Rattle.maintain.specs.Meaning.Maintain.{maintainedCounts}
+use Rattle.exports.specs.declared.BatchReply.{BatchReply}
+use Rattle.exports.specs.declared.Count.{Count}
+use Rattle.exports.specs.declared.Maintained.{Maintained}
+use Rattle.exports.specs.Meaning.Told.{toldCount}
+
+abbrev pub toldBatched : BatchReply → Lent (List (List ℕ)) → Batched
+toldBatched r out = batched (r .answer) (r .count) (is out)
+
+abbrev pub toldMaintained : Maintained → Settled.Maintained
+toldMaintained r = maintainedCounts (r .answer) (r .moved) (r .removed)
+
+abbrev pub toldWritten : Count → Lent (List (List Float)) → Lent (List ℕ) → Written
+toldWritten r places objs = wrote (toldCount r) (is places) (is objs)
+
+-- what is told and the outputs after the call are what `query` gives of the tables and the outputs before it
+abbrev pub Finds : (Tables → List (List ℕ) → List (List Float) → Findings) → Count → Lent (List (List ℕ)) → Lent (List (List Float))
+    → Lent (List (List ℕ)) → Lent (List (List Float)) → Lent (List (List ℤ)) → Lent (List ℕ) → Lent (List (List ℕ)) → Lent (List (List Float)) → Lent (List (List ℕ)) → Type 0
+Finds query r found places a b c d e f g = findings (toldCount r) (is found) (is places) ≡ query (before a b c d e f g) (was found) (was places)

@@ -1,0 +1,5 @@
+-- What only inner contracts cite.
+pub mod Closed
+pub mod Kept
+pub mod Settle
+pub mod SettleLaws

@@ -1,0 +1,5 @@
+-- What only inner contracts cite.
+pub mod Decide
+pub mod Kept
+pub mod Listed
+pub mod Occupied

@@ -1,0 +1,15 @@
+-- A history: calls one after the other, on the tables of a point grid, and on a table of records beside tables whose columns are scratch.
+-- Assumes nothing.
+-- Here: the laws.
+use mathlib.Core.List.{List, [], _∷_}
+use Rattle.point_tables.specs.Meaning.Tables.{Tables}
+use Rattle.record_histories.specs.Inner.RecordHistory.{Call, Given, onColumns}
+
+-- ---- one call after the other: what they give back, and the tables after them
+unfoldable pub columnAnswers : List Call → Tables → List Given
+columnAnswers [] t = []
+columnAnswers (c ∷ cs) t = onColumns c t .result ∷ columnAnswers cs (onColumns c t .after)
+
+unfoldable pub columnsAfter : List Call → Tables → Tables
+columnsAfter [] t = t
+columnsAfter (c ∷ cs) t = columnsAfter cs (onColumns c t .after)

@@ -1,0 +1,99 @@
+-- A history: calls one after the other, on the tables of a point grid, and on a table of records beside tables whose columns are scratch.
+-- Assumes nothing.
+-- Here: what only inner contracts cite.
+use Prim.Native.Nat.{ℕ}
+use mathlib.Core.Path.{_≡_}
+use mathlib.Core.List.{List, [], _∷_}
+use lib.Ieee.{Float}
+use lib.ListN.{length}
+use Rattle.geometry.specs.declared.Position.{Position}
+use Rattle.slots.specs.declared.Handle.{Handle}
+use Rattle.replies.specs.declared.Reply.{Reply}
+use Rattle.replies.specs.declared.Inserted.{Inserted}
+use Rattle.replies.specs.declared.Count.{Count}
+use Rattle.objects.specs.declared.Record.{Record}
+use Rattle.point_tables.specs.Meaning.Tables.{Tables, slotsOf}
+use Rattle.point_tables.specs.Meaning.Holds.{Holds}
+use Rattle.point_tables.specs.Meaning.Outcome.{Outcome, outcome}
+use Rattle.moves.specs.Meaning.Moves.{setPositionOf, removeOf}
+use Rattle.inserts.specs.Meaning.Insert.{insertOf}
+use Rattle.maintain.specs.declared.Maintained.{Maintained}
+use Rattle.maintain.specs.Meaning.Maintain.{maintainOf}
+use Rattle.reads.specs.declared.Got.{Got}
+use Rattle.reads.specs.Meaning.{getOf, lenOf}
+use Rattle.queries.specs.Meaning.Queries.{Findings, aroundOf}
+use Rattle.records.specs.Meaning.Spread.{besides}
+use Rattle.records.specs.Meaning.Seen.{Seen, seen}
+use Rattle.records.specs.Inner.Alike.{Alike}
+use Rattle.record_moves.specs.Meaning.Calls.{setPositionOn, removeOn}
+use Rattle.record_inserts.specs.Meaning.Calls.{insertOn}
+use Rattle.record_upkeep.specs.Meaning.Calls.{maintainOn}
+use Rattle.record_reads.specs.Meaning.Calls.{getOn, lenOn}
+use Rattle.record_queries.specs.Meaning.Calls.{aroundOn}
+
+-- a call with all that it is handed besides the tables
+pub data Call : Type 0 where
+  insert : Position → ℕ → Call
+  setPosition : Handle → Position → Call
+  remove : Handle → Call
+  maintain : Call
+  get : Handle → Call
+  len : Call
+  around : Position → Float → List (List ℕ) → List (List Float) → Call
+
+-- what a call gives back
+pub data Given : Type 0 where
+  entered : Inserted → Given
+  replied : Reply → Given
+  settled : Maintained → Given
+  got : Got → Given
+  counted : Count → Given
+  found : Findings → Given
+
+-- ---- on columns: a call that reads leaves the tables as they are
+abbrev given : {R : Type 0} → (R → Given) → Outcome R → Outcome Given
+given say o = outcome (say (o .result)) (o .after)
+
+unfoldable pub onColumns : Call → Tables → Outcome Given
+onColumns (insert p d) t = given entered (insertOf t p d)
+onColumns (setPosition h p) t = given replied (setPositionOf t h p)
+onColumns (remove h) t = given replied (removeOf t h)
+onColumns maintain t = given settled (maintainOf t)
+onColumns (get h) t = outcome (got (getOf t h)) t
+onColumns len t = outcome (counted (lenOf t)) t
+onColumns (around c r handles places) t = outcome (found (aroundOf t c r handles places)) t
+
+-- ---- on records: a call that reads leaves them as they are
+abbrev changed : {R : Type 0} → (R → Given) → Seen R → Seen Given
+changed say o = seen (say (o .result)) (o .records) (o .after)
+
+abbrev read : {R : Type 0} → (R → Given) → List Record → Outcome R → Seen Given
+read say rs o = seen (say (o .result)) rs (o .after)
+
+unfoldable pub onTable : Call → List Record → Tables → Seen Given
+onTable (insert p d) rs t = changed entered (insertOn rs t p d)
+onTable (setPosition h p) rs t = changed replied (setPositionOn rs t h p)
+onTable (remove h) rs t = changed replied (removeOn rs t h)
+onTable maintain rs t = changed settled (maintainOn rs t)
+onTable (get h) rs t = read got rs (getOn rs t h)
+onTable len rs t = read counted rs (lenOn rs t)
+onTable (around c r handles places) rs t = read found rs (aroundOn rs t c r handles places)
+
+unfoldable pub recordAnswers : List Call → List Record → Tables → List Given
+recordAnswers [] rs t = []
+recordAnswers (c ∷ cs) rs t = onTable c rs t .result ∷ recordAnswers cs (onTable c rs t .records) (onTable c rs t .after)
+
+-- the records and the tables beside them
+unfoldable pub recordsAfter : List Call → List Record → Tables → List Record
+recordsAfter [] rs t = rs
+recordsAfter (c ∷ cs) rs t = recordsAfter cs (onTable c rs t .records) (onTable c rs t .after)
+
+unfoldable pub besidesAfter : List Call → List Record → Tables → Tables
+besidesAfter [] rs t = t
+besidesAfter (c ∷ cs) rs t = besidesAfter cs (onTable c rs t .records) (onTable c rs t .after)
+
+-- ---- the records rs beside the tables t are the grid of the tables u: u holds it, and every slot has the same record
+pub record SameGrid (rs : List Record) (t u : Tables) : Type 0 where
+  pub holds : Holds u
+  pub many : slotsOf u ≡ length rs
+  pub alike : Alike u (besides rs t)

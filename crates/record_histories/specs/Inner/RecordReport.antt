@@ -1,0 +1,24 @@
+-- What a circle reports on a table of records after deferred calls and maintain. Assumes nothing.
+use Prim.Native.Nat.{ℕ}
+use mathlib.Core.List.{List, [], _∷_, _++_, map}
+use lib.Dec.{eqb}
+use lib.Ieee.{Float}
+use Rattle.basics.specs.Meaning.Refusals.{pick}
+use Rattle.geometry.specs.declared.Position.{Position}
+use Rattle.objects.specs.declared.Record.{Record}
+use Rattle.point_tables.specs.Meaning.Tables.{Tables}
+use Rattle.moves.specs.Meaning.Batch.{Call as Deferred}
+use Rattle.queries.specs.Meaning.Queries.{Findings}
+use Rattle.record_queries.specs.Meaning.Calls.{aroundOn}
+use Rattle.record_histories.specs.Inner.RecordHistory.{Call, setPosition, remove, maintain, recordsAfter, besidesAfter}
+
+-- kind 0 is `set_position`, any other `remove`
+abbrev pub deferred : Deferred → Call
+deferred c = pick (eqb (c .kind) 0) (setPosition (c .handle) (c .at)) (remove (c .handle))
+
+-- deferred calls, and maintain
+abbrev pub frame : List Deferred → List Call
+frame cs = map deferred cs ++ (maintain ∷ [])
+
+abbrev pub reportAfter : List Record → Tables → List Deferred → Position → Float → List (List ℕ) → List (List Float) → Findings
+reportAfter rs t cs c r handles places = aroundOn (recordsAfter (frame cs) rs t) (besidesAfter (frame cs) rs t) c r handles places .result

@@ -1,0 +1,22 @@
+-- Columns with the same records: what the unused places of a row hold does not matter. Assumes nothing.
+-- Here: the laws.
+use Prim.Native.Nat.{ℕ, _≤_}
+use mathlib.Core.Path.{_≡_}
+use mathlib.Core.List.{List, []}
+use lib.ListN.{getD}
+use Rattle.point_tables.specs.Meaning.Tables.{Tables}
+use Rattle.point_tables.specs.Meaning.Holds.{Holds}
+use Rattle.point_tables.specs.Meaning.Outcome.{Outcome}
+use Rattle.records.specs.Inner.Alike.{Alike}
+
+-- every tag is one of four, as in columns that were spread
+abbrev pub Tagged : List (List ℕ) → Type 0
+Tagged ns = (s : ℕ) → getD (getD ns s []) 3 0 ≤ 3
+
+-- a call answers the same on tables of a grid that are alike, and leaves tables that are alike
+abbrev pub Respects : {R : Type 0} → (Tables → Outcome R) → Type 0
+Respects call = (t u : Tables) → Holds t → Holds u → Alike t u → (call t .result ≡ call u .result) × Alike (call t .after) (call u .after)
+
+-- a call that only reads answers the same
+abbrev pub Reads : {R : Type 0} → (Tables → R) → Type 0
+Reads call = (t u : Tables) → Holds t → Holds u → Alike t u → call t ≡ call u

@@ -1,0 +1,62 @@
+-- A slot's version and phase, which stand first in its row of numbers, and when a handle is good. Assumes nothing.
+use Prim.Native.Nat.{ℕ, _+_, _*_, _≤_, _<_}
+use mathlib.Core.Path.{_≡_}
+use mathlib.Core.Bool.{Bool, _&&_}
+use mathlib.Core.List.{List, [], _∷_}
+use lib.Dec.{eqb, ltb}
+use lib.ListN.{length, getD, set, drop}
+use Rattle.basics.specs.Meaning.Refusals.{pick}
+use Rattle.slots.specs.Meaning.Map.{wordsFor, usable, givenBack}
+
+-- the phases: 0 free, 1 live, 2 retired
+abbrev pub free : ℕ
+free = 0
+
+abbrev pub live : ℕ
+live = 1
+
+abbrev pub retired : ℕ
+retired = 2
+
+abbrev pub lastVersion : ℕ
+lastVersion = 4294967295
+
+abbrev pub versionAt : List (List ℕ) → ℕ → ℕ
+versionAt nums s = getD (getD nums s []) 0 0
+
+abbrev pub phaseAt : List (List ℕ) → ℕ → ℕ
+phaseAt nums s = getD (getD nums s []) 1 0
+
+-- a handle is good exactly when its slot is occupied at that version
+unfoldable pub good : List (List ℕ) → ℕ → ℕ → Bool
+good nums slot version = ltb slot (length nums) && (eqb (phaseAt nums slot) live && eqb (versionAt nums slot) version)
+
+-- ---- emptying: the version rises by one; a slot emptied at the last version keeps it and is retired
+abbrev pub nextVersion : ℕ → ℕ
+nextVersion v = pick (eqb v lastVersion) lastVersion (v + 1)
+
+abbrev pub nextPhase : ℕ → ℕ
+nextPhase v = pick (eqb v lastVersion) retired free
+
+-- the row of a slot that is emptied: the numbers behind version and phase stay
+abbrev pub emptiedRow : List ℕ → List ℕ
+emptiedRow row = nextVersion (getD row 0 0) ∷ nextPhase (getD row 0 0) ∷ drop 2 row
+
+unfoldable pub emptiedNums : List (List ℕ) → ℕ → List (List ℕ)
+emptiedNums nums s = set nums s (emptiedRow (getD nums s []))
+
+-- the map after slot s is emptied: usable again, unless it is retired
+unfoldable pub emptiedMap : List (List ℕ) → List ℕ → ℕ → List ℕ
+emptiedMap nums map s = pick (eqb (versionAt nums s) lastVersion) map (givenBack map s)
+
+-- ---- one slot holds: no version is 0, a retired slot is at the last version, and the map has the free slots alone
+pub record SlotHolds (version phase mapped : ℕ) : Type 0 where
+  pub versioned : version ≡ 0 → ⊥
+  pub phased : phase ≤ retired
+  pub spent : phase ≡ retired → version ≡ lastVersion
+  pub in-map : mapped ≡ pick (eqb phase free) 1 0
+
+-- the slots of n rows hold, and no bit past the last slot is set
+pub record SlotsHold (nums : List (List ℕ)) (map : List ℕ) : Type 0 where
+  pub each : (s : ℕ) → s < length nums → SlotHolds (versionAt nums s) (phaseAt nums s) (usable map s)
+  pub past : (s : ℕ) → s < wordsFor (length nums) * 64 → length nums ≤ s → usable map s ≡ 0

@@ -1,0 +1,5 @@
+-- The laws.
+pub mod CallLaws
+pub mod MovedLaws
+pub mod ReportLaws
+pub mod StandsLaws

@@ -1,0 +1,13 @@
+-- A range of cells as four numbers, each counted upward from the least: lowest column, lowest row, highest column, highest row.
+-- A key is a row and a column, and it lies in the window if both do. Assumes nothing.
+use Prim.Native.Nat.{ℕ}
+use mathlib.Core.Bool.{Bool, _&&_}
+use lib.Dec.{leb}
+use Rattle.cells.specs.Inner.Key.{columnOf, lineOf}
+
+unfoldable pub inWindow : ℕ → ℕ → ℕ → ℕ → ℕ → Bool
+inWindow x0 y0 x1 y1 key = (leb x0 (columnOf key) && leb (columnOf key) x1) && (leb y0 (lineOf key) && leb (lineOf key) y1)
+
+-- the same for the range from the key `low` of its lower left cell to the key `high` of its upper right one
+abbrev pub inRange : ℕ → ℕ → ℕ → Bool
+inRange low high key = inWindow (columnOf low) (lineOf low) (columnOf high) (lineOf high) key

@@ -1,0 +1,12 @@
+-- How far the program is: the bytes that it has are in the block, and the answers fit the output. Assumes nothing.
+-- Here: what only inner contracts cite.
+use Prim.Native.Nat.{_+_, _≤_}
+use Rattle.printing.specs.Meaning.Said.{longest}
+use Rattle.trace.specs.declared.Progress.{Progress}
+
+abbrev pub Fits : Progress → Type 0
+Fits p = (p .have ≤ 65536) × (p .put ≤ 65536)
+
+-- and there is room for one answer more
+abbrev pub Ready : Progress → Type 0
+Ready p = (p .have ≤ 65536) × (p .put + longest ≤ 65536)
