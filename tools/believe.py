@@ -18,8 +18,8 @@ import sys
 from tree import Decl, Source, Tree, asked, read
 
 CALLS = 'points', 'boxes', 'exports'
-RECORDS = 'record_moves', 'record_inserts', 'record_upkeep', 'record_reads', 'record_queries'
-TRACE = 'replay',
+RECORDS = 'record_deferred', 'record_insert', 'record_maintain', 'record_get', 'record_query'
+TRACE = 'trace_replay',
 DEMANDS = 'demands', ('Demands', 'BoxDemands')
 # what a statement ends in
 CLAIM = re.compile(r'(^|\s)(≡|≤|<|Says|Dec|⊥|⊎|×|T)(\s|$)')

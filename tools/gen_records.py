@@ -71,14 +71,14 @@ def struct(kind, crate, pre):
     T = (pre or 'R') + 'T'
     VAL[kind] = (pre + 'R', kind, lambda v: f'({pre}vals {v})', lambda v: f'Is {pre}R {v} ({pre}vals {v})', lambda v, g: f'owned ! {pre}R (Is {pre}R) (LL.makes {T}.the-type {T}′.the-plain 𝓤 H A) {v} _ {g}', lambda v: f'{pre}val {v}', lambda v, g: f'(LL.lawful {T}.the-type {T}′.the-laws 𝓤 H A W .typed {v} _ {g} .0)')
     VALS[kind] = pre + 'vals'; TELLS[kind] = f'LL.tells {T}.the-type {T}′.the-laws'; STRUCT[kind] = (crate, pre, T)
-struct('Record', 'objects', '')
+struct('Record', 'point_records', '')
 struct('Handle', 'slots', 'H')
 struct('Position', 'geometry', 'P')
 struct('Reply', 'replies', 'Y')
 struct('Inserted', 'replies', 'I')
 struct('Count', 'replies', 'C')
-struct('Maintained', 'maintain', 'M')
-struct('Got', 'reads', 'G')
+struct('Maintained', 'point_maintain', 'M')
+struct('Got', 'point_get', 'G')
 STRUSE = ''.join(f'use Rattle.{c}.specs.declared.{k}.{{{k}}}\nuse Rattle.{c}.proofs.{k} as {T}\nuse Rattle.{c}.proofs.{k}.Laws as {T}′\n' for k, (c, pre, T) in STRUCT.items())
 
 
@@ -450,11 +450,11 @@ use denote.Triple.Statement.{Contract, Triple}
 use denote.Triple.Call.{calls-at}
 use denote.Triple.Clauses.{ensured, lasts}
 use denote.Triple.Walked.{says}
-''' + STRUSE + '''use Rattle.objects.specs.Meaning.Columns.{numsOf, realsOf, intsOf}
+''' + STRUSE + '''use Rattle.point_records.specs.Meaning.Columns.{numsOf, realsOf, intsOf}
 use Rattle.replies.specs.Meaning.Replies.{reply}
 use Rattle.point_tables.specs.Meaning.Tables.{tables}
 use Rattle.point_tables.specs.Meaning.Outcome.{outcome}
-use Rattle.queries.specs.Meaning.Queries.{findings}
+use Rattle.point_query.specs.Meaning.Queries.{findings}
 use Rattle.records.specs.Meaning.Seen.{seen}
 '''
 CALLEES = {}
@@ -552,7 +552,7 @@ use denote.Triple.Statement.{Triple}
 use denote.Triple.Table.{entered, cited}
 use denote.Triple.Walked.{says, Stays, stay-none, stay-none-slice, stay-slice, walkOf, goes-none, goes-none-slice, goes-slice, Walks, ends-at, walked, walk-meets}
 use denote.Exit.{yes}
-use Rattle.objects.specs.Meaning.Columns.{numsOf, realsOf, intsOf}
+use Rattle.point_records.specs.Meaning.Columns.{numsOf, realsOf, intsOf}
 """ + STRUSE
 
 
@@ -1075,7 +1075,7 @@ VALS['table'] = 'array-vals vals'; TELLS['table'] = 'tells-array'
 EXTRA = '''use Rattle.point_tables.specs.Meaning.Tables.{tables as tabled}
 use Rattle.point_tables.specs.Meaning.Outcome.{outcome}
 use Rattle.replies.specs.Meaning.Replies.{reply}
-use Rattle.queries.specs.Meaning.Queries.{Findings, findings}
+use Rattle.point_query.specs.Meaning.Queries.{Findings, findings}
 use Rattle.records.specs.Meaning.Seen.{back}
 '''
 # how a call takes nums, reals, ints, map, pool, spots, cells
@@ -1084,13 +1084,13 @@ WRITES = ['mut'] * 7
 READS = ['shr'] * 3 + ['copy'] * 4
 # crate, call, how it takes the tables, its values, its result, the name of its meaning
 CALLS = [
-    ('record_moves', 'set_position', MARKS, ['Handle', 'Position'], 'u32', 'setPosition'),
-    ('record_moves', 'remove', MARKS, ['Handle'], 'Reply', 'remove'),
-    ('record_inserts', 'insert', WRITES, ['Position', 'u32'], 'Inserted', 'insert'),
-    ('record_upkeep', 'maintain', WRITES, [], 'Maintained', 'maintain'),
-    ('record_reads', 'get', READS, ['Handle'], 'Got', 'get'),
-    ('record_reads', 'len', READS, [], 'Count', 'len'),
-    ('record_queries', 'query_around', READS, ['Position', 'f32'], 'Count', 'around'),
+    ('record_deferred', 'set_position', MARKS, ['Handle', 'Position'], 'u32', 'setPosition'),
+    ('record_deferred', 'remove', MARKS, ['Handle'], 'Reply', 'remove'),
+    ('record_insert', 'insert', WRITES, ['Position', 'u32'], 'Inserted', 'insert'),
+    ('record_maintain', 'maintain', WRITES, [], 'Maintained', 'maintain'),
+    ('record_get', 'get', READS, ['Handle'], 'Got', 'get'),
+    ('record_get', 'len', READS, [], 'Count', 'len'),
+    ('record_query', 'query_around', READS, ['Position', 'f32'], 'Count', 'around'),
 ]
 OUTPUTS = {'query_around': ['u2', 'f2']}
 SAID = {'set_position': '(reply {r} 0)'}

@@ -9,7 +9,7 @@ use Rattle.basics.specs.Meaning.Refusals.{pick}
 use Rattle.slots.specs.Meaning.Map.{usable}
 use Rattle.slots.proofs.laws.MapLaws.{not-usable}
 use Rattle.slots.specs.Meaning.Slot.{SlotHolds}
-use Rattle.pool_pass.specs.Inner.Pass.{Named}
+use Rattle.point_pool.specs.Inner.Pass.{Named}
 use Rattle.point_tables.specs.Meaning.Tables.{Tables}
 use Rattle.point_tables.specs.Meaning.Holds.{Holds}
 use Rattle.point_tables.specs.Meaning.Decide.{holds, holds-says}

@@ -180,7 +180,7 @@ pub fn check(
         return false;
     }
     let mut marks = [false; basics::MOST_SLOTS];
-    if !pool_pass::pool_ok(
+    if !point_pool::pool_ok(
         nums,
         reals,
         ints,

@@ -29,24 +29,24 @@ use denote.Triple.Spec.{tripleOf}
 use denote.Triple.Statement.{Contract, Triple}
 use denote.Triple.Call.{calls-at}
 use denote.Triple.Clauses.{ensured, lasts}
-use Rattle.objects.specs.declared.Record.{Record}
+use Rattle.point_records.specs.declared.Record.{Record}
 use Rattle.slots.specs.declared.Handle.{Handle}
 use Rattle.slots.proofs.Handle as HT
 use Rattle.slots.proofs.Handle.Laws as HT′
-use Rattle.maintain.specs.declared.Maintained.{Maintained}
-use Rattle.maintain.proofs.Maintained as MT
-use Rattle.maintain.proofs.Maintained.Laws as MT′
-use Rattle.reads.specs.declared.Got.{Got}
-use Rattle.reads.proofs.Got as GT
-use Rattle.reads.proofs.Got.Laws as GT′
+use Rattle.point_maintain.specs.declared.Maintained.{Maintained}
+use Rattle.point_maintain.proofs.Maintained as MT
+use Rattle.point_maintain.proofs.Maintained.Laws as MT′
+use Rattle.point_get.specs.declared.Got.{Got}
+use Rattle.point_get.proofs.Got as GT
+use Rattle.point_get.proofs.Got.Laws as GT′
 use Rattle.point_tables.specs.Meaning.Tables.{tables}
 use Rattle.point_tables.specs.Meaning.Outcome.{outcome}
 use Rattle.records.specs.Meaning.Seen.{seen}
 use Rattle.records.proofs.Lends.{to, lend-mut, back-mut, lend-shr, back-shr}
-use Rattle.record_upkeep.specs.Meaning.Calls.{maintainOn}
-use Rattle.record_reads.specs.Meaning.Calls.{getOn}
-use Rattle.record_upkeep.proofs.maintain as maintain
-use Rattle.record_reads.proofs.get as get
+use Rattle.record_maintain.specs.Meaning.Calls.{maintainOn}
+use Rattle.record_get.specs.Meaning.Calls.{getOn}
+use Rattle.record_maintain.proofs.maintain as maintain
+use Rattle.record_get.proofs.get as get
 use Rattle.records.proofs.Rows.{R, N4, F4, Z4, N2, F2}
 use Rattle.record_frame.proofs.Values.{HR, Hval, Hvals, MR, Mval, Mvals, GR, Gval, Gvals}
 

@@ -6,12 +6,12 @@ use denote.Struct.Laws as LL
 use Rattle.slots.specs.declared.Handle.{Handle}
 use Rattle.slots.proofs.Handle as HT
 use Rattle.slots.proofs.Handle.Laws as HT′
-use Rattle.maintain.specs.declared.Maintained.{Maintained}
-use Rattle.maintain.proofs.Maintained as MT
-use Rattle.maintain.proofs.Maintained.Laws as MT′
-use Rattle.reads.specs.declared.Got.{Got}
-use Rattle.reads.proofs.Got as GT
-use Rattle.reads.proofs.Got.Laws as GT′
+use Rattle.point_maintain.specs.declared.Maintained.{Maintained}
+use Rattle.point_maintain.proofs.Maintained as MT
+use Rattle.point_maintain.proofs.Maintained.Laws as MT′
+use Rattle.point_get.specs.declared.Got.{Got}
+use Rattle.point_get.proofs.Got as GT
+use Rattle.point_get.proofs.Got.Laws as GT′
 
 abbrev pub HR : RattleType
 HR = HT.the-row

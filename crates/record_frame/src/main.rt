@@ -3,14 +3,14 @@
 // 0 unchanged, 1 new position, 2 relocate, 3 removed. The columns are scratch.
 ghost use mathlib.Core.Path.{_≡_};
 ghost use Rattle.point_tables.specs.Meaning.Lent.{before};
-ghost use Rattle.record_upkeep.specs.Meaning.Calls.{maintainOn};
-ghost use Rattle.record_reads.specs.Meaning.Calls.{getOn};
+ghost use Rattle.record_maintain.specs.Meaning.Calls.{maintainOn};
+ghost use Rattle.record_get.specs.Meaning.Calls.{getOn};
 use cells::Cell;
 use geometry::Position;
 use libc::STDOUT_FILENO;
-use objects::Record;
-use objects::State;
-use reads::Got;
+use point_get::Got;
+use point_records::Record;
+use point_records::State;
 use slots::Handle;
 use slots::Row;
 
@@ -28,7 +28,7 @@ fn maintain_in2(
     ensures { λ u. ⌜ u ≡ maintainOn t (before nums reals ints map pool spots cells) .records ⌝ }
 {
     let mut u = t;
-    record_upkeep::maintain(&mut u, nums, reals, ints, map, pool, spots, cells);
+    record_maintain::maintain(&mut u, nums, reals, ints, map, pool, spots, cells);
     u
 }
 
@@ -46,7 +46,7 @@ fn get_in2(
     ensures { λ r. ⌜ r ≡ getOn t (before nums reals ints map pool spots cells) h .result ⌝ }
 {
     let u = t;
-    record_reads::get(&u, nums, reals, ints, map, pool, spots, cells, h)
+    record_get::get(&u, nums, reals, ints, map, pool, spots, cells, h)
 }
 
 // ---- what is said of it
@@ -66,7 +66,7 @@ fn tell(what: &[u8], g: Got, t: [Record; 2]) {
     number(g.obj);
     say(b",");
     let s = r.state;
-    let k = objects::tag_of(s);
+    let k = point_records::tag_of(s);
     number(k);
     say(b"\n");
 }

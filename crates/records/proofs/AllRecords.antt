@@ -27,8 +27,8 @@ use denote.Triple.Spec.{tripleOf}
 use denote.Triple.Statement.{Contract, Triple}
 use denote.Triple.Call.{calls-at}
 use denote.Triple.Clauses.{ensured, lasts}
-use Rattle.objects.specs.declared.Record.{Record}
-use Rattle.objects.specs.Meaning.Columns.{numsOf, realsOf, intsOf}
+use Rattle.point_records.specs.declared.Record.{Record}
+use Rattle.point_records.specs.Meaning.Columns.{numsOf, realsOf, intsOf}
 use Rattle.records.specs.Meaning.Spread.{laid, gathered}
 use Rattle.records.proofs.Lends.{to, lend-mut, back-mut, lend-shr, back-shr, copies}
 use Rattle.records.proofs.spread as spread

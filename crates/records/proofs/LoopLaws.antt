@@ -11,8 +11,8 @@ use lib.Dec.{ltb, leb·suc-suc}
 use lib.ListN.{length, getD, set}
 use borrow.Author.Tests.{lt-ltb, le-ltb}
 use Rattle.basics.specs.Meaning.Refusals.{pick}
-use Rattle.objects.specs.declared.Record.{Record}
-use Rattle.objects.specs.Meaning.Columns.{recordAt, recordOf}
+use Rattle.point_records.specs.declared.Record.{Record}
+use Rattle.point_records.specs.Meaning.Columns.{recordAt, recordOf}
 use Rattle.records.specs.Inner.Spread.{noRecord, rowOr}
 use Rattle.records.specs.Meaning.Spread.{laid, gathered}
 

@@ -31,10 +31,10 @@ use denote.Triple.Statement.{Contract, Triple}
 use denote.Triple.Call.{calls-at}
 use denote.Triple.Clauses.{ensured, lasts}
 use denote.Triple.Walked.{says}
-use Rattle.objects.specs.declared.Record.{Record}
-use Rattle.objects.proofs.Record as RT
-use Rattle.objects.proofs.Record.Laws as RT′
-use Rattle.objects.specs.Meaning.Columns.{numsOf, realsOf, intsOf}
+use Rattle.point_records.specs.declared.Record.{Record}
+use Rattle.point_records.proofs.Record as RT
+use Rattle.point_records.proofs.Record.Laws as RT′
+use Rattle.point_records.specs.Meaning.Columns.{numsOf, realsOf, intsOf}
 use Rattle.records.specs.Inner.Spread.{noRecord, rowOr}
 use Rattle.records.proofs.Lends.{to, lend-mut, back-mut, lend-shr, back-shr, copies}
 use Rattle.records.proofs.record_at as record-at

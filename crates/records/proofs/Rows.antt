@@ -5,9 +5,9 @@ use denote.RattleType.{RattleType}
 use denote.Array.{Array}
 use denote.Builtin.{u32, u64, i32, f32}
 use denote.Struct.Laws as LL
-use Rattle.objects.specs.declared.Record.{Record}
-use Rattle.objects.proofs.Record as RT
-use Rattle.objects.proofs.Record.Laws as RT′
+use Rattle.point_records.specs.declared.Record.{Record}
+use Rattle.point_records.proofs.Record as RT
+use Rattle.point_records.proofs.Record.Laws as RT′
 
 abbrev pub R : RattleType
 R = RT.the-row

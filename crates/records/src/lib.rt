@@ -4,10 +4,10 @@ ghost use mathlib.Core.Path.{_≡_};
 ghost use Prim.Native.Nat.{ℕ, _<_};
 ghost use lib.ListN.{length, getD, set};
 ghost use Rattle.basics.specs.Meaning.Lent.{was, is};
-ghost use Rattle.objects.specs.Meaning.Columns.{numsOf, realsOf, intsOf};
+ghost use Rattle.point_records.specs.Meaning.Columns.{numsOf, realsOf, intsOf};
 ghost use Rattle.records.specs.Inner.Spread.{noRecord, rowOr};
 ghost use Rattle.records.specs.Meaning.Spread.{laid, gathered};
-use objects::Record;
+use point_records::Record;
 use slots::Row;
 
 // ---- one record
@@ -31,7 +31,7 @@ pub fn put_nums(nums: &mut [Row], i: usize, r: Record)
 {
     if i < nums.len() {
         let s = r.state;
-        let t = objects::tag_of(s);
+        let t = point_records::tag_of(s);
         nums[i] = [r.version, r.phase, r.obj, t];
     }
 }
@@ -42,7 +42,7 @@ pub fn put_reals(reals: &mut [[f32; 4]], i: usize, r: Record)
     if i < reals.len() {
         let p = r.position;
         let s = r.state;
-        let q = objects::pending_of(s, p);
+        let q = point_records::pending_of(s, p);
         reals[i] = [p.x, p.y, q.x, q.y];
     }
 }
@@ -53,7 +53,7 @@ pub fn put_ints(ints: &mut [[i32; 4]], i: usize, r: Record)
     if i < ints.len() {
         let c = r.cell;
         let s = r.state;
-        let d = objects::target_of(s, c);
+        let d = point_records::target_of(s, c);
         ints[i] = [c.x, c.y, d.x, d.y];
     }
 }
@@ -65,7 +65,7 @@ pub fn row_or(nums: &[Row], reals: &[[f32; 4]], ints: &[[i32; 4]], i: usize, r: 
     if i < nums.len() {
         if i < reals.len() {
             if i < ints.len() {
-                return objects::load(nums, reals, ints, i);
+                return point_records::load(nums, reals, ints, i);
             }
         }
     }

@@ -6,9 +6,9 @@ ghost use Prim.Native.Nat.{_<_, _≤_};
 ghost use Rattle.trace.specs.Inner.Ready.{Fits, Ready};
 use libc::STDIN_FILENO;
 use libc::STDOUT_FILENO;
-use printing::LONGEST;
 use slots::Row;
-use splits::Splitter;
+use trace_printing::LONGEST;
+use trace_splits::Splitter;
 
 // How far the program is: `have` bytes in the block, of which those before `at` are used; `put` bytes of answers that are not written yet;
 // whether a record has ended, which is the line's first `len` bytes; whether there may be more to read.
@@ -26,7 +26,7 @@ fn begin() -> Progress
     ensures { λ r. ⌜ Ready r ⌝ }
 {
     Progress {
-        state: splits::start(),
+        state: trace_splits::start(),
         have: 0,
         at: 0,
         put: 0,
@@ -91,7 +91,7 @@ fn finish(line: &[u8; 130], p: Progress) -> Progress
     requires { ⌜ Ready p ⌝ }
     ensures { λ r. ⌜ Ready r ⌝ }
 {
-    let last = splits::finish(line, p.state);
+    let last = trace_splits::finish(line, p.state);
     let state = last.state;
     Progress {
         state,
@@ -145,7 +145,7 @@ fn seek(line: &mut [u8; 130], block: &[u8; 65536], p: Progress) -> Progress
 {
     let have = p.have;
     let all: &[u8] = block;
-    let found = replay::next_record(line, p.state, &all[..have], p.at);
+    let found = trace_replay::next_record(line, p.state, &all[..have], p.at);
     let state = found.state;
     Progress {
         state,
@@ -215,7 +215,7 @@ fn answer(
     requires { ⌜ Ready p ⌝ }
     ensures { λ r. ⌜ Fits r ⌝ }
 {
-    let put = replay::answer_record(
+    let put = trace_replay::answer_record(
         nums,
         reals,
         ints,
@@ -299,7 +299,7 @@ fn run(
     bmap: &mut [u64],
     bpool: &mut [[u64; 2]],
 ) {
-    replay::start(
+    trace_replay::start(
         nums,
         reals,
         ints,

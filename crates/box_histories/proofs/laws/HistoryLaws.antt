@@ -17,16 +17,16 @@ use Rattle.blank.proofs.laws.BlankLaws.{blank-not-live}
 use Rattle.box_tables.specs.Meaning.Tables.{Tables, slotsOf}
 use Rattle.box_tables.specs.Meaning.Holds.{Holds}
 use Rattle.box_tables.specs.Meaning.Outcome.{Outcome, outcome}
-use Rattle.box_inserts.specs.Meaning.New.{built, newAnswer, newOf}
-use Rattle.box_inserts.proofs.laws.NewLaws.{new-holds}
-use Rattle.box_inserts.proofs.laws.InsertLaws.{insert-holds, insert-count}
-use Rattle.box_inserts.proofs.laws.LiveLaws.{liveCount}
-use Rattle.box_changes.proofs.laws.SetAabbLaws.{set-aabb-holds, set-live}
-use Rattle.box_changes.proofs.laws.RemoveLaws.{remove-holds, remove-live}
-use Rattle.box_reads.specs.Meaning.Reads.{lenOf}
-use Rattle.box_reads.proofs.laws.ReadsLaws.{len-counts}
-use Rattle.box_reads.specs.Meaning.Clear.{clearOf}
-use Rattle.box_reads.proofs.laws.ClearLaws.{clear-refused, clear-none, clear-holds, clear-counts}
+use Rattle.box_insert.specs.Meaning.New.{built, newAnswer, newOf}
+use Rattle.box_insert.proofs.laws.NewLaws.{new-holds}
+use Rattle.box_insert.proofs.laws.InsertLaws.{insert-holds, insert-count}
+use Rattle.box_insert.proofs.laws.LiveLaws.{liveCount}
+use Rattle.box_change.proofs.laws.SetAabbLaws.{set-aabb-holds, set-live}
+use Rattle.box_change.proofs.laws.RemoveLaws.{remove-holds, remove-live}
+use Rattle.box_get.specs.Meaning.Reads.{lenOf}
+use Rattle.box_get.proofs.laws.ReadsLaws.{len-counts}
+use Rattle.box_get.specs.Meaning.Clear.{clearOf}
+use Rattle.box_get.proofs.laws.ClearLaws.{clear-refused, clear-none, clear-holds, clear-counts}
 use Rattle.box_histories.specs.Inner.History.{Op, insert, setAabb, remove, clear, after, afterAll, accepted, putIn, takenOut, allIn, allOut}
 
 -- ---- every call keeps the tables holding a grid

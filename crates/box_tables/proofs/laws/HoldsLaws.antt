@@ -20,7 +20,7 @@ use Rattle.storage.specs.Meaning.Entries.{rowKey, rowItem, isItem}
 use Rattle.storage.specs.Meaning.Packed.{first}
 use Rattle.storage.proofs.laws.PackedLaws.{all-first, first-all, ordered-sorted, sorted-ordered}
 use Rattle.storage.proofs.laws.FilterLaws.{all-map, filter-none, filter-same}
-use Rattle.coverage.specs.Meaning.Coverage.{Stands}
+use Rattle.box_cover.specs.Meaning.Coverage.{Stands}
 use Rattle.box_tables.specs.Meaning.Tables.{Tables, sizeOf, usedOf, slotsOf, entriesIn, aabbOn, lowCell, highCell, covers, itemOf, itemOn}
 use Rattle.box_tables.specs.Meaning.Tables.{slotOf, Sized}
 use Rattle.box_tables.specs.Meaning.Holds.{Counted, BoxHolds, Holds}

@@ -32,8 +32,8 @@ use Rattle.storage.proofs.laws.KeyedLaws.{all-under, sorted-filter, sorted-dete
 use Rattle.storage.proofs.laws.KeepsLaws.{sorted-map}
 use Rattle.storage.proofs.laws.TakeOutLaws.{has}
 use Rattle.storage.proofs.laws.WindowLaws.{member-has, keyIn, range-fits, window-cell, window-key, key-window}
-use Rattle.coverage.specs.Meaning.Coverage.{Stands}
-use Rattle.coverage.proofs.laws.ListLaws.{filter-swap, filter-empty, has-map, rising-once}
+use Rattle.box_cover.specs.Meaning.Coverage.{Stands}
+use Rattle.box_cover.proofs.laws.ListLaws.{filter-swap, filter-empty, has-map, rising-once}
 use Rattle.box_tables.specs.Meaning.Tables.{Tables, sizeOf, slotsOf, entriesIn, aabbOn, lowCell, highCell, itemOn, slotOf, Sized}
 use Rattle.box_tables.specs.Meaning.Holds.{Counted, BoxHolds, Holds}
 use Rattle.box_tables.proofs.laws.BoxLaws.{low-near, high-near}

@@ -9,7 +9,7 @@ use Rattle.geometry.specs.Meaning.Domain.{aabbInDomain}
 use Rattle.cells.specs.Meaning.Size.{SizeInDomain}
 use Rattle.slots.specs.Meaning.Slot.{live, phaseAt, SlotsHold}
 use Rattle.storage.specs.Meaning.Packed.{first, second}
-use Rattle.coverage.specs.Meaning.Coverage.{Stands}
+use Rattle.box_cover.specs.Meaning.Coverage.{Stands}
 use Rattle.box_tables.specs.Meaning.Tables.{Tables, sizeOf, usedOf, slotsOf, entriesIn, aabbOn, lowCell, highCell, covers, itemOn, Sized}
 
 -- the cell size is in its limits, and the entries in use are within the pool

@@ -13,12 +13,12 @@ use Rattle.basics.proofs.laws.RefusalLaws.{three-first}
 use Rattle.box_tables.specs.Meaning.Tables.{Tables}
 use Rattle.box_tables.specs.Meaning.Holds.{Holds}
 use Rattle.box_tables.specs.Meaning.Decide.{sized-says, holds, holds-says}
-use Rattle.box_inserts.specs.Meaning.New.{newOf}
-use Rattle.box_inserts.proofs.laws.NewLaws.{new-holds, new-refused}
-use Rattle.box_inserts.proofs.laws.InsertLaws.{insert-holds}
-use Rattle.box_changes.proofs.laws.SetAabbLaws.{set-aabb-holds}
-use Rattle.box_changes.proofs.laws.RemoveLaws.{remove-holds}
-use Rattle.box_reads.proofs.laws.ClearLaws.{clear-holds}
+use Rattle.box_insert.specs.Meaning.New.{newOf}
+use Rattle.box_insert.proofs.laws.NewLaws.{new-holds, new-refused}
+use Rattle.box_insert.proofs.laws.InsertLaws.{insert-holds}
+use Rattle.box_change.proofs.laws.SetAabbLaws.{set-aabb-holds}
+use Rattle.box_change.proofs.laws.RemoveLaws.{remove-holds}
+use Rattle.box_get.proofs.laws.ClearLaws.{clear-holds}
 use Rattle.demands.proofs.laws.Tested.{first-answer, first-refused}
 use Rattle.demands.specs.Meaning.BoxCalls.{BoxCall, new, insert, setAabb, remove, clear, get, len, handles, queryBroad, query, leaves, refusals}
 use Rattle.demands.specs.Meaning.BoxCalls.{refusedWith}

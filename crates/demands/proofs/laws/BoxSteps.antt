@@ -8,16 +8,16 @@ use Rattle.basics.specs.Meaning.Refusals.{pick}
 use Rattle.replies.specs.Meaning.Replies.{count, inserted, reply}
 use Rattle.box_tables.specs.Meaning.Tables.{Tables}
 use Rattle.box_tables.specs.Meaning.Outcome.{outcome}
-use Rattle.box_inserts.specs.Meaning.New.{newOf}
-use Rattle.box_inserts.specs.Meaning.Insert.{insertOf}
-use Rattle.box_changes.specs.Meaning.Remove.{removeOf}
-use Rattle.box_changes.specs.Meaning.SetAabb.{setAabbOf}
-use Rattle.box_reads.specs.Meaning.Live.{liveSlots}
-use Rattle.box_reads.specs.Meaning.Reads.{got, listing, getOf, lenOf, handlesOf}
+use Rattle.box_insert.specs.Meaning.New.{newOf}
+use Rattle.box_insert.specs.Meaning.Insert.{insertOf}
+use Rattle.box_change.specs.Meaning.Remove.{removeOf}
+use Rattle.box_change.specs.Meaning.SetAabb.{setAabbOf}
+use Rattle.box_get.specs.Meaning.Live.{liveSlots}
+use Rattle.box_get.specs.Meaning.Reads.{got, listing, getOf, lenOf, handlesOf}
 use Rattle.geometry.specs.Meaning.Zero.{zero-aabb}
-use Rattle.box_reads.specs.Meaning.Clear.{wrote, clearOf}
-use Rattle.box_queries.specs.Meaning.Queries
-use Rattle.box_queries.specs.Meaning.Queries.{findings, broad, narrow, broadOf, queryOf}
+use Rattle.box_get.specs.Meaning.Clear.{wrote, clearOf}
+use Rattle.box_query.specs.Meaning.Queries
+use Rattle.box_query.specs.Meaning.Queries.{findings, broad, narrow, broadOf, queryOf}
 use Rattle.demands.proofs.laws.Tested.{Tested, tested, no-nine, at-nine}
 use Rattle.demands.specs.Meaning.Left.{outputs, none}
 use Rattle.demands.specs.Meaning.BoxCalls.{BoxCall, new, insert, setAabb, remove, clear, get, len, handles, queryBroad, query}

@@ -17,26 +17,26 @@ use Rattle.storage.specs.Meaning.Keyed.{All}
 use Rattle.point_tables.specs.Meaning.Tables.{Tables}
 use Rattle.point_tables.specs.Meaning.Holds.{Holds}
 use Rattle.point_tables.specs.Meaning.Decide.{sized-says, holds, holds-says}
-use Rattle.inserts.specs.Meaning.New.{newOf}
-use Rattle.inserts.proofs.laws.NewLaws.{new-holds, new-refused}
-use Rattle.inserts.proofs.laws.InsertLaws.{insert-holds}
-use Rattle.moves.proofs.laws.MovesKeeps.{set-position-keeps, remove-keeps}
-use Rattle.moves.proofs.laws.BatchAnswerLaws.{batch-keeps}
-use Rattle.removals.proofs.laws.RemoveLaws.{remove-holds}
-use Rattle.removals.proofs.laws.ClearLaws.{clear-holds}
-use Rattle.maintain.proofs.laws.MaintainLaws.{maintain-keeps}
-use Rattle.moves.specs.Meaning.Batch.{Call, callOf, tablesAfter, even}
-use Rattle.maintain.specs.Meaning.Maintain.{maintainOf}
-use Rattle.queries.specs.Meaning.Queries.{Findings, aroundOf}
+use Rattle.point_insert.specs.Meaning.New.{newOf}
+use Rattle.point_insert.proofs.laws.NewLaws.{new-holds, new-refused}
+use Rattle.point_insert.proofs.laws.InsertLaws.{insert-holds}
+use Rattle.point_deferred.proofs.laws.MovesKeeps.{set-position-keeps, remove-keeps}
+use Rattle.point_deferred.proofs.laws.BatchAnswerLaws.{batch-keeps}
+use Rattle.point_remove.proofs.laws.RemoveLaws.{remove-holds}
+use Rattle.point_remove.proofs.laws.ClearLaws.{clear-holds}
+use Rattle.point_maintain.proofs.laws.MaintainLaws.{maintain-keeps}
+use Rattle.point_deferred.specs.Meaning.Batch.{Call, callOf, tablesAfter, even}
+use Rattle.point_maintain.specs.Meaning.Maintain.{maintainOf}
+use Rattle.point_query.specs.Meaning.Queries.{Findings, aroundOf}
 use Rattle.trackers.specs.Meaning.Merges.{Turn, calls, Merge, NotShared, Alike, batchFor, SameBatch}
 use Rattle.trackers.proofs.laws.MergeLaws.{any-merge}
 use Rattle.trackers.proofs.laws.BatchMergeLaws.{any-merge-batch}
-use Rattle.stands.specs.Meaning.Report.{ReportedAt, Reports, Due}
-use Rattle.stands.proofs.laws.StandsLaws.{maintain-settles, next-accepted}
-use Rattle.stands.specs.Meaning.Stands.{nextMaintain}
-use Rattle.stands.proofs.laws.ReportLaws.{circle-reports, reports-once}
-use Rattle.stands.specs.Meaning.Moved.{Other}
-use Rattle.stands.proofs.laws.MovedLaws.{moved-found}
+use Rattle.whereabouts.specs.Meaning.Report.{ReportedAt, Reports, Due}
+use Rattle.whereabouts.proofs.laws.StandsLaws.{maintain-settles, next-accepted}
+use Rattle.whereabouts.specs.Meaning.Stands.{nextMaintain}
+use Rattle.whereabouts.proofs.laws.ReportLaws.{circle-reports, reports-once}
+use Rattle.whereabouts.specs.Meaning.Moved.{Other}
+use Rattle.whereabouts.proofs.laws.MovedLaws.{moved-found}
 use Rattle.demands.proofs.laws.Tested.{first-answer, first-refused}
 use Rattle.demands.specs.Meaning.PointCalls.{PointCall, new, insert, setPosition, remove, batch, maintain, removeMaintain, clear}
 use Rattle.demands.specs.Meaning.PointCalls.{get, len, handles, query, queryAround, queryAabb}

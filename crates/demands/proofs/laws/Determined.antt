@@ -10,30 +10,30 @@ use Rattle.slots.specs.declared.Handle.{Handle}
 use Rattle.point_tables.specs.Meaning.Tables.{Tables}
 use Rattle.point_tables.specs.Meaning.Outcome.{Outcome, outcome}
 use Rattle.replies.specs.declared.Inserted.{Inserted}
-use Rattle.inserts.specs.Meaning.New.{newOf}
-use Rattle.inserts.specs.Meaning.Insert.{insertOf}
+use Rattle.point_insert.specs.Meaning.New.{newOf}
+use Rattle.point_insert.specs.Meaning.Insert.{insertOf}
 use Rattle.replies.specs.declared.Reply.{Reply}
-use Rattle.moves.specs.Meaning.Moves.{setPositionOf, removeOf}
-use Rattle.moves.specs.Meaning.Batch.{Batched, batchOf}
-use Rattle.maintain.specs.declared.Maintained.{Maintained}
-use Rattle.maintain.specs.Meaning.Maintain.{maintainOf}
-use Rattle.removals.specs.Meaning.RemoveMaintain.{removeMaintainOf}
-use Rattle.removals.specs.Meaning.Clear.{Written, clearOf}
-use Rattle.reads.specs.declared.Got.{Got}
+use Rattle.point_deferred.specs.Meaning.Moves.{setPositionOf, removeOf}
+use Rattle.point_deferred.specs.Meaning.Batch.{Batched, batchOf}
+use Rattle.point_maintain.specs.declared.Maintained.{Maintained}
+use Rattle.point_maintain.specs.Meaning.Maintain.{maintainOf}
+use Rattle.point_remove.specs.Meaning.RemoveMaintain.{removeMaintainOf}
+use Rattle.point_remove.specs.Meaning.Clear.{Written, clearOf}
+use Rattle.point_get.specs.declared.Got.{Got}
 use Rattle.replies.specs.declared.Count.{Count}
-use Rattle.reads.specs.Meaning.{Listing, getOf, lenOf, handlesOf}
-use Rattle.queries.specs.Meaning.Queries.{Findings, queryOf, aroundOf, aabbOf}
+use Rattle.point_get.specs.Meaning.{Listing, getOf, lenOf, handlesOf}
+use Rattle.point_query.specs.Meaning.Queries.{Findings, queryOf, aroundOf, aabbOf}
 use Rattle.replies.specs.Meaning.Replies.{reply}
 use Rattle.box_tables.specs.Meaning.Tables as BoxTables
 use Rattle.box_tables.specs.Meaning.Outcome as Boxes
-use Rattle.box_inserts.specs.Meaning.New as BoxNew
-use Rattle.box_inserts.specs.Meaning.Insert as BoxInsert
-use Rattle.box_changes.specs.Meaning.SetAabb.{setAabbOf}
-use Rattle.box_changes.specs.Meaning.Remove as BoxRemove
-use Rattle.box_reads.specs.declared.Got as BoxGot
-use Rattle.box_reads.specs.Meaning.Reads as BoxReads
-use Rattle.box_reads.specs.Meaning.Clear as BoxClear
-use Rattle.box_queries.specs.Meaning.Queries as BoxQueries
+use Rattle.box_insert.specs.Meaning.New as BoxNew
+use Rattle.box_insert.specs.Meaning.Insert as BoxInsert
+use Rattle.box_change.specs.Meaning.SetAabb.{setAabbOf}
+use Rattle.box_change.specs.Meaning.Remove as BoxRemove
+use Rattle.box_get.specs.declared.Got as BoxGot
+use Rattle.box_get.specs.Meaning.Reads as BoxReads
+use Rattle.box_get.specs.Meaning.Clear as BoxClear
+use Rattle.box_query.specs.Meaning.Queries as BoxQueries
 
 -- ---- two that are the same third
 one : {A : Type 0} {a b c : A} → a ≡ c → b ≡ c → a ≡ b

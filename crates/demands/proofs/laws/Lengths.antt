@@ -13,10 +13,10 @@ use Rattle.slots.specs.Meaning.Map.{head, wordsFor}
 use Rattle.blank.proofs.laws.BlankLaws.{size-says}
 use Rattle.point_tables.specs.Meaning.Tables as Points
 use Rattle.point_tables.specs.Meaning.Decide as PointDecide
-use Rattle.inserts.specs.Meaning.New as PointNew
+use Rattle.point_insert.specs.Meaning.New as PointNew
 use Rattle.box_tables.specs.Meaning.Tables as Boxes
 use Rattle.box_tables.specs.Meaning.Decide as BoxDecide
-use Rattle.box_inserts.specs.Meaning.New as BoxNew
+use Rattle.box_insert.specs.Meaning.New as BoxNew
 
 abbrev two : {A : Type 0} → A → List A
 two a = a ∷ a ∷ []

@@ -15,18 +15,18 @@ use Rattle.geometry.specs.Meaning.Rectangle.{lowerCorner, upperCorner}
 use Rattle.slot_walks.specs.Meaning.Live.{handleAt, liveFrom}
 use Rattle.point_tables.specs.Meaning.Tables.{Tables}
 use Rattle.point_tables.specs.Meaning.Outcome.{outcome}
-use Rattle.inserts.specs.Meaning.New.{newOf}
-use Rattle.inserts.specs.Meaning.Insert.{insertOf}
-use Rattle.moves.specs.Meaning.Moves.{setPositionOf, removeOf}
-use Rattle.moves.specs.Meaning.Batch.{batched, batchOf}
-use Rattle.maintain.specs.Meaning.Maintain.{maintainedCounts, maintainOf}
-use Rattle.removals.specs.Meaning.RemoveMaintain.{removeMaintainOf}
-use Rattle.removals.specs.Meaning.Clear.{wrote, liveSlots, clearOf}
-use Rattle.reads.specs.Meaning.{got, listing, liveHandles, getOf, lenOf, handlesTests, handlesOf}
+use Rattle.point_insert.specs.Meaning.New.{newOf}
+use Rattle.point_insert.specs.Meaning.Insert.{insertOf}
+use Rattle.point_deferred.specs.Meaning.Moves.{setPositionOf, removeOf}
+use Rattle.point_deferred.specs.Meaning.Batch.{batched, batchOf}
+use Rattle.point_maintain.specs.Meaning.Maintain.{maintainedCounts, maintainOf}
+use Rattle.point_remove.specs.Meaning.RemoveMaintain.{removeMaintainOf}
+use Rattle.point_remove.specs.Meaning.Clear.{wrote, liveSlots, clearOf}
+use Rattle.point_get.specs.Meaning.{got, listing, liveHandles, getOf, lenOf, handlesTests, handlesOf}
 use Rattle.geometry.specs.Meaning.Zero.{zero-position}
-use Rattle.queries.specs.declared.Test.{Test}
-use Rattle.queries.specs.declared.Test.the-variants.{Any, Circle, Rectangle}
-use Rattle.queries.specs.Meaning.Queries.{findings, found, roomOf, searchTests, searchOf, queryOf, aroundOf, aabbOf}
+use Rattle.point_query.specs.declared.Test.{Test}
+use Rattle.point_query.specs.declared.Test.the-variants.{Any, Circle, Rectangle}
+use Rattle.point_query.specs.Meaning.Queries.{findings, found, roomOf, searchTests, searchOf, queryOf, aroundOf, aabbOf}
 use Rattle.geometry.specs.Meaning.Circle.{cornerBelow, cornerAbove}
 use Rattle.demands.proofs.laws.Tested.{Tested, tested, no-nine, at-nine}
 use Rattle.demands.specs.Meaning.Left.{outputs, none, refused}

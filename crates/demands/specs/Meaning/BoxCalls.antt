@@ -11,16 +11,16 @@ use Rattle.replies.specs.declared.Reply.{Reply}
 use Rattle.replies.specs.declared.Count.{Count}
 use Rattle.box_tables.specs.Meaning.Tables.{Tables}
 use Rattle.box_tables.specs.Meaning.Outcome.{Outcome}
-use Rattle.box_inserts.specs.Meaning.New.{newTests, newOf}
-use Rattle.box_inserts.specs.Meaning.Insert.{insertTests, insertOf}
-use Rattle.box_changes.specs.Meaning.SetAabb.{setAabbTests, setAabbOf}
-use Rattle.box_changes.specs.Meaning.Remove.{removeTests, removeOf}
-use Rattle.box_reads.specs.declared.Got.{Got}
-use Rattle.box_reads.specs.Meaning.Live.{liveSlots}
-use Rattle.box_reads.specs.Meaning.Reads.{Listing, getTests, getOf, lenTests, lenOf, handlesTests, handlesOf}
+use Rattle.box_insert.specs.Meaning.New.{newTests, newOf}
+use Rattle.box_insert.specs.Meaning.Insert.{insertTests, insertOf}
+use Rattle.box_change.specs.Meaning.SetAabb.{setAabbTests, setAabbOf}
+use Rattle.box_change.specs.Meaning.Remove.{removeTests, removeOf}
+use Rattle.box_get.specs.declared.Got.{Got}
+use Rattle.box_get.specs.Meaning.Live.{liveSlots}
+use Rattle.box_get.specs.Meaning.Reads.{Listing, getTests, getOf, lenTests, lenOf, handlesTests, handlesOf}
 use Rattle.geometry.specs.Meaning.Zero.{zero-aabb}
-use Rattle.box_reads.specs.Meaning.Clear.{Written, clearTests, clearOf}
-use Rattle.box_queries.specs.Meaning.Queries.{Handles, Findings, broad, narrow, broadTests, broadOf, queryTests, queryOf}
+use Rattle.box_get.specs.Meaning.Clear.{Written, clearTests, clearOf}
+use Rattle.box_query.specs.Meaning.Queries.{Handles, Findings, broad, narrow, broadTests, broadOf, queryTests, queryOf}
 use Rattle.basics.specs.Meaning.Refusals.{Refusal}
 use Rattle.demands.specs.Meaning.Left.{Outputs, outputs, none, zeros, theCount, theHandle, theData, theObject, Left, left, refused}
 

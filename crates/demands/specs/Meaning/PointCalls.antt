@@ -12,18 +12,18 @@ use Rattle.point_tables.specs.Meaning.Outcome.{Outcome}
 use Rattle.replies.specs.declared.Inserted.{Inserted}
 use Rattle.replies.specs.declared.Reply.{Reply}
 use Rattle.replies.specs.declared.Count.{Count}
-use Rattle.inserts.specs.Meaning.New.{newTests, newOf}
-use Rattle.inserts.specs.Meaning.Insert.{insertTests, insertOf}
-use Rattle.moves.specs.Meaning.Moves.{setPositionTests, setPositionOf, removeTests, removeOf}
-use Rattle.moves.specs.Meaning.Batch.{Batched, even, batchTests, batchOf}
-use Rattle.maintain.specs.declared.Maintained.{Maintained}
-use Rattle.maintain.specs.Meaning.Maintain.{maintainTests, maintainOf}
-use Rattle.removals.specs.Meaning.RemoveMaintain.{removeMaintainTests, removeMaintainOf}
-use Rattle.removals.specs.Meaning.Clear.{Written, liveSlots, clearTests, clearOf}
-use Rattle.reads.specs.declared.Got.{Got}
-use Rattle.reads.specs.Meaning.{Listing, getTests, getOf, lenTests, lenOf, handlesTests, handlesOf}
+use Rattle.point_insert.specs.Meaning.New.{newTests, newOf}
+use Rattle.point_insert.specs.Meaning.Insert.{insertTests, insertOf}
+use Rattle.point_deferred.specs.Meaning.Moves.{setPositionTests, setPositionOf, removeTests, removeOf}
+use Rattle.point_deferred.specs.Meaning.Batch.{Batched, even, batchTests, batchOf}
+use Rattle.point_maintain.specs.declared.Maintained.{Maintained}
+use Rattle.point_maintain.specs.Meaning.Maintain.{maintainTests, maintainOf}
+use Rattle.point_remove.specs.Meaning.RemoveMaintain.{removeMaintainTests, removeMaintainOf}
+use Rattle.point_remove.specs.Meaning.Clear.{Written, liveSlots, clearTests, clearOf}
+use Rattle.point_get.specs.declared.Got.{Got}
+use Rattle.point_get.specs.Meaning.{Listing, getTests, getOf, lenTests, lenOf, handlesTests, handlesOf}
 use Rattle.geometry.specs.Meaning.Zero.{zero-position}
-use Rattle.queries.specs.Meaning.Queries.{Findings, queryFinds, queryTests, queryOf, aroundFinds, aroundTests, aroundOf, aabbFinds, aabbTests, aabbOf}
+use Rattle.point_query.specs.Meaning.Queries.{Findings, queryFinds, queryTests, queryOf, aroundFinds, aroundTests, aroundOf, aabbFinds, aabbTests, aabbOf}
 use Rattle.basics.specs.Meaning.Refusals.{Refusal}
 use Rattle.demands.specs.Meaning.Left.{Outputs, outputs, none, zeros, theCount, theHandle, theData, theChanges, theObject, Left, left, refused}
 

@@ -3,8 +3,8 @@ use Prim.Native.Nat.{ℕ}
 use mathlib.Core.List.{List}
 use lib.Ieee.{Float}
 use Rattle.basics.specs.Meaning.Lent.{Lent, is}
-use Rattle.box_reads.specs.Meaning.Clear.{Written, wrote}
-use Rattle.box_queries.specs.Meaning.Queries.{Findings, findings}
+use Rattle.box_get.specs.Meaning.Clear.{Written, wrote}
+use Rattle.box_query.specs.Meaning.Queries.{Findings, findings}
 use Rattle.exports.specs.declared.Count.{Count}
 use Rattle.exports.specs.Meaning.Told.{toldCount}
 

@@ -7,11 +7,11 @@ use lib.Ieee.{Float}
 use Rattle.basics.specs.Meaning.Lent.{Lent, was, is}
 use Rattle.point_tables.specs.Meaning.Tables.{Tables}
 use Rattle.point_tables.specs.Meaning.Lent.{before}
-use Rattle.moves.specs.Meaning.Batch.{Batched, batched}
-use Rattle.removals.specs.Meaning.Clear.{Written, wrote}
-use Rattle.queries.specs.Meaning.Queries.{Findings, findings}
-use Rattle.maintain.specs.declared.Maintained as Settled
-use Rattle.maintain.specs.Meaning.Maintain.{maintainedCounts}
+use Rattle.point_deferred.specs.Meaning.Batch.{Batched, batched}
+use Rattle.point_remove.specs.Meaning.Clear.{Written, wrote}
+use Rattle.point_query.specs.Meaning.Queries.{Findings, findings}
+use Rattle.point_maintain.specs.declared.Maintained as Settled
+use Rattle.point_maintain.specs.Meaning.Maintain.{maintainedCounts}
 use Rattle.exports.specs.declared.BatchReply.{BatchReply}
 use Rattle.exports.specs.declared.Count.{Count}
 use Rattle.exports.specs.declared.Maintained.{Maintained}

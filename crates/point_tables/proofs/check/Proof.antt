@@ -5,8 +5,8 @@ use native.Mathlib.Omega.{arith}
 use lib.ListN.{length}
 use borrow.Author.Tests.{not-true, not-false}
 use Rattle.basics.proofs.laws.Says.{says-no, apart}
-use Rattle.pool_pass.specs.Inner.Pass
-use Rattle.pool_pass.specs.Inner.Pass.{Passes}
+use Rattle.point_pool.specs.Inner.Pass
+use Rattle.point_pool.specs.Inner.Pass.{Passes}
 use Rattle.point_tables.specs.Meaning.Tables.{Tables, tables, sizeOf, usedOf, rowsOf, slotsOf, Sized}
 use Rattle.point_tables.specs.Inner.Check.{Counts, Listed}
 use Rattle.point_tables.proofs.laws.CheckLaws.{CountsOf, PassesOf, pool-room, slot-room, listed, whole, counts-of, passes-of, slots-of}

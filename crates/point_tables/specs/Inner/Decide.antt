@@ -9,8 +9,8 @@ use Rattle.slots.specs.Meaning.Slot.{live, phaseAt}
 use Rattle.slots.proofs.laws.Decide.{d-slots}
 use Rattle.storage.specs.Meaning.Packed.{first, second}
 use Rattle.storage.proofs.laws.PackedDecide.{d-packed}
-use Rattle.objects.specs.Meaning.Columns.{tagOf}
-use Rattle.objects.proofs.laws.Decide.{d-occupied}
+use Rattle.point_records.specs.Meaning.Columns.{tagOf}
+use Rattle.point_records.proofs.laws.Decide.{d-occupied}
 use Rattle.point_tables.specs.Meaning.Tables.{Tables, sizeOf, usedOf, rowsOf, slotsOf, recordOn, Lengths, Sized}
 use Rattle.point_tables.specs.Meaning.Holds.{Counted, RecordHolds, EntryHolds, ListsHold, Pending, Holds}
 

@@ -9,8 +9,8 @@ use Rattle.cells.specs.Meaning.Size.{SizeInDomain}
 use Rattle.cells.specs.Meaning.Key.{keyOf}
 use Rattle.slots.specs.Meaning.Slot.{live, phaseAt, SlotsHold}
 use Rattle.storage.specs.Meaning.Packed.{first, second, Packed}
-use Rattle.objects.specs.Meaning.Columns.{tagOf}
-use Rattle.objects.specs.Meaning.Occupied.{Occupied}
+use Rattle.point_records.specs.Meaning.Columns.{tagOf}
+use Rattle.point_records.specs.Meaning.Occupied.{Occupied}
 use Rattle.point_tables.specs.Meaning.Tables.{Tables, sizeOf, usedOf, rowsOf, slotsOf, recordOn, Sized}
 
 -- the cell size is in its limits, and the counts are within the tables

@@ -6,8 +6,8 @@ use lib.IntN.{ℤ}
 use lib.Ieee.{Float}
 use lib.ListN.{length, getD, set, take}
 use Rattle.basics.specs.Meaning.Limits.{mostSlots}
-use Rattle.objects.specs.declared.Record.{Record}
-use Rattle.objects.specs.Meaning.Columns.{recordAt}
+use Rattle.point_records.specs.declared.Record.{Record}
+use Rattle.point_records.specs.Meaning.Columns.{recordAt}
 use Rattle.slots.specs.Meaning.Map.{head, wordsFor}
 use Rattle.storage.specs.Meaning.Entries.{Entry, entriesOf, rowItem}
 

@@ -38,15 +38,15 @@ use denote.Triple.Statement.{Triple}
 use denote.Triple.Table.{entered, cited}
 use denote.Triple.Walked.{says, Stays, stay-none, stay-slice, walkOf, goes-none, goes-slice, Walks, ends-at, walked, walk-meets}
 use denote.Exit.{yes}
-use Rattle.objects.specs.declared.Record.{Record}
-use Rattle.objects.proofs.Record as RT
-use Rattle.objects.proofs.Record.Laws as RT′
+use Rattle.point_records.specs.declared.Record.{Record}
+use Rattle.point_records.proofs.Record as RT
+use Rattle.point_records.proofs.Record.Laws as RT′
 use Rattle.slots.specs.declared.Handle.{Handle}
 use Rattle.slots.proofs.Handle as HT
 use Rattle.slots.proofs.Handle.Laws as HT′
-use Rattle.reads.specs.declared.Got.{Got}
-use Rattle.reads.proofs.Got as GT
-use Rattle.reads.proofs.Got.Laws as GT′
+use Rattle.point_get.specs.declared.Got.{Got}
+use Rattle.point_get.proofs.Got as GT
+use Rattle.point_get.proofs.Got.Laws as GT′
 use Rattle.records.proofs.Rows.{R, vals, N4, F4, Z4, N2, F2}
 use Rattle.record_frame.proofs.Values.{HR, Hval, Hvals, GR, Gval, Gvals}
 use Rattle.records.proofs.Lends.{to}
@@ -69,13 +69,13 @@ use denote.Steps.{only, peeks}
 use denote.Struct.Steps.{spelt}
 use denote.Triple.Walked.{stay-dropped, goes-dropped}
 use Rattle.point_tables.specs.Meaning.Outcome.{Outcome}
-use Rattle.record_reads.specs.Meaning.Calls.{getOn}
+use Rattle.record_get.specs.Meaning.Calls.{getOn}
 use Rattle.point_tables.specs.Meaning.Tables.{tables as tabled}
 use Rattle.point_tables.specs.Meaning.Outcome.{outcome}
 use Rattle.record_frame.proofs.TableCalls.{Get-on, calls-get-on}
-use Rattle.record_reads.proofs.get.Symbol as get-def
-use Rattle.record_reads.proofs.get.Symbol.{name as #record-reads·get}
-use Rattle.record_reads.proofs.get.Met as get-thm
+use Rattle.record_get.proofs.get.Symbol as get-def
+use Rattle.record_get.proofs.get.Symbol.{name as #record-get·get}
+use Rattle.record_get.proofs.get.Met as get-thm
 use Rattle.record_frame.proofs.get_in2.Key.{name as #record-frame·get-in2}
 use Rattle.record_frame.proofs.get_in2 as get-in2
 use Rattle.record_frame.proofs.get_in2.Statement as stated
@@ -157,7 +157,7 @@ module _ {M : Type 1} (𝓤 : URA M) (H : Heap 𝓤) (A : Atoms 𝓤) (W : Given
       qed W (left r zs) ∵ suffices ! _ (ends-at 𝓤 H A get-in2.ended stayed (get-in2.clauses 𝓤 H A mem run) W bound (Gval r) (r) (tt, ((zs .1 .0), ((zs .1 .1 .0), ((zs .1 .1 .1 .0), ((y₃), ((y₄), ((y₅), ((y₆), (tt, tt))))))))) (tt, (n₀, (n₁, (n₂, (refl, (refl, (refl, (refl, (tt, tt)))))))))) $ says ! (ap (λ (o : Outcome Got). o .result) eq) $
       nothing ! $ move ! (14 ∷ 0 ∷ []) $ join ! $ move ! (12 ∷ 0 ∷ []) $ join ! $ move ! (10 ∷ 0 ∷ []) $ join ! $ move ! (8 ∷ 0 ∷ []) $ join ! $ move ! (6 ∷ 0 ∷ []) $ join ! $ move ! (4 ∷ 0 ∷ []) $ join ! $ move ! (2 ∷ 0 ∷ []) $ join ! $ frame ! $ nothing ! $ move ! (8 ∷ 0 ∷ []) $ fjoin ! $ move ! (7 ∷ 0 ∷ []) $ fjoin ! $ move ! (6 ∷ 0 ∷ []) $ fjoin ! $ move ! (5 ∷ 0 ∷ []) $ fjoin ! $ move ! (4 ∷ 0 ∷ []) $ fjoin ! $ move ! (3 ∷ 0 ∷ []) $ fjoin ! $ move ! (2 ∷ 0 ∷ []) $ fjoin ! $ move ! (1 ∷ 0 ∷ []) $ fjoin ! $ nothing ! $ fjoin ! $ frame ! $ owned ! GR (Is GR) (LL.makes GT.the-type GT′.the-plain 𝓤 H A) r _ gr $ done !
 
-  module _ (𝓣 : Tables 𝓤 H) (m-get-on : Triple 𝓤 (𝓣 .C #record-reads·get) (Get-on 𝓤 H A mem run)) where
+  module _ (𝓣 : Tables 𝓤 H) (m-get-on : Triple 𝓤 (𝓣 .C #record-get·get) (Get-on 𝓤 H A mem run)) where
     walk : ent 𝓤 (onEntry 𝓤 H A get-in2.signature (κ₀, (κ₁, (κ₂, (κ₃, (κ₄, (κ₅, (κ₆, tt))))))) (q₀, (q₁, (q₂, (q₃, (q₄, (q₅, (q₆, tt))))))) x at) (WpFn 𝓤 H (𝓣 .C) (𝓣 .Λ) code.function (mach v₀ ∷ s₀ ∷ s₁ ∷ s₂ ∷ s₃ ∷ s₄ ∷ s₅ ∷ s₆ ∷ Hval v₁ ∷ []) Post)
     walk =
         qed W ((‵ (flft κ₀ q₀) ⊛ ‵ (flft κ₁ q₁) ⊛ ‵ (flft κ₂ q₂) ⊛ ‵ (flft κ₃ q₃) ⊛ ‵ (flft κ₄ q₄) ⊛ ‵ (flft κ₅ q₅) ⊛ ‵ (flft κ₆ q₆) ⊛ ‵ ftrue) ∷ ‵ (owns (Q ∷ MutSlice (named 0) κ₀ N4 ∷ MutSlice (named 1) κ₁ F4 ∷ MutSlice (named 2) κ₂ Z4 ∷ MutSlice (named 3) κ₃ u64 ∷ MutSlice (named 4) κ₄ N2 ∷ MutSlice (named 5) κ₅ F2 ∷ MutSlice (named 6) κ₆ N2 ∷ HR ∷ []) x at) ∷ []) ∵ enter ! (𝓣 .C) (𝓣 .Λ) code.function (mach v₀ ∷ s₀ ∷ s₁ ∷ s₂ ∷ s₃ ∷ s₄ ∷ s₅ ∷ s₆ ∷ Hval v₁ ∷ []) _ $
@@ -195,7 +195,7 @@ module _ {M : Type 1} (𝓤 : URA M) (H : Heap 𝓤) (A : Atoms 𝓤) (W : Given
         move ! (67 ∷ 68 ∷ []) $ free1 ! $ move ! (65 ∷ 66 ∷ []) $ free1 ! $ move ! (63 ∷ 64 ∷ []) $ free1 ! $ move ! (61 ∷ 62 ∷ []) $ free1 ! $ move ! (59 ∷ 60 ∷ []) $ free1 ! $ move ! (57 ∷ 58 ∷ []) $ free1 ! $ move ! (55 ∷ 56 ∷ []) $ free1 ! $ move ! (53 ∷ 54 ∷ []) $ free1 ! $ move ! (51 ∷ 52 ∷ []) $ free1 ! $ move ! (49 ∷ 50 ∷ []) $ free1 ! $ move ! (0 ∷ 48 ∷ []) $ free1 ! $ move ! (45 ∷ 46 ∷ []) $ free1 ! $ move ! (43 ∷ 44 ∷ []) $ free1 ! $ move ! (41 ∷ 42 ∷ []) $ free1 ! $ move ! (39 ∷ 40 ∷ []) $ free1 ! $ move ! (37 ∷ 38 ∷ []) $ free1 ! $ move ! (35 ∷ 36 ∷ []) $ free1 ! $ move ! (33 ∷ 34 ∷ []) $ free1 ! $ move ! (31 ∷ 32 ∷ []) $ free1 ! $ move ! (29 ∷ 30 ∷ []) $ free1 ! $ move ! (27 ∷ 28 ∷ []) $ free1 ! $ move ! (25 ∷ 26 ∷ []) $ free1 ! $ move ! (23 ∷ 24 ∷ []) $ free1 ! $ move ! (21 ∷ 22 ∷ []) $ free1 ! $ move ! (19 ∷ 20 ∷ []) $ free1 ! $ move ! (17 ∷ 18 ∷ []) $ free1 ! $ move ! (15 ∷ 16 ∷ []) $ free1 ! $ free0 ! $
         keep ! (0 ∷ 1 ∷ 2 ∷ 3 ∷ 4 ∷ 5 ∷ 6 ∷ 7 ∷ 8 ∷ 9 ∷ 10 ∷ 11 ∷ 12 ∷ 13 ∷ 14 ∷ []) $ by ! (exits r zs n₀ n₁ n₂ eq gr))))))))))))))))))))))))))))))))
 
-module _ {M : Type 1} (𝓤 : URA M) (H : Heap 𝓤) (A : Atoms 𝓤) (W : Given 𝓤 H A) (mem : Memory → SProp 𝓤) (run : Routine → Fun 𝓤) (𝓣 : Tables 𝓤 H) (m-get-on : Triple 𝓤 (𝓣 .C #record-reads·get) (Get-on 𝓤 H A mem run)) where
+module _ {M : Type 1} (𝓤 : URA M) (H : Heap 𝓤) (A : Atoms 𝓤) (W : Given 𝓤 H A) (mem : Memory → SProp 𝓤) (run : Routine → Fun 𝓤) (𝓣 : Tables 𝓤 H) (m-get-on : Triple 𝓤 (𝓣 .C #record-get·get) (Get-on 𝓤 H A mem run)) where
   get-in2-walks : Walks 𝓤 H A get-in2.ended stayed (WpFn 𝓤 H (𝓣 .C) (𝓣 .Λ) code.function) (get-in2.clauses 𝓤 H A mem run)
   get-in2-walks = walked 𝓤 H A get-in2.ended stayed (get-in2.clauses 𝓤 H A mem run) (WpFn 𝓤 H (𝓣 .C) (𝓣 .Λ) code.function) (λ κs. (array-vals vals, (slice-vals, (slice-vals, (slice-vals, (slice-vals, (slice-vals, (slice-vals, (slice-vals, (Hvals, tt)))))))))) (λ κs. (tells-array, (mut-slice-tells (named 0) (κs .0) N4, (mut-slice-tells (named 1) (κs .1 .0) F4, (mut-slice-tells (named 2) (κs .1 .1 .0) Z4, (mut-slice-tells (named 3) (κs .1 .1 .1 .0) u64, (mut-slice-tells (named 4) (κs .1 .1 .1 .1 .0) N2, (mut-slice-tells (named 5) (κs .1 .1 .1 .1 .1 .0) F2, (mut-slice-tells (named 6) (κs .1 .1 .1 .1 .1 .1 .0) N2, (LL.tells HT.the-type HT′.the-laws, tt))))))))))
       (λ κs qs bounds a g are. via 𝓤 _ (fst∗ 𝓤 _ (emp 𝓤)) (walk 𝓤 H A W mem run (κs .0) (κs .1 .0) (κs .1 .1 .0) (κs .1 .1 .1 .0) (κs .1 .1 .1 .1 .0) (κs .1 .1 .1 .1 .1 .0) (κs .1 .1 .1 .1 .1 .1 .0) (qs .0) (qs .1 .0) (qs .1 .1 .0) (qs .1 .1 .1 .0) (qs .1 .1 .1 .1 .0) (qs .1 .1 .1 .1 .1 .0) (qs .1 .1 .1 .1 .1 .1 .0) (a .1 .0 .ptr .0) (a .1 .0 .ptr .1) (a .1 .0 .name) (a .1 .0 .now) (are .1 .0 .0 .1) (a .1 .1 .0 .ptr .0) (a .1 .1 .0 .ptr .1) (a .1 .1 .0 .name) (a .1 .1 .0 .now) (are .1 .1 .0 .0 .1) (a .1 .1 .1 .0 .ptr .0) (a .1 .1 .1 .0 .ptr .1) (a .1 .1 .1 .0 .name) (a .1 .1 .1 .0 .now) (are .1 .1 .1 .0 .0 .1) (a .1 .1 .1 .1 .0 .ptr .0) (a .1 .1 .1 .1 .0 .ptr .1) (a .1 .1 .1 .1 .0 .name) (a .1 .1 .1 .1 .0 .now) (are .1 .1 .1 .1 .0 .0 .1) (a .1 .1 .1 .1 .1 .0 .ptr .0) (a .1 .1 .1 .1 .1 .0 .ptr .1) (a .1 .1 .1 .1 .1 .0 .name) (a .1 .1 .1 .1 .1 .0 .now) (are .1 .1 .1 .1 .1 .0 .0 .1) (a .1 .1 .1 .1 .1 .1 .0 .ptr .0) (a .1 .1 .1 .1 .1 .1 .0 .ptr .1) (a .1 .1 .1 .1 .1 .1 .0 .name) (a .1 .1 .1 .1 .1 .1 .0 .now) (are .1 .1 .1 .1 .1 .1 .0 .0 .1) (a .1 .1 .1 .1 .1 .1 .1 .0 .ptr .0) (a .1 .1 .1 .1 .1 .1 .1 .0 .ptr .1) (a .1 .1 .1 .1 .1 .1 .1 .0 .name) (a .1 .1 .1 .1 .1 .1 .1 .0 .now) (are .1 .1 .1 .1 .1 .1 .1 .0 .0 .1) (a .0) (are .0) (a .1 .1 .1 .1 .1 .1 .1 .1 .0) (are .1 .1 .1 .1 .1 .1 .1 .1 .0) 𝓣 m-get-on))
@@ -209,4 +209,4 @@ get-in2-spec 𝓤 H 𝓜 𝓖 𝓡 =
     entered 𝓤 H (tripleOf 𝓤 H (𝓖 .A) get-in2.signature (get-in2.spec 𝓤 H (𝓖 .A) (𝓜 .mem) (𝓡 .run)))
     (tables 𝓤 H 𝓜 𝓡 code.env .C) (tables 𝓤 H 𝓜 𝓡 code.env .Λ) #record-frame·get-in2 code.function (code.unfolded 𝓤 H 𝓜 𝓡)
     (get-in2-meets 𝓤 H (𝓖 .A) (givenOf 𝓤 H 𝓜 𝓖) (𝓜 .mem) (𝓡 .run) (tablesOf 𝓤 H 𝓜 (tables 𝓤 H 𝓜 𝓡 code.env))
-    (cited 𝓤 H (Get-on 𝓤 H (𝓖 .A) (𝓜 .mem) (𝓡 .run)) 𝓜 𝓡 code.env #record-reads·get get-def.routine code.calls-record-reads·get (get-thm.met 𝓤 H 𝓜 𝓖 𝓡)))
+    (cited 𝓤 H (Get-on 𝓤 H (𝓖 .A) (𝓜 .mem) (𝓡 .run)) 𝓜 𝓡 code.env #record-get·get get-def.routine code.calls-record-get·get (get-thm.met 𝓤 H 𝓜 𝓖 𝓡)))

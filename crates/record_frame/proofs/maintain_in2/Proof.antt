@@ -38,12 +38,12 @@ use denote.Triple.Statement.{Triple}
 use denote.Triple.Table.{entered, cited}
 use denote.Triple.Walked.{says, Stays, stay-slice, walkOf, goes-slice, Walks, ends-at, walked, walk-meets}
 use denote.Exit.{yes}
-use Rattle.objects.specs.declared.Record.{Record}
-use Rattle.objects.proofs.Record as RT
-use Rattle.objects.proofs.Record.Laws as RT′
-use Rattle.maintain.specs.declared.Maintained.{Maintained}
-use Rattle.maintain.proofs.Maintained as MT
-use Rattle.maintain.proofs.Maintained.Laws as MT′
+use Rattle.point_records.specs.declared.Record.{Record}
+use Rattle.point_records.proofs.Record as RT
+use Rattle.point_records.proofs.Record.Laws as RT′
+use Rattle.point_maintain.specs.declared.Maintained.{Maintained}
+use Rattle.point_maintain.proofs.Maintained as MT
+use Rattle.point_maintain.proofs.Maintained.Laws as MT′
 use Rattle.records.proofs.Rows.{R, vals, N4, F4, Z4, N2, F2}
 use Rattle.record_frame.proofs.Values.{MR, Mvals}
 use Rattle.records.proofs.Lends.{to}
@@ -68,12 +68,12 @@ use denote.Steps.{only, peeks}
 use denote.Struct.Steps.{spelt}
 use denote.Triple.Walked.{stay-dropped, goes-dropped}
 use Rattle.records.specs.Meaning.Seen.{Seen, seen}
-use Rattle.record_upkeep.specs.Meaning.Calls.{maintainOn}
+use Rattle.record_maintain.specs.Meaning.Calls.{maintainOn}
 use Rattle.point_tables.specs.Meaning.Tables.{tables as tabled}
 use Rattle.record_frame.proofs.TableCalls.{Maintain-on, calls-maintain-on}
-use Rattle.record_upkeep.proofs.maintain.Symbol as maintain-def
-use Rattle.record_upkeep.proofs.maintain.Symbol.{name as #record-upkeep·maintain}
-use Rattle.record_upkeep.proofs.maintain.Met as maintain-thm
+use Rattle.record_maintain.proofs.maintain.Symbol as maintain-def
+use Rattle.record_maintain.proofs.maintain.Symbol.{name as #record-maintain·maintain}
+use Rattle.record_maintain.proofs.maintain.Met as maintain-thm
 use Rattle.record_frame.proofs.maintain_in2.Key.{name as #record-frame·maintain-in2}
 use Rattle.record_frame.proofs.maintain_in2 as maintain-in2
 use Rattle.record_frame.proofs.maintain_in2.Statement as stated
@@ -155,7 +155,7 @@ module _ {M : Type 1} (𝓤 : URA M) (H : Heap 𝓤) (A : Atoms 𝓤) (W : Given
       qed W (left r zs) ∵ suffices ! _ (ends-at 𝓤 H A maintain-in2.ended stayed (maintain-in2.clauses 𝓤 H A mem run) W bound (mach (zs .0)) (zs .0) (tt, ((zs .1 .0), ((zs .1 .1 .0), ((zs .1 .1 .1 .0), ((zs .1 .1 .1 .1 .0), ((zs .1 .1 .1 .1 .1 .0), ((zs .1 .1 .1 .1 .1 .1 .0), ((zs .1 .1 .1 .1 .1 .1 .1 .0), tt)))))))) (tt, (n₀, (n₁, (n₂, (n₃, (n₄, (n₅, (n₆, tt))))))))) $ says ! (ap (λ (o : Seen Maintained). o .records) eq) $
       nothing ! $ move ! (14 ∷ 0 ∷ []) $ join ! $ move ! (12 ∷ 0 ∷ []) $ join ! $ move ! (10 ∷ 0 ∷ []) $ join ! $ move ! (8 ∷ 0 ∷ []) $ join ! $ move ! (6 ∷ 0 ∷ []) $ join ! $ move ! (4 ∷ 0 ∷ []) $ join ! $ move ! (2 ∷ 0 ∷ []) $ join ! $ frame ! $ nothing ! $ move ! (7 ∷ 0 ∷ []) $ fjoin ! $ move ! (6 ∷ 0 ∷ []) $ fjoin ! $ move ! (5 ∷ 0 ∷ []) $ fjoin ! $ move ! (4 ∷ 0 ∷ []) $ fjoin ! $ move ! (3 ∷ 0 ∷ []) $ fjoin ! $ move ! (2 ∷ 0 ∷ []) $ fjoin ! $ move ! (1 ∷ 0 ∷ []) $ fjoin ! $ nothing ! $ fjoin ! $ frame ! $ owned ! Q (Is Q) (array-makes 𝓤 H A W R (LL.makes RT.the-type RT′.the-plain 𝓤 H A) 2) (zs .0) _ gu $ done !
 
-  module _ (𝓣 : Tables 𝓤 H) (m-maintain-on : Triple 𝓤 (𝓣 .C #record-upkeep·maintain) (Maintain-on 𝓤 H A mem run)) where
+  module _ (𝓣 : Tables 𝓤 H) (m-maintain-on : Triple 𝓤 (𝓣 .C #record-maintain·maintain) (Maintain-on 𝓤 H A mem run)) where
     walk : ent 𝓤 (onEntry 𝓤 H A maintain-in2.signature (κ₀, (κ₁, (κ₂, (κ₃, (κ₄, (κ₅, (κ₆, tt))))))) (q₀, (q₁, (q₂, (q₃, (q₄, (q₅, (q₆, tt))))))) x at) (WpFn 𝓤 H (𝓣 .C) (𝓣 .Λ) code.function (mach v₀ ∷ s₀ ∷ s₁ ∷ s₂ ∷ s₃ ∷ s₄ ∷ s₅ ∷ s₆ ∷ []) Post)
     walk =
         qed W ((‵ (flft κ₀ q₀) ⊛ ‵ (flft κ₁ q₁) ⊛ ‵ (flft κ₂ q₂) ⊛ ‵ (flft κ₃ q₃) ⊛ ‵ (flft κ₄ q₄) ⊛ ‵ (flft κ₅ q₅) ⊛ ‵ (flft κ₆ q₆) ⊛ ‵ ftrue) ∷ ‵ (owns (Q ∷ MutSlice (named 0) κ₀ N4 ∷ MutSlice (named 1) κ₁ F4 ∷ MutSlice (named 2) κ₂ Z4 ∷ MutSlice (named 3) κ₃ u64 ∷ MutSlice (named 4) κ₄ N2 ∷ MutSlice (named 5) κ₅ F2 ∷ MutSlice (named 6) κ₆ N2 ∷ []) x at) ∷ []) ∵ enter ! (𝓣 .C) (𝓣 .Λ) code.function (mach v₀ ∷ s₀ ∷ s₁ ∷ s₂ ∷ s₃ ∷ s₄ ∷ s₅ ∷ s₆ ∷ []) _ $
@@ -194,7 +194,7 @@ module _ {M : Type 1} (𝓤 : URA M) (H : Heap 𝓤) (A : Atoms 𝓤) (W : Given
         move ! (66 ∷ 67 ∷ []) $ free1 ! $ move ! (64 ∷ 65 ∷ []) $ free1 ! $ move ! (62 ∷ 63 ∷ []) $ free1 ! $ move ! (60 ∷ 61 ∷ []) $ free1 ! $ move ! (58 ∷ 59 ∷ []) $ free1 ! $ move ! (56 ∷ 57 ∷ []) $ free1 ! $ move ! (54 ∷ 55 ∷ []) $ free1 ! $ move ! (52 ∷ 53 ∷ []) $ free1 ! $ move ! (50 ∷ 51 ∷ []) $ free1 ! $ move ! (0 ∷ 49 ∷ []) $ free1 ! $ move ! (46 ∷ 47 ∷ []) $ free1 ! $ move ! (44 ∷ 45 ∷ []) $ free1 ! $ move ! (42 ∷ 43 ∷ []) $ free1 ! $ move ! (40 ∷ 41 ∷ []) $ free1 ! $ move ! (38 ∷ 39 ∷ []) $ free1 ! $ move ! (36 ∷ 37 ∷ []) $ free1 ! $ move ! (34 ∷ 35 ∷ []) $ free1 ! $ move ! (32 ∷ 33 ∷ []) $ free1 ! $ move ! (30 ∷ 31 ∷ []) $ free1 ! $ move ! (28 ∷ 29 ∷ []) $ free1 ! $ move ! (26 ∷ 27 ∷ []) $ free1 ! $ move ! (24 ∷ 25 ∷ []) $ free1 ! $ move ! (22 ∷ 23 ∷ []) $ free1 ! $ move ! (20 ∷ 21 ∷ []) $ free1 ! $ move ! (18 ∷ 19 ∷ []) $ free1 ! $ move ! (16 ∷ 17 ∷ []) $ free1 ! $ move ! (14 ∷ 15 ∷ []) $ free1 ! $ free0 ! $
         keep ! (0 ∷ 1 ∷ 2 ∷ 3 ∷ 4 ∷ 5 ∷ 6 ∷ 7 ∷ 8 ∷ 9 ∷ 10 ∷ 11 ∷ 12 ∷ 13 ∷ []) $ by ! (exits r zs n₀ n₁ n₂ n₃ n₄ n₅ n₆ eq gr gu))))))))))))))))))))))))))))))))
 
-module _ {M : Type 1} (𝓤 : URA M) (H : Heap 𝓤) (A : Atoms 𝓤) (W : Given 𝓤 H A) (mem : Memory → SProp 𝓤) (run : Routine → Fun 𝓤) (𝓣 : Tables 𝓤 H) (m-maintain-on : Triple 𝓤 (𝓣 .C #record-upkeep·maintain) (Maintain-on 𝓤 H A mem run)) where
+module _ {M : Type 1} (𝓤 : URA M) (H : Heap 𝓤) (A : Atoms 𝓤) (W : Given 𝓤 H A) (mem : Memory → SProp 𝓤) (run : Routine → Fun 𝓤) (𝓣 : Tables 𝓤 H) (m-maintain-on : Triple 𝓤 (𝓣 .C #record-maintain·maintain) (Maintain-on 𝓤 H A mem run)) where
   maintain-in2-walks : Walks 𝓤 H A maintain-in2.ended stayed (WpFn 𝓤 H (𝓣 .C) (𝓣 .Λ) code.function) (maintain-in2.clauses 𝓤 H A mem run)
   maintain-in2-walks = walked 𝓤 H A maintain-in2.ended stayed (maintain-in2.clauses 𝓤 H A mem run) (WpFn 𝓤 H (𝓣 .C) (𝓣 .Λ) code.function) (λ κs. (array-vals vals, (slice-vals, (slice-vals, (slice-vals, (slice-vals, (slice-vals, (slice-vals, (slice-vals, tt))))))))) (λ κs. (tells-array, (mut-slice-tells (named 0) (κs .0) N4, (mut-slice-tells (named 1) (κs .1 .0) F4, (mut-slice-tells (named 2) (κs .1 .1 .0) Z4, (mut-slice-tells (named 3) (κs .1 .1 .1 .0) u64, (mut-slice-tells (named 4) (κs .1 .1 .1 .1 .0) N2, (mut-slice-tells (named 5) (κs .1 .1 .1 .1 .1 .0) F2, (mut-slice-tells (named 6) (κs .1 .1 .1 .1 .1 .1 .0) N2, tt)))))))))
       (λ κs qs bounds a g are. via 𝓤 _ (fst∗ 𝓤 _ (emp 𝓤)) (walk 𝓤 H A W mem run (κs .0) (κs .1 .0) (κs .1 .1 .0) (κs .1 .1 .1 .0) (κs .1 .1 .1 .1 .0) (κs .1 .1 .1 .1 .1 .0) (κs .1 .1 .1 .1 .1 .1 .0) (qs .0) (qs .1 .0) (qs .1 .1 .0) (qs .1 .1 .1 .0) (qs .1 .1 .1 .1 .0) (qs .1 .1 .1 .1 .1 .0) (qs .1 .1 .1 .1 .1 .1 .0) (a .1 .0 .ptr .0) (a .1 .0 .ptr .1) (a .1 .0 .name) (a .1 .0 .now) (are .1 .0 .0 .1) (a .1 .1 .0 .ptr .0) (a .1 .1 .0 .ptr .1) (a .1 .1 .0 .name) (a .1 .1 .0 .now) (are .1 .1 .0 .0 .1) (a .1 .1 .1 .0 .ptr .0) (a .1 .1 .1 .0 .ptr .1) (a .1 .1 .1 .0 .name) (a .1 .1 .1 .0 .now) (are .1 .1 .1 .0 .0 .1) (a .1 .1 .1 .1 .0 .ptr .0) (a .1 .1 .1 .1 .0 .ptr .1) (a .1 .1 .1 .1 .0 .name) (a .1 .1 .1 .1 .0 .now) (are .1 .1 .1 .1 .0 .0 .1) (a .1 .1 .1 .1 .1 .0 .ptr .0) (a .1 .1 .1 .1 .1 .0 .ptr .1) (a .1 .1 .1 .1 .1 .0 .name) (a .1 .1 .1 .1 .1 .0 .now) (are .1 .1 .1 .1 .1 .0 .0 .1) (a .1 .1 .1 .1 .1 .1 .0 .ptr .0) (a .1 .1 .1 .1 .1 .1 .0 .ptr .1) (a .1 .1 .1 .1 .1 .1 .0 .name) (a .1 .1 .1 .1 .1 .1 .0 .now) (are .1 .1 .1 .1 .1 .1 .0 .0 .1) (a .1 .1 .1 .1 .1 .1 .1 .0 .ptr .0) (a .1 .1 .1 .1 .1 .1 .1 .0 .ptr .1) (a .1 .1 .1 .1 .1 .1 .1 .0 .name) (a .1 .1 .1 .1 .1 .1 .1 .0 .now) (are .1 .1 .1 .1 .1 .1 .1 .0 .0 .1) (a .0) (are .0) 𝓣 m-maintain-on))
@@ -208,4 +208,4 @@ maintain-in2-spec 𝓤 H 𝓜 𝓖 𝓡 =
     entered 𝓤 H (tripleOf 𝓤 H (𝓖 .A) maintain-in2.signature (maintain-in2.spec 𝓤 H (𝓖 .A) (𝓜 .mem) (𝓡 .run)))
     (tables 𝓤 H 𝓜 𝓡 code.env .C) (tables 𝓤 H 𝓜 𝓡 code.env .Λ) #record-frame·maintain-in2 code.function (code.unfolded 𝓤 H 𝓜 𝓡)
     (maintain-in2-meets 𝓤 H (𝓖 .A) (givenOf 𝓤 H 𝓜 𝓖) (𝓜 .mem) (𝓡 .run) (tablesOf 𝓤 H 𝓜 (tables 𝓤 H 𝓜 𝓡 code.env))
-    (cited 𝓤 H (Maintain-on 𝓤 H (𝓖 .A) (𝓜 .mem) (𝓡 .run)) 𝓜 𝓡 code.env #record-upkeep·maintain maintain-def.routine code.calls-record-upkeep·maintain (maintain-thm.met 𝓤 H 𝓜 𝓖 𝓡)))
+    (cited 𝓤 H (Maintain-on 𝓤 H (𝓖 .A) (𝓜 .mem) (𝓡 .run)) 𝓜 𝓡 code.env #record-maintain·maintain maintain-def.routine code.calls-record-maintain·maintain (maintain-thm.met 𝓤 H 𝓜 𝓖 𝓡)))

@@ -10,16 +10,16 @@ use Rattle.basics.specs.Meaning.Refusals.{pick}
 use Rattle.geometry.specs.declared.Position.{Position}
 use Rattle.slots.specs.declared.Handle.{Handle}
 use Rattle.replies.specs.Meaning.Replies.{count}
-use Rattle.objects.specs.declared.Record.{Record}
+use Rattle.point_records.specs.declared.Record.{Record}
 use Rattle.point_tables.specs.Meaning.Tables.{Tables}
-use Rattle.moves.specs.Meaning.Moves.{setPositionOf, removeOf}
-use Rattle.moves.specs.Meaning.Batch.{Call as Deferred, callOf, tablesAfter}
-use Rattle.maintain.specs.Meaning.Maintain.{maintainOf}
-use Rattle.queries.specs.Meaning.Queries.{Findings, findings, aroundOf}
-use Rattle.stands.specs.Meaning.Report.{ReportedAt, Reports, Due}
-use Rattle.stands.proofs.laws.StandsLaws.{Settled}
-use Rattle.stands.specs.Meaning.Stands.{nextMaintain}
-use Rattle.stands.proofs.laws.ReportLaws.{circle-reports, reports-once}
+use Rattle.point_deferred.specs.Meaning.Moves.{setPositionOf, removeOf}
+use Rattle.point_deferred.specs.Meaning.Batch.{Call as Deferred, callOf, tablesAfter}
+use Rattle.point_maintain.specs.Meaning.Maintain.{maintainOf}
+use Rattle.point_query.specs.Meaning.Queries.{Findings, findings, aroundOf}
+use Rattle.whereabouts.specs.Meaning.Report.{ReportedAt, Reports, Due}
+use Rattle.whereabouts.proofs.laws.StandsLaws.{Settled}
+use Rattle.whereabouts.specs.Meaning.Stands.{nextMaintain}
+use Rattle.whereabouts.proofs.laws.ReportLaws.{circle-reports, reports-once}
 use Rattle.record_histories.specs.Inner.RecordHistory.{setPosition, remove, onColumns, recordsAfter, besidesAfter, SameGrid}
 use Rattle.record_histories.proofs.laws.RecordHistory.{columnsAfter}
 use Rattle.record_histories.specs.Inner.RecordReport.{deferred, frame, reportAfter}

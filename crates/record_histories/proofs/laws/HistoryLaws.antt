@@ -8,29 +8,29 @@ use lib.ListN.{length, set, length-set}
 use Rattle.basics.specs.Meaning.Refusals.{pick}
 use Rattle.geometry.specs.declared.Position.{Position}
 use Rattle.slots.specs.declared.Handle.{Handle}
-use Rattle.objects.specs.declared.Record.{Record}
-use Rattle.objects.specs.Meaning.Columns.{numsOf}
-use Rattle.objects.specs.declared.State.the-variants.{Removed}
-use Rattle.objects.specs.Meaning.States.{aimed}
+use Rattle.point_records.specs.declared.Record.{Record}
+use Rattle.point_records.specs.Meaning.Columns.{numsOf}
+use Rattle.point_records.specs.declared.State.the-variants.{Removed}
+use Rattle.point_records.specs.Meaning.States.{aimed}
 use Rattle.point_tables.specs.Meaning.Tables.{Tables, sizeOf, slotsOf, recordOn}
 use Rattle.point_tables.specs.Meaning.Holds.{Holds}
 use Rattle.point_tables.specs.Meaning.Decide.{holds}
 use Rattle.point_tables.specs.Meaning.Outcome.{Outcome, outcome}
 use Rattle.replies.specs.Meaning.Replies.{count, reply, inserted}
-use Rattle.moves.specs.Meaning.Moves.{pended, setPositionAnswer, setPositionOf, removeAnswer, removeOf}
-use Rattle.moves.proofs.laws.PendedLaws.{nums-long}
-use Rattle.moves.proofs.laws.MovesKeeps.{set-position-keeps, remove-keeps}
-use Rattle.inserts.specs.Meaning.Insert.{put, insertAnswer, insertOf, newRecord, usableSlot}
-use Rattle.inserts.proofs.laws.InsertLaws.{insert-holds}
-use Rattle.maintain.specs.Meaning.Maintain.{maintained, maintainedCounts, maintainOf}
-use Rattle.maintain.proofs.laws.MaintainLaws.{maintain-done, maintain-keeps}
-use Rattle.maintain.proofs.laws.MaintainedLaws.{maintained-slots}
-use Rattle.reads.specs.Meaning.{got, getOf, lenOf}
+use Rattle.point_deferred.specs.Meaning.Moves.{pended, setPositionAnswer, setPositionOf, removeAnswer, removeOf}
+use Rattle.point_deferred.proofs.laws.PendedLaws.{nums-long}
+use Rattle.point_deferred.proofs.laws.MovesKeeps.{set-position-keeps, remove-keeps}
+use Rattle.point_insert.specs.Meaning.Insert.{put, insertAnswer, insertOf, newRecord, usableSlot}
+use Rattle.point_insert.proofs.laws.InsertLaws.{insert-holds}
+use Rattle.point_maintain.specs.Meaning.Maintain.{maintained, maintainedCounts, maintainOf}
+use Rattle.point_maintain.proofs.laws.MaintainLaws.{maintain-done, maintain-keeps}
+use Rattle.point_maintain.proofs.laws.MaintainedLaws.{maintained-slots}
+use Rattle.point_get.specs.Meaning.{got, getOf, lenOf}
 use Rattle.geometry.specs.Meaning.Zero.{zero-position}
-use Rattle.queries.specs.Meaning.Queries.{findings, aroundOf}
+use Rattle.point_query.specs.Meaning.Queries.{findings, aroundOf}
 use Rattle.slots.specs.Meaning.Map.{slotIn}
 use Rattle.slots.specs.Meaning.Slot.{versionAt}
-use Rattle.maintain.specs.declared.Maintained.{Maintained}
+use Rattle.point_maintain.specs.declared.Maintained.{Maintained}
 use Rattle.records.specs.Meaning.Spread.{besides, recordsIn}
 use Rattle.records.proofs.laws.SpreadLaws.{gathered-length}
 use Rattle.records.proofs.laws.AlikeLaws.{alike-itself}

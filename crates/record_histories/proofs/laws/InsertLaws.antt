@@ -11,14 +11,14 @@ use Rattle.slots.specs.Meaning.Map.{taken, lowestUsable, slotIn}
 use Rattle.slots.specs.Meaning.Slot.{versionAt}
 use Rattle.storage.specs.Meaning.Keyed.{written}
 use Rattle.storage.specs.Meaning.Entries.{rowOf, spotOf}
-use Rattle.objects.specs.declared.Record.{Record}
-use Rattle.objects.specs.Meaning.Columns.{numsOf, realsOf, intsOf}
+use Rattle.point_records.specs.declared.Record.{Record}
+use Rattle.point_records.specs.Meaning.Columns.{numsOf, realsOf, intsOf}
 use Rattle.point_tables.specs.Meaning.Tables.{Tables, tables, sizeOf, counting}
 use Rattle.point_tables.specs.Meaning.Holds.{Holds}
 use Rattle.point_tables.specs.Meaning.Outcome.{outcome, stored}
 use Rattle.replies.specs.Meaning.Replies.{inserted}
-use Rattle.inserts.specs.Inner.Fresh.{freshRecord}
-use Rattle.inserts.specs.Meaning.Insert.{usableSlot, entriesWith, rowsWith, put, insertAnswer, insertOf}
+use Rattle.point_insert.specs.Inner.Fresh.{freshRecord}
+use Rattle.point_insert.specs.Meaning.Insert.{usableSlot, entriesWith, rowsWith, put, insertAnswer, insertOf}
 use Rattle.records.specs.Inner.Alike.{Alike, withColumns}
 use Rattle.records.proofs.laws.Alike.{Respects}
 use Rattle.records.proofs.laws.AlikeLaws.{both-hold}

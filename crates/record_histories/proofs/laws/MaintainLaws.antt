@@ -17,18 +17,18 @@ use Rattle.slots.specs.Meaning.Slot.{live, phaseAt}
 use Rattle.storage.specs.Meaning.Keyed.{under, onList, appendAll, written}
 use Rattle.storage.specs.Meaning.Entries.{Entry, rowOf, spotOf, entryKey}
 use Rattle.storage.specs.Meaning.CellTable.{fresh}
-use Rattle.objects.specs.declared.State.{State}
-use Rattle.objects.specs.declared.Record.{Record}
-use Rattle.objects.specs.Meaning.States.{isRemoved}
+use Rattle.point_records.specs.declared.State.{State}
+use Rattle.point_records.specs.declared.Record.{Record}
+use Rattle.point_records.specs.Meaning.States.{isRemoved}
 use Rattle.point_tables.specs.Meaning.Tables.{Tables, tables, sizeOf, slotsOf, recordOn, entriesIn, cellRows, counting, slotOf}
 use Rattle.point_tables.specs.Meaning.Holds.{Holds}
-use Rattle.maintain.specs.Meaning.Walk.{settled, Fate, fateBy, fate, staying, leaving, rest, after, Walked, walk}
-use Rattle.maintain.specs.Meaning.Maintain.{Sweep, isDirty, visit, sweep, swept, bySlot, entriesAfter, cellKeys, maintainedBy, maintained, isMoving}
-use Rattle.maintain.specs.Meaning.Maintain.{countStates, maintainedCounts, maintainOf}
-use Rattle.maintain.proofs.laws.SettleForm.{rowsAt, rowsAfter, backBy, comesBack, settledRecord, settled-form}
-use Rattle.maintain.specs.Inner.SettleLaws.{Shaped}
-use Rattle.maintain.proofs.laws.SettleLaws.{sized-shaped, settled-shaped, settled-slots, settled-reals, settled-ints, settled-pool, settled-spots}
-use Rattle.maintain.proofs.laws.SettleLaws.{settled-cells, settled-other, settled-same}
+use Rattle.point_maintain.specs.Meaning.Walk.{settled, Fate, fateBy, fate, staying, leaving, rest, after, Walked, walk}
+use Rattle.point_maintain.specs.Meaning.Maintain.{Sweep, isDirty, visit, sweep, swept, bySlot, entriesAfter, cellKeys, maintainedBy, maintained, isMoving}
+use Rattle.point_maintain.specs.Meaning.Maintain.{countStates, maintainedCounts, maintainOf}
+use Rattle.point_maintain.proofs.laws.SettleForm.{rowsAt, rowsAfter, backBy, comesBack, settledRecord, settled-form}
+use Rattle.point_maintain.specs.Inner.SettleLaws.{Shaped}
+use Rattle.point_maintain.proofs.laws.SettleLaws.{sized-shaped, settled-shaped, settled-slots, settled-reals, settled-ints, settled-pool, settled-spots}
+use Rattle.point_maintain.proofs.laws.SettleLaws.{settled-cells, settled-other, settled-same}
 use Rattle.records.specs.Inner.Alike.{Alike, withColumns}
 use Rattle.records.proofs.laws.Alike.{Respects}
 use Rattle.records.proofs.laws.AlikeLaws.{both-hold, alike-itself}

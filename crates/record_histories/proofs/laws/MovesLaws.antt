@@ -8,15 +8,15 @@ use Rattle.cells.specs.Meaning.Key.{keyOf}
 use Rattle.slots.specs.declared.Handle.{Handle}
 use Rattle.storage.specs.Meaning.Keyed.{written}
 use Rattle.storage.specs.Meaning.CellTable.{marked}
-use Rattle.objects.specs.declared.State.{State}
-use Rattle.objects.specs.declared.State.the-variants.{Removed}
-use Rattle.objects.specs.declared.Record.{Record}
-use Rattle.objects.specs.Meaning.States.{aimed, withState}
+use Rattle.point_records.specs.declared.State.{State}
+use Rattle.point_records.specs.declared.State.the-variants.{Removed}
+use Rattle.point_records.specs.declared.Record.{Record}
+use Rattle.point_records.specs.Meaning.States.{aimed, withState}
 use Rattle.point_tables.specs.Meaning.Tables.{Tables, sizeOf, recordOn, cellRows}
 use Rattle.point_tables.specs.Meaning.Holds.{Holds}
 use Rattle.point_tables.specs.Meaning.Outcome.{outcome, stored}
 use Rattle.replies.specs.Meaning.Replies.{reply}
-use Rattle.moves.specs.Meaning.Moves.{pended, setPositionAnswer, setPositionOf, removeAnswer, removeOf}
+use Rattle.point_deferred.specs.Meaning.Moves.{pended, setPositionAnswer, setPositionOf, removeAnswer, removeOf}
 use Rattle.records.specs.Inner.Alike.{Alike, withColumns}
 use Rattle.records.proofs.laws.Alike.{Respects}
 use Rattle.records.proofs.laws.AlikeLaws.{both-hold, good-alike}

@@ -12,13 +12,13 @@ use Rattle.geometry.specs.declared.Position.{Position}
 use Rattle.slots.specs.declared.Handle.{Handle}
 use Rattle.slots.specs.Meaning.Slot.{live, phaseAt, versionAt}
 use Rattle.slot_walks.specs.Meaning.Live.{liveFrom, handleAt, handlesIn}
-use Rattle.objects.specs.declared.Record.{Record}
+use Rattle.point_records.specs.declared.Record.{Record}
 use Rattle.point_tables.specs.Meaning.Tables.{Tables}
 use Rattle.point_tables.specs.Meaning.Holds.{Holds}
-use Rattle.reads.specs.Meaning.{liveHandles, getOf, lenOf}
+use Rattle.point_get.specs.Meaning.{liveHandles, getOf, lenOf}
 use Rattle.storage.specs.Meaning.Entries.{Entry, rowItem}
-use Rattle.queries.specs.declared.Test.the-variants.{Circle}
-use Rattle.queries.specs.Meaning.Queries.{handleRow, found, searchAnswer, searchOf, aroundOf}
+use Rattle.point_query.specs.declared.Test.the-variants.{Circle}
+use Rattle.point_query.specs.Meaning.Queries.{handleRow, found, searchAnswer, searchOf, aroundOf}
 use Rattle.geometry.specs.Meaning.Circle.{cornerBelow, cornerAbove}
 use Rattle.records.specs.Inner.Alike.{Alike, withColumns}
 use Rattle.records.proofs.laws.Alike.{Reads}

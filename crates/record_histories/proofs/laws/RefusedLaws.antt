@@ -12,23 +12,23 @@ use Rattle.slots.specs.declared.Handle.{Handle}
 use Rattle.replies.specs.declared.Reply.{Reply}
 use Rattle.replies.specs.Meaning.Replies.{reply, inserted}
 use Rattle.storage.proofs.laws.FilterLaws.{by-test}
-use Rattle.objects.specs.declared.Record.{Record}
+use Rattle.point_records.specs.declared.Record.{Record}
 use Rattle.point_tables.specs.Meaning.Tables.{Tables, slotsOf}
 use Rattle.point_tables.specs.Meaning.Holds.{Holds}
 use Rattle.point_tables.specs.Meaning.Decide.{holds, holds-says}
 use Rattle.point_tables.specs.Meaning.Outcome.{Outcome, outcome}
-use Rattle.moves.specs.Meaning.Moves.{setPositionAnswer, setPositionOf, removeAnswer, removeOf}
-use Rattle.inserts.proofs.laws.InsertLaws.{insert-unheld}
-use Rattle.inserts.specs.Meaning.Insert.{insertOf}
-use Rattle.maintain.specs.Meaning.Maintain.{maintainedCounts, maintainOf}
-use Rattle.maintain.proofs.laws.MaintainLaws.{maintain-refused}
+use Rattle.point_deferred.specs.Meaning.Moves.{setPositionAnswer, setPositionOf, removeAnswer, removeOf}
+use Rattle.point_insert.proofs.laws.InsertLaws.{insert-unheld}
+use Rattle.point_insert.specs.Meaning.Insert.{insertOf}
+use Rattle.point_maintain.specs.Meaning.Maintain.{maintainedCounts, maintainOf}
+use Rattle.point_maintain.proofs.laws.MaintainLaws.{maintain-refused}
 use Rattle.records.specs.Meaning.Spread.{besides}
 use Rattle.records.specs.Meaning.Seen.{seen, back, onRecords}
 use Rattle.records.proofs.laws.SpreadLaws.{spread-gathered}
 use Rattle.records.proofs.laws.SeenLaws.{rows-same, rows-other}
-use Rattle.record_moves.specs.Meaning.Calls.{setPositionOn, removeOn}
-use Rattle.record_inserts.specs.Meaning.Calls.{insertOn}
-use Rattle.record_upkeep.specs.Meaning.Calls.{maintainOn}
+use Rattle.record_deferred.specs.Meaning.Calls.{setPositionOn, removeOn}
+use Rattle.record_insert.specs.Meaning.Calls.{insertOn}
+use Rattle.record_maintain.specs.Meaning.Calls.{maintainOn}
 
 module _ {R : Type 0} (call : Tables → Outcome R) (refused : R) (rs : List Record) (t : Tables) where
   abbrev b : Tables

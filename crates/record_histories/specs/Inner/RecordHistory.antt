@@ -11,25 +11,25 @@ use Rattle.slots.specs.declared.Handle.{Handle}
 use Rattle.replies.specs.declared.Reply.{Reply}
 use Rattle.replies.specs.declared.Inserted.{Inserted}
 use Rattle.replies.specs.declared.Count.{Count}
-use Rattle.objects.specs.declared.Record.{Record}
+use Rattle.point_records.specs.declared.Record.{Record}
 use Rattle.point_tables.specs.Meaning.Tables.{Tables, slotsOf}
 use Rattle.point_tables.specs.Meaning.Holds.{Holds}
 use Rattle.point_tables.specs.Meaning.Outcome.{Outcome, outcome}
-use Rattle.moves.specs.Meaning.Moves.{setPositionOf, removeOf}
-use Rattle.inserts.specs.Meaning.Insert.{insertOf}
-use Rattle.maintain.specs.declared.Maintained.{Maintained}
-use Rattle.maintain.specs.Meaning.Maintain.{maintainOf}
-use Rattle.reads.specs.declared.Got.{Got}
-use Rattle.reads.specs.Meaning.{getOf, lenOf}
-use Rattle.queries.specs.Meaning.Queries.{Findings, aroundOf}
+use Rattle.point_deferred.specs.Meaning.Moves.{setPositionOf, removeOf}
+use Rattle.point_insert.specs.Meaning.Insert.{insertOf}
+use Rattle.point_maintain.specs.declared.Maintained.{Maintained}
+use Rattle.point_maintain.specs.Meaning.Maintain.{maintainOf}
+use Rattle.point_get.specs.declared.Got.{Got}
+use Rattle.point_get.specs.Meaning.{getOf, lenOf}
+use Rattle.point_query.specs.Meaning.Queries.{Findings, aroundOf}
 use Rattle.records.specs.Meaning.Spread.{besides}
 use Rattle.records.specs.Meaning.Seen.{Seen, seen}
 use Rattle.records.specs.Inner.Alike.{Alike}
-use Rattle.record_moves.specs.Meaning.Calls.{setPositionOn, removeOn}
-use Rattle.record_inserts.specs.Meaning.Calls.{insertOn}
-use Rattle.record_upkeep.specs.Meaning.Calls.{maintainOn}
-use Rattle.record_reads.specs.Meaning.Calls.{getOn, lenOn}
-use Rattle.record_queries.specs.Meaning.Calls.{aroundOn}
+use Rattle.record_deferred.specs.Meaning.Calls.{setPositionOn, removeOn}
+use Rattle.record_insert.specs.Meaning.Calls.{insertOn}
+use Rattle.record_maintain.specs.Meaning.Calls.{maintainOn}
+use Rattle.record_get.specs.Meaning.Calls.{getOn, lenOn}
+use Rattle.record_query.specs.Meaning.Calls.{aroundOn}
 
 -- a call with all that it is handed besides the tables
 pub data Call : Type 0 where

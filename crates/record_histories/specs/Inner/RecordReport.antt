@@ -5,11 +5,11 @@ use lib.Dec.{eqb}
 use lib.Ieee.{Float}
 use Rattle.basics.specs.Meaning.Refusals.{pick}
 use Rattle.geometry.specs.declared.Position.{Position}
-use Rattle.objects.specs.declared.Record.{Record}
+use Rattle.point_records.specs.declared.Record.{Record}
 use Rattle.point_tables.specs.Meaning.Tables.{Tables}
-use Rattle.moves.specs.Meaning.Batch.{Call as Deferred}
-use Rattle.queries.specs.Meaning.Queries.{Findings}
-use Rattle.record_queries.specs.Meaning.Calls.{aroundOn}
+use Rattle.point_deferred.specs.Meaning.Batch.{Call as Deferred}
+use Rattle.point_query.specs.Meaning.Queries.{Findings}
+use Rattle.record_query.specs.Meaning.Calls.{aroundOn}
 use Rattle.record_histories.specs.Inner.RecordHistory.{Call, setPosition, remove, maintain, recordsAfter, besidesAfter}
 
 -- kind 0 is `set_position`, any other `remove`

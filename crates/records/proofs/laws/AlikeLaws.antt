@@ -6,9 +6,9 @@ use Rattle.cells.specs.Meaning.Key.{keyOf}
 use Rattle.slots.specs.Meaning.Map.{head, wordsFor, usable}
 use Rattle.slots.specs.Meaning.Slot.{phaseAt, good, SlotHolds}
 use Rattle.storage.specs.Meaning.Packed.{second}
-use Rattle.objects.specs.declared.Record.{Record}
-use Rattle.objects.specs.Meaning.Columns.{tagOf}
-use Rattle.objects.specs.Meaning.Occupied.{Occupied}
+use Rattle.point_records.specs.declared.Record.{Record}
+use Rattle.point_records.specs.Meaning.Columns.{tagOf}
+use Rattle.point_records.specs.Meaning.Occupied.{Occupied}
 use Rattle.point_tables.specs.Meaning.Tables.{Tables, sizeOf, slotsOf, recordOn}
 use Rattle.point_tables.specs.Meaning.Holds.{Holds, RecordHolds, EntryHolds, Pending}
 use Rattle.point_tables.specs.Meaning.Decide.{holds, holds-says}

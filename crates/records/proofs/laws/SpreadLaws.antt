@@ -6,9 +6,9 @@ use mathlib.Core.List.{List, [], _∷_}
 use lib.IntN.{ℤ}
 use lib.Ieee.{Float}
 use lib.ListN.{length, getD}
-use Rattle.objects.specs.declared.Record.{Record}
-use Rattle.objects.specs.Meaning.Columns.{recordAt, recordOf, numsOf, realsOf, intsOf}
-use Rattle.objects.proofs.laws.ColumnLaws.{record-back}
+use Rattle.point_records.specs.declared.Record.{Record}
+use Rattle.point_records.specs.Meaning.Columns.{recordAt, recordOf, numsOf, realsOf, intsOf}
+use Rattle.point_records.proofs.laws.ColumnLaws.{record-back}
 use Rattle.point_tables.specs.Meaning.Tables.{Tables}
 use Rattle.records.specs.Meaning.Spread.{laid, gathered, besides, recordsIn}
 

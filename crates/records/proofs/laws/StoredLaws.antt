@@ -7,9 +7,9 @@ use mathlib.Core.List.{List, [], _∷_}
 use lib.ListN.{length, getD, set, length-set}
 use Rattle.basics.specs.Meaning.Says.{Decided}
 use Rattle.basics.proofs.laws.Says.{d-eq}
-use Rattle.objects.specs.declared.Record.{Record}
-use Rattle.objects.specs.Meaning.Columns.{numsOf, realsOf, intsOf}
-use Rattle.objects.proofs.laws.ColumnLaws.{stored-other}
+use Rattle.point_records.specs.declared.Record.{Record}
+use Rattle.point_records.specs.Meaning.Columns.{numsOf, realsOf, intsOf}
+use Rattle.point_records.proofs.laws.ColumnLaws.{stored-other}
 use Rattle.point_tables.specs.Meaning.Tables.{Tables, recordOn}
 use Rattle.point_tables.specs.Meaning.Outcome.{stored}
 use Rattle.records.specs.Inner.Alike.{Alike, withColumns}

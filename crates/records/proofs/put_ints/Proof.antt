@@ -1,9 +1,9 @@
 -- `records::put_ints` meets its contract. Assumes nothing.
 use lib.IntN.{ℤ}
 use Rattle.cells.specs.declared.Cell.{Cell}
-use Rattle.objects.specs.declared.Record.{Record}
-use Rattle.objects.specs.Meaning.Columns.{targetOf, intsOf}
-use Rattle.objects.proofs.Shared.{back}
+use Rattle.point_records.specs.declared.Record.{Record}
+use Rattle.point_records.specs.Meaning.Columns.{targetOf, intsOf}
+use Rattle.point_records.proofs.Shared.{back}
 use mathlib.Core.Path.{_≡_, sym, ap, _∙_}
 use mathlib.Core.List.{List, [], _∷_}
 use Prim.Native.Nat.{ℕ}
@@ -14,7 +14,7 @@ use Rattle.records.proofs.put_ints.Statement.{statement}
 use Rattle.records.proofs.put_ints.Tie as tie
 use Rattle.records.proofs.put_ints.Reads as reads
 use Rattle.records.proofs.put_ints.Lts as lts
-use Rattle.objects.proofs.target_of.Reads as target-of-reads
+use Rattle.point_records.proofs.target_of.Reads as target-of-reads
 
 -- src/lib.rt:94:13
 target-of-requires : tie.Need-target-of-requires

@@ -9,7 +9,7 @@ use Rattle.records.proofs.put_nums.Statement.{statement}
 use Rattle.records.proofs.put_nums.Tie as tie
 use Rattle.records.proofs.put_nums.Reads as reads
 use Rattle.records.proofs.put_nums.Lts as lts
-use Rattle.objects.proofs.tag_of.Reads as tag-of-reads
+use Rattle.point_records.proofs.tag_of.Reads as tag-of-reads
 
 -- src/lib.rt:72:13
 tag-of-requires : tie.Need-tag-of-requires

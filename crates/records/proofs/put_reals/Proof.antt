@@ -10,7 +10,7 @@ use Rattle.records.proofs.put_reals.Statement.{statement}
 use Rattle.records.proofs.put_reals.Tie as tie
 use Rattle.records.proofs.put_reals.Reads as reads
 use Rattle.records.proofs.put_reals.Lts as lts
-use Rattle.objects.proofs.pending_of.Reads as pending-of-reads
+use Rattle.point_records.proofs.pending_of.Reads as pending-of-reads
 
 -- src/lib.rt:83:13
 pending-of-requires : tie.Need-pending-of-requires

@@ -38,9 +38,9 @@ use denote.Triple.Table.{entered}
 use denote.Triple.Walked.{says, needs, Stays, stay-none, stay-none-slice, walkOf, goes-none, goes-none-slice, Walks, ends-at, walked, walk-meets}
 use denote.Exit.{yes}
 use Rattle.records.specs.Inner.Spread.{noRecord}
-use Rattle.objects.specs.declared.Record.{Record}
-use Rattle.objects.proofs.Record as T
-use Rattle.objects.proofs.Record.Laws as T′
+use Rattle.point_records.specs.declared.Record.{Record}
+use Rattle.point_records.proofs.Record as T
+use Rattle.point_records.proofs.Record.Laws as T′
 use Rattle.records.proofs.record_at.Key.{name as #records·record-at}
 use Rattle.records.proofs.record_at as record-at
 use Rattle.records.proofs.record_at.Statement as stated

@@ -6,7 +6,7 @@ use Rattle.records.proofs.row_or.Statement.{statement}
 use Rattle.records.proofs.row_or.Tie as tie
 use Rattle.records.proofs.row_or.Reads as reads
 use Rattle.records.proofs.row_or.Lts as lts
-use Rattle.objects.proofs.load.Reads as load-reads
+use Rattle.point_records.proofs.load.Reads as load-reads
 
 -- src/lib.rt:106:17
 load-requires : tie.Need-load-requires

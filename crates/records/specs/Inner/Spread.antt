@@ -7,9 +7,9 @@ use lib.Ieee.{Float, nan}
 use lib.Dec.{ltb}
 use lib.ListN.{length}
 use Rattle.basics.specs.Meaning.Refusals.{pick}
-use Rattle.objects.specs.declared.State.the-variants.{Unchanged}
-use Rattle.objects.specs.declared.Record.{Record}
-use Rattle.objects.specs.Meaning.Columns.{recordAt}
+use Rattle.point_records.specs.declared.State.the-variants.{Unchanged}
+use Rattle.point_records.specs.declared.Record.{Record}
+use Rattle.point_records.specs.Meaning.Columns.{recordAt}
 
 -- what stands past the end, where nothing stands
 abbrev pub noRecord : Record

@@ -8,7 +8,7 @@ use lib.Dec.{eqb}
 use lib.ListN.{length}
 use Rattle.basics.specs.Meaning.Lent.{Lent, was, is}
 use Rattle.basics.specs.Meaning.Refusals.{pick}
-use Rattle.objects.specs.declared.Record.{Record}
+use Rattle.point_records.specs.declared.Record.{Record}
 use Rattle.point_tables.specs.Meaning.Tables.{Tables, slotsOf}
 use Rattle.point_tables.specs.Meaning.Lent.{before, after}
 use Rattle.point_tables.specs.Meaning.Outcome.{Outcome, outcome}

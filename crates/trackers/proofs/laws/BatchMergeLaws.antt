@@ -15,8 +15,8 @@ use Rattle.storage.proofs.laws.FilterLaws.{by-test}
 use Rattle.point_tables.specs.Meaning.Tables.{Tables}
 use Rattle.point_tables.specs.Meaning.Decide.{holds}
 use Rattle.point_tables.specs.Meaning.Outcome.{outcome}
-use Rattle.moves.specs.Meaning.Batch.{Call, callOf, callsOf, tablesAfter, replies, replyRows, batchAnswer, batched}
-use Rattle.moves.proofs.laws.BatchAnswerLaws.{batch-ran, batch-short, batch-refused}
+use Rattle.point_deferred.specs.Meaning.Batch.{Call, callOf, callsOf, tablesAfter, replies, replyRows, batchAnswer, batched}
+use Rattle.point_deferred.proofs.laws.BatchAnswerLaws.{batch-ran, batch-short, batch-refused}
 use Rattle.trackers.specs.Meaning.Merges.{Turn, calls, those, repliesTo, Merge, NotShared, Alike, kindsOf, handlesOf, positionsOf, batchFor}
 use Rattle.trackers.specs.Meaning.Merges.{SameBatch}
 use Rattle.trackers.proofs.laws.MergeLaws.{any-merge}

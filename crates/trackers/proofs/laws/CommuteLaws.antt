@@ -14,23 +14,23 @@ use Rattle.geometry.specs.Meaning.Domain.{positionInDomain}
 use Rattle.slots.specs.declared.Handle.{Handle}
 use Rattle.slots.specs.Meaning.Slot.{versionAt, good}
 use Rattle.storage.proofs.laws.FilterLaws.{by-test}
-use Rattle.objects.specs.declared.State.{State}
-use Rattle.objects.specs.declared.Record.{Record}
+use Rattle.point_records.specs.declared.State.{State}
+use Rattle.point_records.specs.declared.Record.{Record}
 use Rattle.point_tables.specs.Meaning.Tables.{Tables, sizeOf, slotsOf, recordOn}
 use Rattle.point_tables.specs.Meaning.Holds.{Holds}
 use Rattle.point_tables.specs.Meaning.Decide.{holds, holds-says}
 use Rattle.point_tables.specs.Meaning.Outcome.{Outcome}
 use Rattle.replies.specs.declared.Reply.{Reply}
-use Rattle.moves.specs.Meaning.Moves.{pended}
-use Rattle.moves.specs.Meaning.Batch.{Call, callOf}
-use Rattle.moves.specs.Inner.Ready.{Ready}
-use Rattle.moves.proofs.laws.ReadyLaws.{holds-ready}
-use Rattle.moves.proofs.laws.PendedLaws.{map-kept, record-other, kept, nums-long}
-use Rattle.moves.proofs.laws.MovesLaws.{named}
-use Rattle.moves.proofs.laws.MovesKeeps.{call-keeps}
-use Rattle.moves.proofs.laws.AnswerLaws.{call-unheld, call-refused}
-use Rattle.moves.specs.Inner.Held.{setRefusal, removeRefusal, refusalOf, heldAnswer, nextState, returned, worked, heldOf}
-use Rattle.moves.proofs.laws.HeldLaws.{call-held, held-accepted, held-refused, held-done}
+use Rattle.point_deferred.specs.Meaning.Moves.{pended}
+use Rattle.point_deferred.specs.Meaning.Batch.{Call, callOf}
+use Rattle.point_deferred.specs.Inner.Ready.{Ready}
+use Rattle.point_deferred.proofs.laws.ReadyLaws.{holds-ready}
+use Rattle.point_deferred.proofs.laws.PendedLaws.{map-kept, record-other, kept, nums-long}
+use Rattle.point_deferred.proofs.laws.MovesLaws.{named}
+use Rattle.point_deferred.proofs.laws.MovesKeeps.{call-keeps}
+use Rattle.point_deferred.proofs.laws.AnswerLaws.{call-unheld, call-refused}
+use Rattle.point_deferred.specs.Inner.Held.{setRefusal, removeRefusal, refusalOf, heldAnswer, nextState, returned, worked, heldOf}
+use Rattle.point_deferred.proofs.laws.HeldLaws.{call-held, held-accepted, held-refused, held-done}
 use Rattle.trackers.proofs.laws.PendedCommuteLaws.{pended-commute}
 use Rattle.replies.specs.Meaning.Replies.{reply}
 

@@ -6,14 +6,14 @@ use mathlib.Core.List.{List}
 use Rattle.point_tables.specs.Meaning.Tables.{Tables}
 use Rattle.point_tables.specs.Meaning.Holds.{Holds}
 use Rattle.point_tables.specs.Meaning.Outcome.{Outcome}
-use Rattle.moves.specs.Meaning.Batch.{Call, tablesAfter}
-use Rattle.moves.proofs.laws.MovesKeeps.{calls-keep}
-use Rattle.maintain.specs.declared.Maintained.{Maintained}
-use Rattle.maintain.specs.Meaning.Maintain.{maintainedBy, maintained, maintainOf}
-use Rattle.maintain.proofs.laws.Closed.{Order}
-use Rattle.maintain.proofs.laws.CellOrderLaws.{table-order}
-use Rattle.maintain.proofs.laws.SettledForm.{any-order}
-use Rattle.maintain.proofs.laws.MaintainLaws.{maintain-done, maintain-accepted, maintain-keeps}
+use Rattle.point_deferred.specs.Meaning.Batch.{Call, tablesAfter}
+use Rattle.point_deferred.proofs.laws.MovesKeeps.{calls-keep}
+use Rattle.point_maintain.specs.declared.Maintained.{Maintained}
+use Rattle.point_maintain.specs.Meaning.Maintain.{maintainedBy, maintained, maintainOf}
+use Rattle.point_maintain.proofs.laws.Closed.{Order}
+use Rattle.point_maintain.proofs.laws.CellOrderLaws.{table-order}
+use Rattle.point_maintain.proofs.laws.SettledForm.{any-order}
+use Rattle.point_maintain.proofs.laws.MaintainLaws.{maintain-done, maintain-accepted, maintain-keeps}
 use Rattle.trackers.specs.Meaning.Merges.{Turn, calls, Merge, NotShared, Alike}
 use Rattle.trackers.proofs.laws.MergeLaws.{any-merge}
 

@@ -10,16 +10,16 @@ use Rattle.basics.proofs.laws.Says.{d-eq}
 use Rattle.cells.specs.Meaning.Key.{keyOf}
 use Rattle.slots.specs.Meaning.Slot.{live, phaseAt}
 use Rattle.storage.specs.Meaning.Packed.{first}
-use Rattle.objects.specs.declared.State.{State}
-use Rattle.objects.specs.declared.Record.{Record}
-use Rattle.objects.specs.Meaning.Columns.{numsOf, realsOf, intsOf}
-use Rattle.objects.specs.Meaning.States.{withState}
+use Rattle.point_records.specs.declared.State.{State}
+use Rattle.point_records.specs.declared.Record.{Record}
+use Rattle.point_records.specs.Meaning.Columns.{numsOf, realsOf, intsOf}
+use Rattle.point_records.specs.Meaning.States.{withState}
 use Rattle.point_tables.specs.Meaning.Tables.{Tables, slotsOf, recordOn}
 use Rattle.point_tables.specs.Meaning.Outcome.{stored}
-use Rattle.moves.specs.Meaning.Moves.{pended}
-use Rattle.moves.specs.Inner.Ready.{Ready}
-use Rattle.moves.proofs.laws.ReadyLaws.{marked-is}
-use Rattle.moves.proofs.laws.PendedLaws.{record-other, cells-set, key-kept, pended-ready}
+use Rattle.point_deferred.specs.Meaning.Moves.{pended}
+use Rattle.point_deferred.specs.Inner.Ready.{Ready}
+use Rattle.point_deferred.proofs.laws.ReadyLaws.{marked-is}
+use Rattle.point_deferred.proofs.laws.PendedLaws.{record-other, cells-set, key-kept, pended-ready}
 
 -- ---- two stores, in one place only where they store the same
 sets-commute : {A : Type 0} (l : List A) (i j : ℕ) (a b : A) → (i ≡ j → a ≡ b) → set (set l i a) j b ≡ set (set l j b) i a

@@ -16,12 +16,12 @@ use Rattle.storage.proofs.laws.FilterLaws.{by-test}
 use Rattle.point_tables.specs.Meaning.Tables.{Tables}
 use Rattle.point_tables.specs.Meaning.Decide.{holds-says}
 use Rattle.replies.specs.declared.Reply.{Reply}
-use Rattle.moves.specs.Meaning.Moves.{setPositionOf, removeOf, setPositionAnswer, removeAnswer}
-use Rattle.moves.specs.Meaning.Batch.{callOf, replies}
-use Rattle.moves.specs.Inner.Held.{call}
-use Rattle.moves.proofs.laws.AnswerLaws.{set-answer-is, remove-answers}
-use Rattle.moves.proofs.laws.AgainLaws.{removed-stays}
-use Rattle.moves.proofs.laws.MovesLaws.{set-accepted}
+use Rattle.point_deferred.specs.Meaning.Moves.{setPositionOf, removeOf, setPositionAnswer, removeAnswer}
+use Rattle.point_deferred.specs.Meaning.Batch.{callOf, replies}
+use Rattle.point_deferred.specs.Inner.Held.{call}
+use Rattle.point_deferred.proofs.laws.AnswerLaws.{set-answer-is, remove-answers}
+use Rattle.point_deferred.proofs.laws.AgainLaws.{removed-stays}
+use Rattle.point_deferred.proofs.laws.MovesLaws.{set-accepted}
 use Rattle.trackers.specs.Meaning.Merges.{those, Alike}
 use Rattle.trackers.proofs.laws.TurnLaws.{turn}
 

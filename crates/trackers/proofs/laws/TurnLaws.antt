@@ -7,7 +7,7 @@ use mathlib.Core.Logic.{⊎-elim}
 use borrow.Author.Tests.{eq-eqb, ne-eqb}
 use Rattle.basics.proofs.laws.Says.{d-eq}
 use Rattle.storage.specs.Meaning.Keyed.{All}
-use Rattle.moves.specs.Meaning.Batch.{Call}
+use Rattle.point_deferred.specs.Meaning.Batch.{Call}
 use Rattle.trackers.specs.Meaning.Merges.{Turn, calls, those, own}
 
 abbrev pub turn : ℕ → Call → Turn

@@ -1,0 +1,81 @@
+-- What taking a box out asks of its calls, and what they leave, put together; and `remove` by its answer. Assumes nothing.
+use Prim.Native.Nat.{ℕ, _≤_}
+use mathlib.Core.Path.{_≡_, refl, sym, _∙_, ap}
+use mathlib.Core.Bool.{Bool, true, false}
+use mathlib.Core.List.{List, [], _∷_}
+use native.Mathlib.Omega.{arith}
+use lib.Dec.{eqb}
+use lib.ListN.{length, take}
+use borrow.Author.Tests.{ne-eqb}
+use Rattle.basics.specs.Meaning.Refusals.{unless, firstOf, orElse}
+use Rattle.cells.specs.Inner.Numbers.{Near}
+use Rattle.slots.specs.declared.Handle.{Handle}
+use Rattle.slots.specs.Meaning.Slot.{good, emptiedNums, emptiedMap}
+use Rattle.storage.specs.Inner.Keyed.{Sorted}
+use Rattle.storage.specs.Meaning.Keyed.{written}
+use Rattle.storage.specs.Meaning.Entries.{rowKey}
+use Rattle.box_cover.specs.Meaning.Coverage.{left, Stands}
+use Rattle.box_tables.specs.Meaning.Tables.{Tables, tables, sizeOf, usedOf, counting, aabbOn, objOn, itemOf}
+use Rattle.box_tables.specs.Meaning.Decide.{holds, holds-says}
+use Rattle.box_tables.proofs.laws.HoldsLaws.{entries-sorted, low-near, high-near}
+use Rattle.box_tables.specs.Meaning.Outcome.{Outcome, outcome}
+use Rattle.box_tables.specs.declared.Span.{Span}
+use Rattle.box_tables.specs.Inner.Way.{spanOf}
+use Rattle.box_change.specs.Meaning.Remove.{entriesWithout, takenOut, removeAnswer, removeOf}
+use Rattle.box_change.proofs.laws.RemoveLaws.{names}
+use Rattle.box_change.specs.Inner.Steps.{Object}
+use Rattle.replies.specs.Meaning.Replies.{reply}
+
+module _ (t : Tables) (s : ℕ) (o : Object t s) (u : ℕ) (eu : u ≡ usedOf t) (p : Span) (ep : p ≡ spanOf (sizeOf t) (aabbOn t s)) (i : ℕ) (ei : i ≡ itemOf s (eqb (p .cells) 1)) where
+  pub leave-asks : (u ≤ length (t .pool)) × Sorted rowKey (take u (t .pool)) × Near (p .low) × Near (p .high) × Stands (p .low) (p .high) i (take u (t .pool))
+  leave-asks =
+      let h = o .held in
+      rw (eu, ei, ep) (h .counted .used-most, entries-sorted t h, low-near t h s (o .inside) (o .occupied), high-near t h s (o .inside) (o .occupied), h .every s (o .inside) (o .occupied))
+
+  pub taken-is :
+      (k : ℕ) (ns : List (List ℕ)) (m : List ℕ) (pool : List (List ℕ)) (d : ℕ)
+      → (k ≡ length (left (p .low) (p .high) i (take u (t .pool)))) × (pool ≡ written (left (p .low) (p .high) i (take u (t .pool))) (t .pool))
+      → ns ≡ emptiedNums (t .nums) s
+      → m ≡ counting (emptiedMap (t .nums) (t .map) s) k
+      → d ≡ objOn t s
+      → outcome d (tables ns (t .reals) m pool) ≡ outcome (objOn t s) (takenOut t s)
+  unfolding takenOut
+  taken-is k ns m pool d e1 e2 e3 e4 =
+      let rows-are : left (p .low) (p .high) i (take u (t .pool)) ≡ entriesWithout t s = rw (eu, ei, ep) in
+      rw (e4, e2, e3, e1 .0, e1 .1, rows-are)
+
+-- ---- the answer by its two tests
+module _ (x y : Bool) where
+  pub answer-3 : x ≡ false → 3 ≡ orElse x 3 (orElse y 5 0)
+  answer-3 e = rw e
+
+  pub answer-5 : x ≡ true → y ≡ false → 5 ≡ orElse x 3 (orElse y 5 0)
+  answer-5 e f = rw (e, f)
+
+  pub answer-0 : x ≡ true → y ≡ true → 0 ≡ orElse x 3 (orElse y 5 0)
+  answer-0 e f = rw (e, f)
+
+-- ---- the outcome by the answer
+module _ (t : Tables) (h : Handle) (held : Bool) (eh : held ≡ holds t) (a : ℕ) (ea : a ≡ firstOf (unless held 3 ∷ unless (good (t .nums) (h .slot) (h .version)) 5 ∷ [])) where
+  answer-is : a ≡ removeAnswer t h
+  unfolding removeAnswer
+  answer-is = rw (ea, eh)
+
+  both : (x y : Bool) → orElse x 3 (orElse y 5 0) ≡ 0 → (x ≡ true) × (y ≡ true)
+  both true true e = (refl, refl)
+  both true false e = absurd (omega arith)
+  both false y e = absurd (omega arith)
+
+  pub object : (w : ℕ) → w ≡ h .slot → a ≡ 0 → Object t w
+  object w ew z =
+      let k = both held (good (t .nums) (h .slot) (h .version)) (sym ea ∙ z) in
+      let n = names t h (k .1) in
+      rw ew (record { held = holds-says t .yes (sym eh ∙ k .0); inside = n .inside; occupied = n .occupied })
+
+  pub refused : (a ≡ 0 → ⊥) → outcome (reply a 0) t ≡ removeOf t h
+  unfolding removeOf
+  refused n = rw (← answer-is, ne-eqb a 0 n)
+
+  pub done : (w : ℕ) → w ≡ h .slot → a ≡ 0 → (d : ℕ) (u : Tables) → outcome d u ≡ outcome (objOn t w) (takenOut t w) → outcome (reply 0 d) u ≡ removeOf t h
+  unfolding removeOf
+  done w ew z d u q = ap (λ (o : Outcome ℕ). outcome (reply 0 (o .result)) (o .after)) q ∙ rw (ew, ← answer-is, z)

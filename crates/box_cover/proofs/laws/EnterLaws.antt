@@ -1,0 +1,81 @@
+-- A box that enters the lists of the cells of a range: its own entries come in once in each, and those of the others stay. Assumes nothing.
+use Prim.Native.Nat.{ℕ, _+_, _≤_}
+use mathlib.Core.Path.{_≡_, refl, sym, _∙_, ap}
+use mathlib.Core.Bool.{true, false}
+use mathlib.Core.List.{List, [], _∷_, map, map-map}
+use native.Mathlib.Omega.{arith}
+use lib.ListN.{length, length-map}
+use borrow.Author.Tests.{eq-eqb, ne-eqb}
+use Rattle.cells.specs.declared.Cell.{Cell}
+use Rattle.cells.specs.Meaning.Key.{keyOf}
+use Rattle.cells.specs.Inner.Numbers.{Near}
+use Rattle.cells.proofs.laws.Numbers.{near-fits}
+use Rattle.cells.specs.Meaning.Range.{cellsIn, rangeCells}
+use Rattle.cells.proofs.laws.RangeLaws.{range-length}
+use Rattle.cells.proofs.laws.RangeKeyLaws.{range-rising}
+use Rattle.cells.specs.Inner.Rising.{Above, Rising}
+use Rattle.storage.specs.Meaning.Keyed.{All, filter, appendAll}
+use Rattle.storage.specs.Inner.Keyed.{Sorted}
+use Rattle.storage.specs.Meaning.Entries.{rowKey, isItem}
+use Rattle.storage.proofs.laws.FilterLaws.{all-any, all-over, filter-whole, filter-none}
+use Rattle.storage.proofs.laws.AppendLaws.{sorted-appendAll, length-appendAll, all-appendAll}
+use Rattle.storage.proofs.laws.MergeLaws.{appendAll-sort, sort-sorted}
+use Rattle.box_cover.specs.Meaning.Coverage.{rowIn, entered, Stands}
+use Rattle.box_cover.specs.Inner.Walk.{rowAt}
+use Rattle.box_cover.proofs.laws.ListLaws.{filter-appendAll}
+
+-- ---- the rows of an item in the lists of some cells
+abbrev pub rowsIn : ℕ → List Cell → List (List ℕ)
+rowsIn i cs = map (rowIn i) cs
+
+module _ (i : ℕ) where
+  rows-own : (cs : List Cell) → filter (isItem i) (rowsIn i cs) ≡ rowsIn i cs
+  rows-own cs = filter-whole (isItem i) (rowsIn i cs) (all-over (λ r. isItem i r ≡ true) (rowIn i) cs (all-any (λ c. isItem i (rowIn i c) ≡ true) (λ c. eq-eqb i i refl) cs))
+
+  rows-other : (j : ℕ) → (j ≡ i → ⊥) → (cs : List Cell) → filter (isItem j) (rowsIn i cs) ≡ []
+  rows-other j n cs = filter-none (isItem j) (rowsIn i cs) (all-over (λ r. isItem j r ≡ false) (rowIn i) cs (all-any (λ c. isItem j (rowIn i c) ≡ false) (λ c. ne-eqb i j (λ e. n (sym e))) cs))
+
+-- in the lists of keys that rise
+keys-above : (i k : ℕ) (ks : List ℕ) → Above k ks → All (λ r. k ≤ rowKey r) (map (rowAt i) ks)
+keys-above i k [] a = tt
+keys-above i k (j ∷ ks) a = (omega (arith, a .0), keys-above i k ks (a .1))
+
+pub rows-sorted : (i : ℕ) (ks : List ℕ) → Rising ks → Sorted rowKey (map (rowAt i) ks)
+rows-sorted i [] r = tt
+rows-sorted i (k ∷ ks) r = (keys-above i k ks (r .0), rows-sorted i ks (r .1))
+
+pub range-sorted : (a b : Cell) → Near a → Near b → (i : ℕ) → Sorted rowKey (rowsIn i (rangeCells a b))
+range-sorted a b na nb i = rw (map-map (rowAt i) keyOf (rangeCells a b)) at (rows-sorted i (map keyOf (rangeCells a b)) (range-rising a b (near-fits a na) (near-fits b nb)))
+
+-- ---- entering
+module _ (a b : Cell) (i : ℕ) (rows : List (List ℕ)) where
+  pub entered-sorted : Sorted rowKey rows → Sorted rowKey (entered a b i rows)
+  unfolding entered
+  entered-sorted s = sorted-appendAll rowKey rows (rowsIn i (rangeCells a b)) s
+
+  pub entered-length : length (entered a b i rows) ≡ length rows + cellsIn a b
+  unfolding entered
+  entered-length = length-appendAll rowKey rows (rowsIn i (rangeCells a b)) ∙ ap (λ (n : ℕ). length rows + n) (length-map (rangeCells a b) (rowIn i) ∙ range-length a b)
+
+  pub entered-all : (P : List ℕ → Type 0) → All P rows → ((c : Cell) → P (rowIn i c)) → All P (entered a b i rows)
+  unfolding entered
+  entered-all P p q = all-appendAll rowKey P rows (rowsIn i (rangeCells a b)) p (all-over P (rowIn i) (rangeCells a b) (all-any (λ c. P (rowIn i c)) q (rangeCells a b)))
+
+  -- the entries of another item
+  pub entered-others : Sorted rowKey rows → (j : ℕ) → (j ≡ i → ⊥) → filter (isItem j) (entered a b i rows) ≡ filter (isItem j) rows
+  unfolding entered
+  entered-others s j n = filter-appendAll rowKey (isItem j) rows (rowsIn i (rangeCells a b)) s ∙ rw (rows-other i j n (rangeCells a b)) (unfold appendAll in refl)
+
+  -- its own, where it had none
+  pub entered-own : Near a → Near b → Sorted rowKey rows → filter (isItem i) rows ≡ [] → filter (isItem i) (entered a b i rows) ≡ rowsIn i (rangeCells a b)
+  unfolding entered
+  entered-own na nb s e =
+      filter-appendAll rowKey (isItem i) rows (rowsIn i (rangeCells a b)) s
+      ∙ rw (e, rows-own i (rangeCells a b)) (appendAll-sort rowKey (rowsIn i (rangeCells a b)) ∙ sort-sorted rowKey (rowsIn i (rangeCells a b)) (range-sorted a b na nb i))
+
+  pub entered-stands : Near a → Near b → Sorted rowKey rows → filter (isItem i) rows ≡ [] → Stands a b i (entered a b i rows)
+  entered-stands na nb s e = ap (map rowKey) (entered-own na nb s e) ∙ map-map rowKey (rowIn i) (rangeCells a b)
+
+  -- another item stands where it stood
+  pub entered-keeps : Sorted rowKey rows → (c d : Cell) (j : ℕ) → (j ≡ i → ⊥) → Stands c d j rows → Stands c d j (entered a b i rows)
+  entered-keeps s c d j n st = ap (map rowKey) (entered-others s j n) ∙ st

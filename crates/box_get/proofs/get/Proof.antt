@@ -1,0 +1,90 @@
+-- `box_get::get` meets its contract. Assumes nothing.
+use Prim.Native.Nat.{ℕ, _<_}
+use mathlib.Core.Path.{_≡_, sym, ap, _∙_, subst}
+use mathlib.Core.Bool.{true}
+use lib.ListN.{length}
+use borrow.Author.Tests.{not-true, not-false}
+use borrow.Author.Needs.{needs}
+use Rattle.slots.specs.Meaning.Slot.{good}
+use Rattle.slots.proofs.laws.HandleLaws.{good-says}
+use Rattle.box_tables.specs.Meaning.Tables.{Tables, tables, aabbOn, objOn}
+use Rattle.box_tables.specs.Meaning.Decide.{holds, holds-says}
+use Rattle.box_get.specs.declared.Got.{Got}
+use Rattle.box_get.specs.Meaning.Reads.{got}
+use Rattle.box_get.proofs.laws.ReadsLaws.{get-3, get-5, get-0}
+use Rattle.box_get.proofs.get.Statement.{statement}
+use Rattle.box_get.proofs.get.Tie as tie
+
+abbrev at-entry : tie.Start → Tables
+at-entry s = tables (s .args .nums .now) (s .args .reals .now) (s .args .map .now) (s .args .pool .now)
+
+-- the check, and what came before it
+abbrev start : tie.After-check → tie.Start
+start k = k .before .before
+
+held : (c : tie.Else1) → holds (at-entry (start (c .before))) ≡ true
+held c = sym (c .before .check .ensures) ∙ not-false _ (c .if1 .left)
+
+-- the check that a handle is looked at after
+abbrev checked : tie.Else2 → tie.After-check
+checked c = c .before .before .before
+
+is-good : (c : tie.Else2) → let s = start (checked c) in good (s .args .nums .now) (s .args .h .slot) (s .args .h .version) ≡ true
+is-good c = sym (c .before .is-good .ensures) ∙ not-false _ (c .if2 .left)
+
+inside : (c : tie.Else2) → start (checked c) .args .h .slot < length (start (checked c) .args .nums .now)
+inside c = let a = start (checked c) .args in good-says (a .nums .now) (a .h .slot) (a .h .version) .yes (is-good c) .0
+
+returns : tie.Need-returns
+returns c =
+    let k = c .before .before in
+    let s = start k in
+    c .no-box .ensures ∙ get-3 (at-entry s) (s .args .h) (sym (k .check .ensures) ∙ not-true _ (c .before .if1 .taken))
+
+returns-2 : tie.Need-returns-2
+returns-2 c =
+    let g = c .before .before in
+    let s = start (g .before .before) in
+    c .no-box2 .ensures ∙ get-5 (at-entry s) (s .args .h) (held (g .before)) (sym (g .is-good .ensures) ∙ not-true _ (c .before .if2 .taken))
+
+in-nums : tie.Need-shared-slice-copy-out-n
+in-nums c = subst (λ n. n < length (start (checked (c .before)) .args .nums .now)) (sym (c .wide .ensures)) (inside (c .before))
+
+in-reals : tie.Need-shared-slice-copy-out-q
+in-reals c =
+    let e = c .before .before in
+    let s = start (checked e) in
+    subst (λ n. n < length (s .args .reals .now)) (sym (c .before .wide .ensures)) (rw (holds-says (at-entry s) .yes (held (e .before .before)) .sized .of-reals) (inside e))
+
+-- what is read at place s of the columns
+read : Tables → ℕ → Got
+read t s = got 0 (aabbOn t s) (objOn t s)
+
+returns-3 : tie.Need-returns-3
+unfolding read
+returns-3 c =
+    let e = c .before .before .before in
+    let s = start (checked e) in
+    ap (read (at-entry s)) (c .before .before .wide .ensures) ∙ get-0 (at-entry s) (s .args .h) (held (e .before .before)) (is-good e)
+
+pub get-spec : {M : Type 1} → statement M
+get-spec =
+    tie.close
+    (tie.spec
+    (λ c κs. search needs)
+    (λ c κs. search needs)
+    returns
+    (λ c κs. search needs)
+    (λ c κs. search needs)
+    returns-2
+    (λ c κs. search needs)
+    (λ c. search needs)
+    in-nums
+    (λ c. search needs)
+    in-reals
+    (λ c. search needs)
+    (λ c. search needs)
+    (λ c. search needs)
+    (λ c. search needs)
+    (λ c. search needs)
+    returns-3)

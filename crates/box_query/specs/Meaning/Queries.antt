@@ -1,0 +1,96 @@
+-- `query_broad` and `query`: the boxes of a range of cells, each once, at its first place in the walk; of these `query` keeps those for
+-- which `intersects` holds, the query box first. Assumes nothing.
+use Prim.Native.Nat.{ℕ, min}
+use mathlib.Core.List.{List, [], _∷_, map}
+use lib.Dec.{eqb, leb}
+use lib.Ieee.{Float}
+use lib.ListN.{length}
+use Rattle.basics.specs.Meaning.Limits.{mostCells}
+use Rattle.basics.specs.Meaning.Refusals.{Refusal, unless, firstOf, pick, byTests}
+use Rattle.geometry.specs.declared.Aabb.{Aabb}
+use Rattle.geometry.specs.Meaning.Domain.{aabbInDomain}
+use Rattle.geometry.specs.Meaning.Intersects.{intersects}
+use Rattle.storage.specs.Meaning.Keyed.{filter, written}
+use Rattle.storage.specs.Meaning.Entries.{rowKey}
+use Rattle.storage.specs.Meaning.Walk.{walked}
+use Rattle.box_tables.specs.Meaning.Tables.{Tables, sizeOf, entriesIn, aabbAt, aabbOn, objOn, lowCell, highCell, covers, slotOf, cornersOf}
+use Rattle.box_tables.specs.Meaning.Decide.{holds}
+use Rattle.replies.specs.declared.Count.{Count}
+use Rattle.box_query.specs.Meaning.Firsts.{firsts}
+use Rattle.replies.specs.Meaning.Replies.{count}
+use Rattle.slot_walks.specs.Meaning.Live.{handleAt}
+
+-- ---- what is found
+-- the entries of the cells of the query box, in range order and then in list order
+unfoldable pub walk : Tables → Aabb → List (List ℕ)
+walk t q = walked rowKey (lowCell (sizeOf t) q) (highCell (sizeOf t) q) (entriesIn t)
+
+-- their slots, each once, at its first place in the walk
+unfoldable pub broad : Tables → Aabb → List ℕ
+unfolding walk
+broad t q = firsts (map slotOf (walk t q))
+
+-- those whose box the query box intersects, in binary32
+unfoldable pub narrow : Tables → Aabb → List ℕ
+unfolding broad
+narrow t q = filter (λ s. intersects q (aabbOn t s)) (broad t q)
+
+-- ---- a finding in the outputs: a row (slot, version), a row of the four numbers of the box, and the data
+abbrev pub boxRow : List (List Float) → ℕ → List Float
+boxRow reals s = cornersOf (aabbAt reals s)
+
+-- ---- the tests, where `number` are found and the outputs have `room`
+abbrev pub lookTests : Tables → Aabb → ℕ → ℕ → List Refusal
+lookTests t q number room =
+    unless (holds t) 3
+    ∷ unless (aabbInDomain q) 6
+    ∷ unless (leb (covers (sizeOf t) q) mostCells) 7
+    ∷ unless (leb number room) 9
+    ∷ []
+
+unfoldable pub answerOf : Tables → Aabb → ℕ → ℕ → ℕ
+answerOf t q number room = firstOf (lookTests t q number room)
+
+-- ---- `query_broad`: what it returns, and its output after it; 9 returns the number found
+pub record Handles : Type 0 where
+  pub returned : Count
+  pub handles : List (List ℕ)
+
+abbrev pub handlesOf : Count → List (List ℕ) → Handles
+handlesOf c h = record { returned = c; handles = h }
+
+abbrev pub broadTests : Tables → Aabb → List (List ℕ) → List Refusal
+broadTests t q handles = lookTests t q (length (broad t q)) (length handles)
+
+unfoldable pub broadOf : Tables → Aabb → List (List ℕ) → Handles
+unfolding answerOf broad
+broadOf t q handles =
+    let ss = broad t q in
+    byTests (broadTests t q handles)
+    (handlesOf (count 0 (length ss)) (written (map (handleAt (t .nums)) ss) handles))
+    (λ a. handlesOf (count a (pick (eqb a 9) (length ss) 0)) handles)
+
+-- ---- `query`
+pub record Findings : Type 0 where
+  pub returned : Count
+  pub handles : List (List ℕ)
+  pub boxes : List (List Float)
+  pub objs : List ℕ
+
+abbrev pub findings : Count → List (List ℕ) → List (List Float) → List ℕ → Findings
+findings c h b o = record { returned = c; handles = h; boxes = b; objs = o }
+
+-- the places of the shortest output
+abbrev pub roomOf : List (List ℕ) → List (List Float) → List ℕ → ℕ
+roomOf handles boxes objs = min (length handles) (min (length boxes) (length objs))
+
+abbrev pub queryTests : Tables → Aabb → List (List ℕ) → List (List Float) → List ℕ → List Refusal
+queryTests t q handles boxes objs = lookTests t q (length (narrow t q)) (roomOf handles boxes objs)
+
+unfoldable pub queryOf : Tables → Aabb → List (List ℕ) → List (List Float) → List ℕ → Findings
+unfolding answerOf narrow
+queryOf t q handles boxes objs =
+    let ss = narrow t q in
+    byTests (queryTests t q handles boxes objs)
+    (findings (count 0 (length ss)) (written (map (handleAt (t .nums)) ss) handles) (written (map (boxRow (t .reals)) ss) boxes) (written (map (objOn t) ss) objs))
+    (λ a. findings (count a (pick (eqb a 9) (length ss) 0)) handles boxes objs)

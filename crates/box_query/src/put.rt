@@ -1,0 +1,79 @@
+// Writing what was found into the outputs.
+ghost use mathlib.Core.Path.{_≡_};
+ghost use mathlib.Core.List.{map};
+ghost use Prim.Native.Nat.{_≤_};
+ghost use lib.ListN.{length, take};
+ghost use Rattle.basics.specs.Meaning.Lent.{was, is};
+ghost use Rattle.storage.specs.Meaning.Keyed.{written};
+ghost use Rattle.box_query.specs.Meaning.Queries.{boxRow};
+ghost use Rattle.box_query.specs.Inner.Put.{Found};
+ghost use Rattle.slot_walks.specs.Meaning.Live.{objAt, handleAt};
+use slots::Row;
+
+// Slot and version.
+pub fn put_handles(
+    nums: &[Row],
+    found: &[u32; basics::MOST_BOXES],
+    n: usize,
+    handles: &mut [[u32; 2]],
+)
+    requires { ⌜ Found (length (now nums)) (now found) n × (n ≤ length (now handles)) ⌝ }
+    ensures { λ _. ⌜ is handles ≡ written (map (handleAt (was nums)) (take n (was found))) (was handles) ⌝ }
+{
+    let mut k = 0;
+    while k < n {
+        let s = found[k];
+        let row = nums[basics::wide(s)];
+        handles[k] = [s, row[0]];
+        k += 1;
+    }
+}
+
+// The four numbers of the box.
+fn put_boxes(
+    reals: &[[f32; 4]],
+    found: &[u32; basics::MOST_BOXES],
+    n: usize,
+    boxes: &mut [[f32; 4]],
+)
+    requires { ⌜ Found (length (now reals)) (now found) n × (n ≤ length (now boxes)) ⌝ }
+    ensures { λ _. ⌜ is boxes ≡ written (map (boxRow (was reals)) (take n (was found))) (was boxes) ⌝ }
+{
+    let mut k = 0;
+    while k < n {
+        let row = reals[basics::wide(found[k])];
+        boxes[k] = [row[0], row[1], row[2], row[3]];
+        k += 1;
+    }
+}
+
+// The data.
+fn put_objs(nums: &[Row], found: &[u32; basics::MOST_BOXES], n: usize, objs: &mut [u32])
+    requires { ⌜ Found (length (now nums)) (now found) n × (n ≤ length (now objs)) ⌝ }
+    ensures { λ _. ⌜ is objs ≡ written (map (objAt (was nums)) (take n (was found))) (was objs) ⌝ }
+{
+    let mut k = 0;
+    while k < n {
+        let row = nums[basics::wide(found[k])];
+        objs[k] = row[2];
+        k += 1;
+    }
+}
+
+// Handle, box and data.
+pub fn put_findings(
+    nums: &[Row],
+    reals: &[[f32; 4]],
+    found: &[u32; basics::MOST_BOXES],
+    n: usize,
+    handles: &mut [[u32; 2]],
+    boxes: &mut [[f32; 4]],
+    objs: &mut [u32],
+)
+    requires { ⌜ Found (length (now nums)) (now found) n × (length (now reals) ≡ length (now nums)) × (n ≤ length (now handles)) × (n ≤ length (now boxes)) × (n ≤ length (now objs)) ⌝ }
+    ensures { λ _. ⌜ (is handles ≡ written (map (handleAt (was nums)) (take n (was found))) (was handles)) × (is boxes ≡ written (map (boxRow (was reals)) (take n (was found))) (was boxes)) × (is objs ≡ written (map (objAt (was nums)) (take n (was found))) (was objs)) ⌝ }
+{
+    put_handles(nums, found, n, handles);
+    put_boxes(reals, found, n, boxes);
+    put_objs(nums, found, n, objs);
+}

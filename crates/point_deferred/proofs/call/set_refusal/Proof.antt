@@ -1,0 +1,73 @@
+-- `point_deferred::call::set_refusal` meets its contract. Assumes nothing.
+use Prim.Native.Nat.{ℕ, _<_}
+use mathlib.Core.Path.{_≡_, ap, sym, _∙_}
+use mathlib.Core.Bool.{true, false}
+use mathlib.Core.List.{[]}
+use lib.ListN.{length, getD}
+use borrow.Author.Tests.{not-true, not-false}
+use borrow.Author.Needs.{needs}
+use native.Mathlib.Omega.{arith}
+use Rattle.geometry.specs.Meaning.Domain.{positionInDomain}
+use Rattle.slots.specs.Meaning.Slot.{good}
+use Rattle.slots.proofs.laws.HandleLaws.{good-says}
+use Rattle.point_records.specs.Meaning.Columns.{recordAt}
+use Rattle.point_records.specs.Meaning.States.{isRemoved}
+use Rattle.point_deferred.specs.Inner.Held.{setRefusal}
+use Rattle.point_deferred.proofs.Shared.{above-two, up-to-two}
+use Rattle.point_deferred.proofs.call.set_refusal.Statement.{statement}
+use Rattle.point_deferred.proofs.call.set_refusal.Tie as tie
+
+-- past the first test, and past the second
+near : (c : tie.Else1) → positionInDomain (c .before .before .args .at) ≡ true
+near c = sym (c .before .position-in-domain .ensures) ∙ not-false _ (c .if1 .left)
+
+fine : (c : tie.Else2) → good (c .before .before .before .before .args .nums .now) (c .before .before .before .before .args .h .slot) (c .before .before .before .before .args .h .version) ≡ true
+fine c = sym (c .before .is-good .ensures) ∙ not-false _ (c .if2 .left)
+
+-- the tag that was read is that of the handle's slot
+tag-is : (c : tie.After-tag) → getD (getD (c .before .before .before .before .before .before .args .nums .now) (c .before .wide .result) []) 3 0 ≡ getD (getD (c .before .before .before .before .before .before .args .nums .now) (c .before .before .before .before .before .before .args .h .slot) []) 3 0
+tag-is c = ap (λ (s : ℕ). getD (getD (c .before .before .before .before .before .before .args .nums .now) s []) 3 0) (c .before .wide .ensures)
+
+inside : (c : tie.After-wide) → c .wide .result < length (c .before .before .before .before .before .args .nums .now)
+inside c =
+    let a = c .before .before .before .before .before .args in
+    omega (arith, good-says (a .nums .now) (a .h .slot) (a .h .version) .yes (fine (c .before)) .0, c .wide .ensures)
+
+returns : tie.Need-returns
+unfolding setRefusal
+returns c = simp (sym (c .before .position-in-domain .ensures) ∙ not-true _ (c .if1 .taken))
+
+returns-2 : tie.Need-returns-2
+unfolding setRefusal
+returns-2 c = simp (near (c .before .before), sym (c .before .is-good .ensures) ∙ not-true _ (c .if2 .taken))
+
+returns-3 : tie.Need-returns-3
+unfolding setRefusal
+returns-3 c =
+    let a = c .before .before .before .before .before .before .before .args in
+    let r = isRemoved (recordAt (a .nums .now) (a .reals .now) (a .ints .now) (a .h .slot) .state) in
+    let e : r ≡ true = above-two (getD (getD (a .nums .now) (a .h .slot) []) 3 0) _ _ (omega (arith, tag-is (c .before), c .if3 .taken)) in
+    simp (near (c .before .before .before .before .before), fine (c .before .before .before), e)
+
+returns-4 : tie.Need-returns-4
+unfolding setRefusal
+returns-4 c =
+    let a = c .before .before .before .before .before .before .before .args in
+    let r = isRemoved (recordAt (a .nums .now) (a .reals .now) (a .ints .now) (a .h .slot) .state) in
+    let e : r ≡ false = up-to-two (getD (getD (a .nums .now) (a .h .slot) []) 3 0) _ _ (omega (arith, tag-is (c .before), c .if3 .left)) in
+    simp (near (c .before .before .before .before .before), fine (c .before .before .before), e)
+
+pub set-refusal-spec : {M : Type 1} → statement M
+set-refusal-spec =
+    tie.close
+    (tie.spec
+    (λ c κs. search needs)
+    returns
+    (λ c κs. search needs)
+    returns-2
+    (λ c κs. search needs)
+    (λ c. omega (arith, inside c))
+    (λ c. inside c)
+    (λ c. search needs)
+    returns-3
+    returns-4)

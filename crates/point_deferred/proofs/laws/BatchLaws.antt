@@ -1,0 +1,84 @@
+-- A batch runs its calls one by one: what holds before each, and what is left to do. Assumes nothing.
+use Prim.Native.Nat.{ℕ, suc, _+_, _≤_, _<_}
+use mathlib.Core.Path.{_≡_, refl, sym, ap, _∙_, subst}
+use mathlib.Core.List.{List, [], _∷_, _++_}
+use native.Mathlib.Omega.{arith}
+use native.Mathlib.Nat.{zero-add}
+use native.Mathlib.Numerals.{add-one}
+use lib.Ieee.{Float}
+use lib.ListN.{length, getD, set, drop, length-set, drop-of-length-le}
+use lib.Seq.{sets, sets-eq, drop-cons}
+use Rattle.storage.specs.Meaning.Keyed.{written}
+use Rattle.point_tables.specs.Meaning.Tables.{Tables}
+use Rattle.point_tables.specs.Meaning.Outcome.{Outcome, outcome}
+use Rattle.replies.specs.declared.Reply.{Reply}
+use Rattle.point_deferred.specs.Meaning.Batch.{Call, callsOf, handleOf, positionOf, replyRows}
+use Rattle.point_deferred.specs.Inner.Ready.{Ready}
+use Rattle.point_deferred.specs.Inner.Held.{call, heldOf, heldAfter, heldReplies}
+use Rattle.point_deferred.proofs.laws.HeldLaws.{held-ready, SameLong, held-long}
+
+module _ (kinds : List ℕ) (handles : List (List ℕ)) (positions : List (List Float)) where
+  -- the calls, those from the i-th on, and the i-th
+  abbrev pub calls : List Call
+  calls = callsOf kinds handles positions
+
+  abbrev pub callsFrom : ℕ → List Call
+  callsFrom i = callsOf (drop i kinds) (drop i handles) (drop i positions)
+
+  abbrev pub callAt : ℕ → Call
+  callAt i = call (getD kinds i 0) (handleOf (getD handles i [])) (positionOf (getD positions i []))
+
+  -- after i calls: what the rest of them makes of the tables and of the output is what all of them make of those at the start
+  pub record Running (t₀ : Tables) (out₀ : List (List ℕ)) (t : Tables) (out : List (List ℕ)) (i : ℕ) : Type 0 where
+    pub most : i ≤ length kinds
+    pub ready : Ready t
+    pub after : heldAfter t (callsFrom i) ≡ heldAfter t₀ calls
+    pub rows : sets out i (replyRows (heldReplies t (callsFrom i))) ≡ sets out₀ 0 (replyRows (heldReplies t₀ calls))
+    pub long : length out ≡ length out₀
+    pub same : SameLong t₀ t
+
+  replies-long : (ks : List ℕ) (hs : List (List ℕ)) (ps : List (List Float)) (t : Tables) → length (replyRows (heldReplies t (callsOf ks hs ps))) ≤ length ks
+  unfolding heldReplies
+  replies-long [] hs ps t = omega arith
+  replies-long (k ∷ ks) [] ps t = omega arith
+  replies-long (k ∷ ks) (h ∷ hs) [] t = omega arith
+  replies-long (k ∷ ks) (h ∷ hs) (p ∷ ps) t = omega (arith, replies-long ks hs ps (heldOf t (call k (handleOf h) (positionOf p)) .after))
+
+  module _ (t₀ : Tables) (out₀ : List (List ℕ)) where
+    pub start : Ready t₀ → Running t₀ out₀ t₀ out₀ 0
+    start r = record { most = omega arith; ready = r; after = refl; rows = refl; long = refl; same = record { nums = refl; reals = refl; ints = refl; cells = refl } }
+
+    module _ (of-handles : length handles ≡ length kinds) (of-positions : length positions ≡ length kinds) where
+      next-call : (i : ℕ) → i < length kinds → callsFrom i ≡ callAt i ∷ callsFrom (suc i)
+      next-call i l =
+          let lh : i < length handles = rw of-handles l in
+          let lp : i < length positions = rw of-positions l in
+          rw (drop-cons kinds i 0, drop-cons handles i [], drop-cons positions i [])
+
+      pub step : (t u : Tables) (out : List (List ℕ)) (r : Reply) (i : ℕ) → Running t₀ out₀ t out i → i < length kinds → outcome r u ≡ heldOf t (callAt i)
+          → Running t₀ out₀ u (set out i (r .answer ∷ r .obj ∷ [])) (i + 1)
+      unfolding heldAfter heldReplies
+      step t u out r i g l e =
+          let a : heldAfter (heldOf t (callAt i) .after) (callsFrom (suc i)) ≡ heldAfter t₀ calls = rw (next-call i l) at (g .after) in
+          let b : sets out i (replyRows (heldOf t (callAt i) .result ∷ heldReplies (heldOf t (callAt i) .after) (callsFrom (suc i)))) ≡ sets out₀ 0 (replyRows (heldReplies t₀ calls)) = rw (next-call i l) at (g .rows) in
+          let m : SameLong t u = subst (λ (o : Outcome Reply). SameLong t (o .after)) (sym e) (held-long t (callAt i) (g .ready)) in
+          record {
+            most = omega arith;
+            ready = subst (λ (o : Outcome Reply). Ready (o .after)) (sym e) (held-ready t (callAt i) (g .ready));
+            after = rw add-one (subst (λ (o : Outcome Reply). heldAfter (o .after) (callsFrom (suc i)) ≡ heldAfter t₀ calls) (sym e) a);
+            rows = rw add-one (subst (λ (o : Outcome Reply). sets out i (replyRows (o .result ∷ heldReplies (o .after) (callsFrom (suc i)))) ≡ sets out₀ 0 (replyRows (heldReplies t₀ calls))) (sym e) b);
+            long = length-set out i (r .answer ∷ r .obj ∷ []) ∙ g .long;
+            same = record { nums = m .nums ∙ g .same .nums; reals = m .reals ∙ g .same .reals; ints = m .ints ∙ g .same .ints; cells = m .cells ∙ g .same .cells };
+          }
+
+    none-left : (i : ℕ) → length kinds ≤ i → callsFrom i ≡ []
+    none-left i l = rw (drop-of-length-le kinds l)
+
+    pub finish : (t : Tables) (out : List (List ℕ)) (i : ℕ) → Running t₀ out₀ t out i → length kinds ≤ i → length kinds ≤ length out₀
+        → (t ≡ heldAfter t₀ calls) × (out ≡ written (replyRows (heldReplies t₀ calls)) out₀)
+    unfolding heldAfter heldReplies
+    finish t out i g l m =
+        let a : t ≡ heldAfter t₀ calls = rw (none-left i l) at (g .after) in
+        let b : out ≡ sets out₀ 0 (replyRows (heldReplies t₀ calls)) = rw (none-left i l) at (g .rows) in
+        let rows = replyRows (heldReplies t₀ calls) in
+        (a, b ∙ sets-eq rows out₀ 0 (omega (arith, replies-long kinds handles positions t₀)) ∙ ap (λ n. rows ++ drop n out₀) (zero-add (length rows)))

@@ -1,0 +1,85 @@
+-- A batch of deferred calls: kind 0 is `set_position`, any other `remove`. Assumes nothing.
+use Prim.Native.Nat.{ℕ}
+use mathlib.Core.Bool.{Bool, _&&_}
+use mathlib.Core.List.{List, [], _∷_}
+use lib.Dec.{eqb, leb}
+use lib.Ieee.{Float, nan}
+use lib.ListN.{length, getD}
+use Rattle.basics.specs.Meaning.Lent.{Lent, is}
+use Rattle.basics.specs.Meaning.Refusals.{Refusal, unless, firstOf, pick, byTests}
+use Rattle.geometry.specs.declared.Position.{Position}
+use Rattle.slots.specs.declared.Handle.{Handle}
+use Rattle.storage.specs.Meaning.Keyed.{written}
+use Rattle.point_tables.specs.Meaning.Tables.{Tables}
+use Rattle.point_tables.specs.Meaning.Decide.{holds}
+use Rattle.point_tables.specs.Meaning.Outcome.{Outcome, outcome}
+use Rattle.replies.specs.declared.Reply.{Reply}
+use Rattle.point_deferred.specs.declared.BatchReply.{BatchReply}
+use Rattle.point_deferred.specs.Meaning.Moves.{setPositionOf, removeOf}
+
+pub record Call : Type 0 where
+  pub kind : ℕ
+  pub handle : Handle
+  pub at : Position
+
+-- one call, and calls one after the other
+unfoldable pub callOf : Tables → Call → Outcome Reply
+callOf t c = pick (eqb (c .kind) 0) (setPositionOf t (c .handle) (c .at)) (removeOf t (c .handle))
+
+unfoldable pub tablesAfter : Tables → List Call → Tables
+unfolding callOf
+tablesAfter t [] = t
+tablesAfter t (c ∷ cs) = tablesAfter (callOf t c .after) cs
+
+unfoldable pub replies : Tables → List Call → List Reply
+unfolding callOf
+replies t [] = []
+replies t (c ∷ cs) = callOf t c .result ∷ replies (callOf t c .after) cs
+
+-- ---- the calls as they are lent: kinds, handles (slot, version) and positions (x, y), a place of each for a call
+abbrev pub handleOf : List ℕ → Handle
+handleOf row = record { slot = getD row 0 0; version = getD row 1 0 }
+
+abbrev pub positionOf : List Float → Position
+positionOf row = record { x = getD row 0 nan; y = getD row 1 nan }
+
+abbrev pub callsOf : List ℕ → List (List ℕ) → List (List Float) → List Call
+callsOf [] hs ps = []
+callsOf (k ∷ ks) [] ps = []
+callsOf (k ∷ ks) (h ∷ hs) [] = []
+callsOf (k ∷ ks) (h ∷ hs) (p ∷ ps) = record { kind = k; handle = handleOf h; at = positionOf p } ∷ callsOf ks hs ps
+
+-- ---- the output: a row (answer, data) for each call
+abbrev pub replyRows : List Reply → List (List ℕ)
+replyRows [] = []
+replyRows (r ∷ rs) = (r .answer ∷ r .obj ∷ []) ∷ replyRows rs
+
+abbrev pub even : List ℕ → List (List ℕ) → List (List Float) → Bool
+even kinds handles positions = eqb (length handles) (length kinds) && eqb (length positions) (length kinds)
+
+abbrev pub batchTests : Tables → List ℕ → List (List ℕ) → List (List Float) → List (List ℕ) → List Refusal
+batchTests t kinds handles positions out =
+    unless (even kinds handles positions && holds t) 3 ∷ unless (leb (length kinds) (length out)) 9 ∷ []
+
+unfoldable pub batchAnswer : Tables → List ℕ → List (List ℕ) → List (List Float) → List (List ℕ) → ℕ
+batchAnswer t kinds handles positions out = firstOf (batchTests t kinds handles positions out)
+
+-- what a batch returns: its answer, and the number of its calls with 0 and with 9; and the output after it
+pub record Batched : Type 0 where
+  pub answer : ℕ
+  pub count : ℕ
+  pub out : List (List ℕ)
+
+abbrev pub batched : ℕ → ℕ → List (List ℕ) → Batched
+batched a n o = record { answer = a; count = n; out = o }
+
+abbrev pub batchedBy : BatchReply → Lent (List (List ℕ)) → Batched
+batchedBy r out = batched (r .answer) (r .count) (is out)
+
+unfoldable pub batchOf : Tables → List ℕ → List (List ℕ) → List (List Float) → List (List ℕ) → Outcome Batched
+unfolding batchAnswer replies tablesAfter
+batchOf t kinds handles positions out =
+    let calls = callsOf kinds handles positions in
+    byTests (batchTests t kinds handles positions out)
+    (outcome (batched 0 (length kinds) (written (replyRows (replies t calls)) out)) (tablesAfter t calls))
+    (λ a. outcome (batched a (pick (eqb a 9) (length kinds) 0) out) t)

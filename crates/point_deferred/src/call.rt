@@ -1,0 +1,168 @@
+// One deferred call on tables that hold a grid: kind 0 is `set_position`, any other `remove`. The pool is neither read nor written.
+ghost use mathlib.Core.Path.{_≡_};
+ghost use Prim.Native.Nat.{_<_};
+ghost use lib.ListN.{length};
+ghost use Rattle.basics.specs.Meaning.Lent.{was, is};
+ghost use Rattle.cells.specs.Meaning.Size.{SizeInDomain};
+ghost use Rattle.point_records.specs.Meaning.Columns.{recordAt};
+ghost use Rattle.point_records.specs.Meaning.Occupied.{InDomain};
+ghost use Rattle.point_tables.specs.Meaning.Outcome.{outcome};
+ghost use Rattle.point_deferred.specs.Inner.Ready.{Ready, Workable};
+ghost use Rattle.point_deferred.specs.Inner.Held;
+ghost use Rattle.point_deferred.specs.Inner.Held.{lentPoolless, poollessBefore, poollessAfter, recordsBefore, recordsAfter, setRefusal, removeRefusal};
+ghost use Rattle.point_deferred.specs.Inner.Held.{refusalOf, tagTo, PendedRows, worked, heldOf, unmarkedOf};
+use cells::Cell;
+use geometry::Position;
+use replies::Reply;
+use slots::Handle;
+use slots::Row;
+
+fn set_refusal(nums: &[Row], reals: &[[f32; 4]], ints: &[[i32; 4]], h: Handle, at: Position) -> u32
+    requires { ⌜ (length (now reals) ≡ length (now nums)) × (length (now ints) ≡ length (now nums)) ⌝ }
+    ensures { λ r. ⌜ r ≡ setRefusal (was nums) (recordAt (was nums) (was reals) (was ints) (h .slot) .state) h at ⌝ }
+{
+    if !geometry::position_in_domain(at) {
+        return 6;
+    }
+    if !slots::is_good(nums, h) {
+        return 5;
+    }
+    let s = basics::wide(h.slot);
+    let tag = nums[s][3];
+    if 2 < tag {
+        return 1;
+    }
+    0
+}
+
+fn remove_refusal(nums: &[Row], h: Handle) -> u32
+    ensures { λ r. ⌜ r ≡ removeRefusal (was nums) h ⌝ }
+{
+    if !slots::is_good(nums, h) {
+        return 5;
+    }
+    0
+}
+
+// The answer: the first refusal that applies, or 0.
+fn refusal(
+    nums: &[Row],
+    reals: &[[f32; 4]],
+    ints: &[[i32; 4]],
+    kind: u32,
+    h: Handle,
+    at: Position,
+) -> u32
+    requires { ⌜ (length (now reals) ≡ length (now nums)) × (length (now ints) ≡ length (now nums)) ⌝ }
+    ensures { λ r. ⌜ r ≡ refusalOf (was nums) (recordAt (was nums) (was reals) (was ints) (h .slot) .state) (Held.call kind h at) ⌝ }
+{
+    if kind == 0 {
+        return set_refusal(nums, reals, ints, h, at);
+    }
+    remove_refusal(nums, h)
+}
+
+// The tag of what becomes pending for an object of cell c that moves to cell d.
+fn tag_to(d: Cell, c: Cell) -> u32
+    ensures { λ r. ⌜ r ≡ tagTo d c ⌝ }
+{
+    if cells::same_cell(d, c) {
+        return 1;
+    }
+    2
+}
+
+// The object at slot s has something pending.
+fn pend(
+    nums: &mut [Row],
+    reals: &mut [[f32; 4]],
+    ints: &mut [[i32; 4]],
+    size: u64,
+    s: usize,
+    kind: u32,
+    at: Position,
+) -> u32
+    requires { ⌜ (s < length (now nums)) × (s < length (now reals)) × (s < length (now ints)) × SizeInDomain size × (kind ≡ 0 → InDomain at) ⌝ }
+    ensures { λ r. ⌜ PendedRows (was nums) (was reals) (was ints) size s kind at r (is nums) (is reals) (is ints) ⌝ }
+{
+    let n = nums[s];
+    let q = reals[s];
+    let z = ints[s];
+    if kind != 0 {
+        nums[s] = [n[0], n[1], n[2], 3];
+        reals[s] = [q[0], q[1], q[0], q[1]];
+        ints[s] = [z[0], z[1], z[0], z[1]];
+        return n[2];
+    }
+    let d = cells::cell_at(size, at);
+    let t = tag_to(d, Cell { x: z[0], y: z[1] });
+    nums[s] = [n[0], n[1], n[2], t];
+    reals[s] = [q[0], q[1], at.x, at.y];
+    ints[s] = [z[0], z[1], d.x, d.y];
+    0
+}
+
+// The object at slot s has something pending, and its cell is marked dirty.
+fn work(
+    nums: &mut [Row],
+    reals: &mut [[f32; 4]],
+    ints: &mut [[i32; 4]],
+    map: &[u64],
+    cells: &mut [[u64; 2]],
+    s: usize,
+    kind: u32,
+    at: Position,
+) -> u32
+    requires { ⌜ Ready (lentPoolless nums reals ints map cells) × Workable (lentPoolless nums reals ints map cells) s kind at ⌝ }
+    ensures { λ r. ⌜ outcome r (poollessAfter nums reals ints map cells) ≡ worked (poollessBefore nums reals ints map cells) s kind at ⌝ }
+{
+    let z = ints[s];
+    let k = cells::key_of(Cell { x: z[0], y: z[1] });
+    let rows = basics::index_of(map[2]);
+    storage::mark_cell(cells, rows, k);
+    pend(nums, reals, ints, map[0], s, kind, at)
+}
+
+// One deferred call, but for the mark of the object's cell.
+pub fn unmarked(
+    nums: &mut [Row],
+    reals: &mut [[f32; 4]],
+    ints: &mut [[i32; 4]],
+    size: u64,
+    kind: u32,
+    h: Handle,
+    at: Position,
+) -> Reply
+    requires { ⌜ (length (now reals) ≡ length (now nums)) × (length (now ints) ≡ length (now nums)) × SizeInDomain size ⌝ }
+    ensures { λ r. ⌜ outcome r (recordsAfter nums reals ints size) ≡ unmarkedOf (recordsBefore nums reals ints size) (Held.call kind h at) ⌝ }
+{
+    let a = refusal(nums, reals, ints, kind, h, at);
+    if a != 0 {
+        return Reply { answer: a, obj: 0 };
+    }
+    let s = basics::wide(h.slot);
+    let d = pend(nums, reals, ints, size, s, kind, at);
+    Reply { answer: 0, obj: d }
+}
+
+pub fn deferred(
+    nums: &mut [Row],
+    reals: &mut [[f32; 4]],
+    ints: &mut [[i32; 4]],
+    map: &[u64],
+    cells: &mut [[u64; 2]],
+    kind: u32,
+    h: Handle,
+    at: Position,
+) -> Reply
+    requires { ⌜ Ready (lentPoolless nums reals ints map cells) ⌝ }
+    ensures { λ r. ⌜ outcome r (poollessAfter nums reals ints map cells) ≡ heldOf (poollessBefore nums reals ints map cells) (Held.call kind h at) ⌝ }
+{
+    let a = refusal(nums, reals, ints, kind, h, at);
+    if a != 0 {
+        return Reply { answer: a, obj: 0 };
+    }
+    let s = basics::wide(h.slot);
+    let d = work(nums, reals, ints, map, cells, s, kind, at);
+    Reply { answer: 0, obj: d }
+}

@@ -1,0 +1,65 @@
+// The deferred calls of trackers: `set_position`, `remove`, and a batch of them. Nothing moves before maintain.
+// Each public call checks the tables first.
+ghost use mathlib.Core.Path.{_≡_};
+ghost use Rattle.point_tables.specs.Meaning.Lent.{after, before};
+ghost use Rattle.point_tables.specs.Meaning.Outcome.{outcome};
+ghost use Rattle.point_deferred.specs.Meaning.Moves.{setPositionOf, removeOf};
+ghost use Rattle.replies.specs.Meaning.Replies.{reply};
+
+mod batches;
+mod call;
+mod marks;
+
+pub use batches::batch;
+use geometry::Position;
+use replies::Reply;
+use slots::Handle;
+use slots::Row;
+
+// The answer of a batch, and with 0 and 9 the number of its calls.
+pub struct BatchReply {
+    pub answer: u32,
+    pub count: u64,
+}
+
+// The object takes `at` as its new position, pending: a relocation if the cell of `at` is not its recorded cell.
+pub fn set_position(
+    nums: &mut [Row],
+    reals: &mut [[f32; 4]],
+    ints: &mut [[i32; 4]],
+    map: &[u64],
+    pool: &[[u64; 2]],
+    spots: &[[f32; 2]],
+    cells: &mut [[u64; 2]],
+    h: Handle,
+    at: Position,
+) -> u32
+    ensures { λ r. ⌜ outcome (reply r 0) (after nums reals ints map pool spots cells) ≡ setPositionOf (before nums reals ints map pool spots cells) h at ⌝ }
+{
+    if !point_tables::check(nums, reals, ints, map, pool, spots, cells) {
+        return 3;
+    }
+    let r = call::deferred(nums, reals, ints, map, cells, 0, h, at);
+    r.answer
+}
+
+// The object is marked as removed, and its data returned; a second one before maintain returns it again.
+pub fn remove(
+    nums: &mut [Row],
+    reals: &mut [[f32; 4]],
+    ints: &mut [[i32; 4]],
+    map: &[u64],
+    pool: &[[u64; 2]],
+    spots: &[[f32; 2]],
+    cells: &mut [[u64; 2]],
+    h: Handle,
+) -> Reply
+    ensures { λ r. ⌜ outcome r (after nums reals ints map pool spots cells) ≡ removeOf (before nums reals ints map pool spots cells) h ⌝ }
+{
+    if !point_tables::check(nums, reals, ints, map, pool, spots, cells) {
+        return Reply { answer: 3, obj: 0 };
+    }
+    // a removal looks at no position
+    let nowhere = Position { x: 0.0, y: 0.0 };
+    call::deferred(nums, reals, ints, map, cells, 1, h, nowhere)
+}

@@ -1,0 +1,74 @@
+-- A history: the calls that change the tables of a point grid, one after the other, accepted or refused. The calls that only read change
+-- nothing. Assumes nothing.
+use Prim.Native.Nat.{ℕ, _+_}
+use mathlib.Core.List.{List, [], _∷_}
+use lib.Dec.{eqb}
+use lib.Ieee.{Float}
+use Rattle.basics.specs.Meaning.Refusals.{pick}
+use Rattle.geometry.specs.declared.Position.{Position}
+use Rattle.slots.specs.declared.Handle.{Handle}
+use Rattle.point_tables.specs.Meaning.Tables.{Tables}
+use Rattle.point_insert.specs.Meaning.Insert.{insertOf}
+use Rattle.point_deferred.specs.Meaning.Moves.{setPositionOf, removeOf}
+use Rattle.point_deferred.specs.Meaning.Batch.{batchOf}
+use Rattle.point_remove.specs.Meaning.RemoveMaintain.{removeMaintainOf}
+use Rattle.point_remove.specs.Meaning.Clear.{clearOf}
+use Rattle.point_maintain.specs.Meaning.Maintain.{maintainOf}
+
+-- a call with all that it is handed besides the tables
+pub data Op : Type 0 where
+  insert : Position → ℕ → Op
+  setPosition : Handle → Position → Op
+  remove : Handle → Op
+  batch : List ℕ → List (List ℕ) → List (List Float) → List (List ℕ) → Op
+  maintain : Op
+  removeMaintain : Handle → Op
+  clear : List (List Float) → List ℕ → Op
+
+-- the tables after a call, and after a history
+unfoldable pub after : Tables → Op → Tables
+after t (insert p d) = insertOf t p d .after
+after t (setPosition h p) = setPositionOf t h p .after
+after t (remove h) = removeOf t h .after
+after t (batch kinds handles positions out) = batchOf t kinds handles positions out .after
+after t maintain = maintainOf t .after
+after t (removeMaintain h) = removeMaintainOf t h .after
+after t (clear places objs) = clearOf t places objs .after
+
+unfoldable pub afterAll : Tables → List Op → Tables
+unfolding after
+afterAll t [] = t
+afterAll t (o ∷ os) = afterAll (after t o) os
+
+-- what counts if the answer is 0
+abbrev pub accepted : ℕ → ℕ → ℕ
+accepted answer n = pick (eqb answer 0) n 0
+
+-- ---- objects put in by an accepted insert, and objects taken out, by maintain, remove_maintain and clear, as the calls report them
+unfoldable pub putIn : Tables → Op → ℕ
+putIn t (insert p d) = accepted (insertOf t p d .result .answer) 1
+putIn t (setPosition h p) = 0
+putIn t (remove h) = 0
+putIn t (batch kinds handles positions out) = 0
+putIn t maintain = 0
+putIn t (removeMaintain h) = 0
+putIn t (clear places objs) = 0
+
+unfoldable pub takenOut : Tables → Op → ℕ
+takenOut t (insert p d) = 0
+takenOut t (setPosition h p) = 0
+takenOut t (remove h) = 0
+takenOut t (batch kinds handles positions out) = 0
+takenOut t maintain = maintainOf t .result .removed
+takenOut t (removeMaintain h) = accepted (removeMaintainOf t h .result .answer) 1
+takenOut t (clear places objs) = accepted (clearOf t places objs .result .returned .answer) (clearOf t places objs .result .returned .count)
+
+unfoldable pub allIn : Tables → List Op → ℕ
+unfolding putIn after
+allIn t [] = 0
+allIn t (o ∷ os) = putIn t o + allIn (after t o) os
+
+unfoldable pub allOut : Tables → List Op → ℕ
+unfolding takenOut after
+allOut t [] = 0
+allOut t (o ∷ os) = takenOut t o + allOut (after t o) os

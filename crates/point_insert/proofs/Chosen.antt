@@ -1,0 +1,72 @@
+-- An insert by its answer: what holds where it is 0, and its outcome either way. Assumes nothing.
+use Prim.Native.Nat.{ℕ, _+_, _≤_}
+use mathlib.Core.Path.{_≡_, refl, sym, _∙_}
+use mathlib.Core.Bool.{Bool, true, false}
+use mathlib.Core.List.{List}
+use native.Mathlib.Omega.{arith}
+use lib.ListN.{length}
+use borrow.Author.Tests.{ne-eqb}
+use Rattle.basics.proofs.laws.Says.{says-t}
+use Rattle.geometry.specs.Meaning.Domain.{positionInDomain}
+use Rattle.geometry.specs.declared.Position.{Position}
+use Rattle.slots.specs.declared.Usable.{Usable}
+use Rattle.slots.specs.declared.Usable.the-variants.{At, Nothing}
+use Rattle.slots.specs.Meaning.Map.{wordsFor, lowestUsable}
+use Rattle.slots.specs.Inner.Map.{NonePast}
+use Rattle.slots.specs.Meaning.Slot.{versionAt}
+use Rattle.slots.proofs.laws.SlotLaws.{lowest-free}
+use Rattle.point_tables.specs.Meaning.Tables.{Tables, slotsOf}
+use Rattle.point_tables.specs.Meaning.Decide.{holds, holds-says}
+use Rattle.point_tables.specs.Meaning.Outcome.{outcome}
+use Rattle.replies.specs.declared.Inserted.{Inserted}
+use Rattle.point_insert.specs.Meaning.Insert.{usableSlot, put, insertAnswer, insertOf}
+use Rattle.point_insert.proofs.laws.Insert.{answerBy}
+use Rattle.point_insert.specs.Inner.Fresh.{Fresh, Chose}
+use Rattle.point_insert.proofs.laws.InsertLaws.{insert-done}
+use Rattle.replies.specs.Meaning.Replies.{inserted}
+
+-- ---- the choice, test by test
+module _ (held : Bool) (p : Position) (m : List ℕ) (n : ℕ) where
+  pub chose-3 : held ≡ false → Chose held p m n 3 0
+  chose-3 e = (rw e, λ q. absurd (omega arith))
+
+  pub chose-6 : held ≡ true → positionInDomain p ≡ false → Chose held p m n 6 0
+  chose-6 e f = (rw (e, f), λ q. absurd (omega arith))
+
+  pub chose-4 : held ≡ true → positionInDomain p ≡ true → lowestUsable m n ≡ Nothing → Chose held p m n 4 0
+  chose-4 e f u = (rw (e, f, u), λ q. absurd (omega arith))
+
+  pub chose-slot : held ≡ true → positionInDomain p ≡ true → (s : ℕ) → lowestUsable m n ≡ At s → Chose held p m n 0 s
+  chose-slot e f s u = (rw (e, f, u), λ q. u)
+
+all-passed : (a b : Bool) (u : Usable) → answerBy a b u ≡ 0 → (a ≡ true) × (b ≡ true)
+all-passed true true u e = (refl, refl)
+all-passed true false u e = absurd (omega arith)
+all-passed false b u e = absurd (omega arith)
+
+module _ (t : Tables) (p : Position) (d : ℕ) (held : Bool) (eh : held ≡ holds t) where
+  -- what `choose` asks
+  pub choose-asks : held ≡ true → (length (t .map) ≡ 3 + wordsFor (slotsOf t)) × (slotsOf t ≤ 4096) × NonePast (t .map) (slotsOf t)
+  choose-asks e =
+      let h = holds-says t .yes (sym eh ∙ e) in
+      (h .sized .of-map, h .sized .most, h .slots .past)
+
+  module _ (a : ℕ) (ea : a ≡ answerBy held (positionInDomain p) (lowestUsable (t .map) (slotsOf t))) where
+    answer-is : a ≡ insertAnswer t p
+    unfolding insertAnswer
+    answer-is = rw (ea, eh)
+
+    pub refused : (a ≡ 0 → ⊥) → (r : Inserted) → r ≡ inserted a 0 0 → outcome r t ≡ insertOf t p d
+    unfolding insertOf
+    refused n r q = rw (q, ← answer-is, ne-eqb a 0 n)
+
+    module _ (z : a ≡ 0) (s : ℕ) (u : usableSlot t ≡ At s) where
+      pub chosen : Fresh t s p
+      chosen =
+          let k = all-passed held (positionInDomain p) (lowestUsable (t .map) (slotsOf t)) (sym ea ∙ z) in
+          let h = holds-says t .yes (sym eh ∙ k .0) in
+          let f = lowest-free (t .nums) (t .map) (h .slots) s u in
+          record { holds = h; in-domain = says-t (positionInDomain p) .yes (k .1); inside = f .0; is-free = f .1 }
+
+      pub done : (r : Inserted) (w : Tables) → r ≡ inserted 0 s (versionAt (t .nums) s) → w ≡ put t s p d → outcome r w ≡ insertOf t p d
+      done r w e q = rw (e, q) (sym (insert-done t p d s (chosen .holds) (chosen .in-domain) u))

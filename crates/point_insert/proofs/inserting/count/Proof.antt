@@ -1,0 +1,21 @@
+-- `point_insert::inserting::count` meets its contract. Assumes nothing.
+use native.Mathlib.Omega.{arith}
+use lib.ListN.{length-set}
+use borrow.Author.Needs.{needs}
+use Rattle.point_insert.proofs.inserting.count.Statement.{statement}
+use Rattle.point_insert.proofs.inserting.count.Tie as tie
+
+returns : tie.Need-returns
+returns c = cc (c .word-of2 .ensures, c .before .word-of .ensures, c .before .before .before .before .take .ensures)
+
+pub count-spec : {M : Type 1} → statement M
+count-spec =
+    tie.close
+    (tie.spec
+    (λ c κs. search needs)
+    (λ c κs. search needs)
+    (λ c. search needs)
+    (λ c κs. search needs)
+    (λ c. simp length-set (omega arith))
+    (λ c. search needs)
+    returns)

@@ -1,0 +1,10 @@
+-- `insert`: the lowest usable slot takes the object, and (handle, position) goes to the end of its cell's list. Assumes nothing.
+-- Here: the laws.
+use Prim.Native.Nat.{ℕ}
+use mathlib.Core.Bool.{Bool}
+use Rattle.basics.specs.Meaning.Refusals.{firstOf}
+use Rattle.slots.specs.declared.Usable.{Usable}
+use Rattle.point_insert.specs.Meaning.Insert.{insertTestsBy}
+
+abbrev pub answerBy : Bool → Bool → Usable → ℕ
+answerBy held inside u = firstOf (insertTestsBy held inside u)

@@ -1,0 +1,41 @@
+-- What the work of an insert needs, and its parts in the words of the code. Assumes nothing.
+use Prim.Native.Nat.{ℕ, _<_}
+use mathlib.Core.Path.{_≡_}
+use mathlib.Core.Bool.{Bool}
+use mathlib.Core.List.{List}
+use lib.IntN.{ℤ}
+use lib.Ieee.{Float}
+use lib.ListN.{set}
+use Rattle.basics.specs.Meaning.Lent.{Lent, was, is}
+use Rattle.geometry.specs.Meaning.Domain.{positionInDomain}
+use Rattle.geometry.specs.declared.Position.{Position}
+use Rattle.cells.specs.declared.Cell.{Cell}
+use Rattle.slots.specs.declared.Usable.the-variants.{At}
+use Rattle.slots.specs.Meaning.Map.{lowestUsable}
+use Rattle.slots.specs.Meaning.Slot.{free, live, phaseAt}
+use Rattle.point_records.specs.declared.State.the-variants.{Unchanged}
+use Rattle.point_records.specs.declared.Record.{Record}
+use Rattle.point_records.specs.Meaning.Columns.{numsOf, realsOf, intsOf}
+use Rattle.point_records.specs.Meaning.Occupied.{InDomain}
+use Rattle.point_tables.specs.Meaning.Tables.{Tables, slotsOf}
+use Rattle.point_tables.specs.Meaning.Holds.{Holds}
+
+-- tables that hold a grid, a position of the domain, and a slot that is free
+pub record Fresh (t : Tables) (s : ℕ) (p : Position) : Type 0 where
+  pub holds : Holds t
+  pub in-domain : InDomain p
+  pub inside : s < slotsOf t
+  pub is-free : phaseAt (t .nums) s ≡ free
+
+-- what is chosen, by the map m of n slots: the answer a, and where it is 0 the lowest usable slot s
+abbrev pub Chose : Bool → Position → List ℕ → ℕ → ℕ → ℕ → Type 0
+Chose held p m n a s = (a ≡ answerBy held (positionInDomain p) (lowestUsable m n)) × (a ≡ 0 → lowestUsable m n ≡ At s)
+
+-- an object at p, in its cell, with nothing pending
+abbrev pub freshRecord : ℕ → Position → Cell → ℕ → Record
+freshRecord version p c d = record { version = version; phase = live; obj = d; position = p; cell = c; state = Unchanged }
+
+-- lent columns have the record r for slot s after the call, and else what they had before
+abbrev pub Stored : Lent (List (List ℕ)) → Lent (List (List Float)) → Lent (List (List ℤ)) → ℕ → Record → Type 0
+Stored nums reals ints s r =
+    (is nums ≡ set (was nums) s (numsOf r)) × (is reals ≡ set (was reals) s (realsOf r)) × (is ints ≡ set (was ints) s (intsOf r))

@@ -1,0 +1,23 @@
+-- Slots settled one after the other: those of a list, those below n that pass a test, and every live one. Assumes nothing.
+-- Here: the laws.
+use Prim.Native.Nat.{ℕ}
+use mathlib.Core.Path.{_≡_}
+use mathlib.Core.Bool.{Bool, true, false}
+use mathlib.Core.List.{List, [], _∷_}
+use lib.Dec.{eqb}
+use Rattle.basics.specs.Meaning.Refusals.{pick}
+use Rattle.point_tables.specs.Meaning.Tables.{Tables}
+use Rattle.point_maintain.specs.Meaning.Walk.{settled}
+
+-- whether k stands in a list of numbers, and no number stands there twice
+abbrev pub among : ℕ → List ℕ → Bool
+among k [] = false
+among k (j ∷ l) = pick (eqb j k) true (among k l)
+
+abbrev pub Distinct : List ℕ → Type 0
+Distinct [] = Unit {0}
+Distinct (k ∷ l) = (among k l ≡ false) × Distinct l
+
+unfoldable pub settledOver : Tables → List ℕ → Tables
+settledOver t [] = t
+settledOver t (s ∷ ss) = settledOver (settled t s) ss

@@ -1,0 +1,16 @@
+-- Slots settled one after the other: those of a list, those below n that pass a test, and every live one. Assumes nothing.
+-- Here: what only inner contracts cite.
+use Prim.Native.Nat.{ℕ, zero, suc}
+use mathlib.Core.Bool.{Bool}
+use Rattle.basics.specs.Meaning.Refusals.{pick}
+use Rattle.point_tables.specs.Meaning.Tables.{Tables, slotsOf}
+use Rattle.point_tables.specs.Inner.Count.{isLive}
+use Rattle.point_maintain.specs.Meaning.Walk.{settled}
+
+unfoldable pub settledIn : (ℕ → Bool) → ℕ → Tables → Tables
+settledIn test zero t = t
+settledIn test (suc n) t = pick (test n) (settled (settledIn test n t) n) (settledIn test n t)
+
+unfoldable pub settledAll : Tables → Tables
+unfolding settledIn
+settledAll t = settledIn (isLive t) (slotsOf t) t

@@ -1,0 +1,83 @@
+-- The turns of the loops that go over one list, in the terms of the code. Assumes nothing.
+use Prim.Native.Nat.{ℕ, _+_, _-_, _<_, _≤_}
+use mathlib.Core.Path.{_≡_, refl, sym, ap, _∙_}
+use mathlib.Core.List.{List, []}
+use native.Mathlib.Omega.{arith}
+use lib.Ieee.{Float}
+use lib.ListN.{length, getD, set}
+use Rattle.storage.specs.Meaning.Entries.{Entry}
+use Rattle.storage.specs.Meaning.Packed.{second}
+use Rattle.storage.proofs.laws.FilterLaws.{all-any}
+use Rattle.point_tables.specs.Inner.Entry.{entryAt}
+use Rattle.point_maintain.specs.Meaning.Walk.{Fate, stays}
+use Rattle.point_maintain.proofs.laws.KeptLaws.{kept-calm}
+use Rattle.point_maintain_lists.specs.Inner.Tags.{spotBy, fateOfTag, fateIn}
+use Rattle.point_maintain_lists.proofs.laws.TagLaws.{tag-stays, tag-leaves}
+use Rattle.point_maintain_lists.proofs.laws.RunLaws.{run-length, entries-more}
+use Rattle.point_maintain_lists.proofs.laws.LaidLaws.{laid-start}
+use Rattle.point_maintain_lists.specs.Inner.Laid.{Room, Slotted, Laid, listAt}
+use Rattle.point_maintain_lists.proofs.laws.WalkingLaws.{Walking, walking-rows, walking-spots, walking-entry, walking-stays, walking-leaves, walking-done}
+
+-- the places that are read and written are in the columns
+pub record Within (P : List (List ℕ)) (S : List (List Float)) (p w : ℕ) (pool : List (List ℕ)) (spots : List (List Float)) : Type 0 where
+  pub as-rows : length pool ≡ length P
+  pub as-spots : length spots ≡ length S
+  pub row : p < length P
+  pub spot : p < length S
+  pub next : w ≤ p
+
+pub walk-within : (f : Entry → Fate) (P : List (List ℕ)) (S : List (List Float)) (from to w₀ : ℕ) → Room P S from to w₀
+    → (p i end w : ℕ) (pool : List (List ℕ)) (spots : List (List Float)) → Walking f P S from to w₀ p i end w pool spots → i < end → Within P S p w pool spots
+walk-within f P S from to w₀ room p i end w pool spots k h =
+    let g = k .inside h in
+    record {
+      as-rows = walking-rows f P S from to w₀ room p i end w pool spots k;
+      as-spots = walking-spots f P S from to w₀ room p i end w pool spots k;
+      row = omega (arith, g, room);
+      spot = omega (arith, g, room);
+      next = omega (arith, k);
+    }
+
+-- ---- the walk by tags
+module _ (nums : List (List ℕ)) (reals : List (List Float)) (P : List (List ℕ)) (S : List (List Float)) (from to w₀ : ℕ) (room : Room P S from to w₀)
+    (p i end w : ℕ) (pool : List (List ℕ)) (spots : List (List Float)) (k : Walking (fateIn nums reals) P S from to w₀ p i end w pool spots) (h : i < end) where
+  pub walk-slot : Slotted nums reals P from to → second pool p < length nums
+  walk-slot s =
+      rw (ap (λ (e : Entry). getD (e .row) 1 0) (walking-entry (fateIn nums reals) P S from to w₀ room p i end w pool spots k))
+      (s .inside p (omega (arith, k)) (k .inside h))
+
+  module _ (s : ℕ) (q : s ≡ second pool p) where
+    fate-at : fateIn nums reals (entryAt pool spots p) ≡ fateOfTag (getD (getD nums s []) 3 0) (getD reals s []) (entryAt pool spots p)
+    fate-at = ap (λ (x : ℕ). fateOfTag (getD (getD nums x []) 3 0) (getD reals x []) (entryAt pool spots p)) (sym q)
+
+    abbrev laid : List Float
+    laid = spotBy (getD (getD nums s []) 3 0) (getD reals s []) (getD spots p [])
+
+    pub walk-stays : getD (getD nums s []) 3 0 < 2 → (spots′ : List (List Float)) → spots′ ≡ set spots w laid
+        → Walking (fateIn nums reals) P S from to w₀ (i + 1) (i + 1) end (w + 1) (set pool w (getD pool p [])) spots′
+    walk-stays g spots′ e =
+        rw e
+        (walking-stays (fateIn nums reals) P S from to w₀ room p i end w pool spots k h (getD pool p []) laid
+        (fate-at ∙ tag-stays (getD (getD nums s []) 3 0) (getD reals s []) (entryAt pool spots p) g))
+
+    pub walk-leaves : 2 ≤ getD (getD nums s []) 3 0 → Walking (fateIn nums reals) P S from to w₀ (end - 1) i (end - 1) w pool spots
+    walk-leaves g =
+        walking-leaves (fateIn nums reals) P S from to w₀ room p i end w pool spots k h []
+        (fate-at ∙ tag-leaves (getD (getD nums s []) 3 0) (getD reals s []) (entryAt pool spots p) g)
+
+-- ---- a list of which all stay
+pub move-done : (P : List (List ℕ)) (S : List (List Float)) (from to w₀ : ℕ) → Room P S from to w₀
+    → (p i end w : ℕ) (pool : List (List ℕ)) (spots : List (List Float)) → Walking stays P S from to w₀ p i end w pool spots → end ≤ i
+    → Laid (listAt P S from to) P S w₀ to w pool spots
+move-done P S from to w₀ room p i end w pool spots k g =
+    rw (kept-calm stays (listAt P S from to) (all-any (λ e. stays e ≡ stays e) (λ e. refl) (listAt P S from to))) at
+    (walking-done stays P S from to w₀ room p i end w pool spots k g)
+
+-- a list that is left where it is
+pub stay-done : (P : List (List ℕ)) (S : List (List Float)) (from to w : ℕ) → Room P S from to w → w ≡ from → Laid (listAt P S from to) P S w to to P S
+stay-done P S from to w room e =
+    record {
+      count = sym (ap (λ (n : ℕ). w + n) (run-length (entryAt P S) from (to - from)) ∙ omega (arith, room));
+      low = omega arith;
+      columns = rw (← e, entries-more P S w to (omega (arith, room)) (room .in-pool) (room .in-spots)) (laid-start P S to (room .in-pool) (room .in-spots));
+    }

@@ -1,0 +1,11 @@
+-- The entries that stand at places of the pool, one after the other. Assumes nothing.
+-- Here: the laws.
+use Prim.Native.Nat.{ℕ, zero, suc}
+use mathlib.Core.List.{List, [], _∷_}
+use Rattle.point_maintain_lists.specs.Inner.Runs.{run}
+
+module _ {A : Type 0} (at : ℕ → A) where
+  -- the same with what stands at p in front, in the place of what stands at i
+  abbrev pub held : ℕ → ℕ → ℕ → List A
+  held p i zero = []
+  held p i (suc n) = at p ∷ run at (suc i) n

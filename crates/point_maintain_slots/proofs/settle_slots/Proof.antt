@@ -1,0 +1,86 @@
+-- `point_maintain_slots::settle_slots` meets its contract. The slots below i are settled, and their k rows stand from place w on.
+-- The measure is what is left of the slots. Assumes nothing.
+use Prim.Native.Nat.{_+_, _<_, _≤_, _-_}
+use mathlib.Core.Path.{_≡_}
+use native.Mathlib.Omega.{arith}
+use lib.ListN.{length}
+use Rattle.point_tables.specs.Meaning.Tables.{Tables}
+use Rattle.point_maintain_slots.specs.Inner.Pass.{recordsIn}
+use Rattle.point_maintain_slots.proofs.Turns.{Done, none-done, all-done, done-slots, done-reals, done-ints, done-map, done-room, put-long, turn-slotted, turn-room, turn-done}
+use Rattle.point_maintain_slots.proofs.settle_slots.Statement.{statement}
+use Rattle.point_maintain_slots.proofs.settle_slots.Tie as tie
+
+abbrev Inv-loop : tie.InvT-loop
+Inv-loop nums₀ reals₀ ints₀ map₀ pool₀ w k₀ i₀ nums reals ints map pool k i =
+    Done (recordsIn nums₀ reals₀ ints₀ map₀) w pool₀ i (recordsIn nums reals ints map) pool k
+
+abbrev μ-loop : tie.MeasureT-loop
+μ-loop nums₀ reals₀ ints₀ map₀ pool₀ w k₀ i₀ nums reals ints map pool k i = length nums₀ - i
+
+-- the records at entry, and those in a turn
+abbrev at-entry : tie.Start Inv-loop μ-loop → Tables
+at-entry s = recordsIn (s .args .nums .now) (s .args .reals .now) (s .args .ints .now) (s .args .map .now)
+
+abbrev start : tie.At-loop Inv-loop μ-loop → tie.Start Inv-loop μ-loop
+start l = l .before .before
+
+abbrev here : tie.At-loop Inv-loop μ-loop → Tables
+here l = recordsIn (l .loop .nums) (l .loop .reals) (l .loop .ints) (l .loop .map)
+
+-- the lengths stay
+slots-stay : (l : tie.At-loop Inv-loop μ-loop) → length (l .loop .nums) ≡ length (start l .args .nums .now)
+slots-stay l = let s = start l in done-slots (at-entry s) (s .args .w) (s .args .pool .now) (s .pre .0) (s .pre .1) (l .loop .i) (here l) (l .loop .pool) (l .loop .k) (l .loop .inv)
+
+inside : (c : tie.In-loop Inv-loop μ-loop) → c .before .loop .i < length (start (c .before) .args .nums .now)
+inside c = omega (arith, slots-stay (c .before), c .loop-test .taken)
+
+-- what the turn at hand is asked for
+room-here : (c : tie.In-loop Inv-loop μ-loop) → c .before .before .before .args .w + c .before .loop .k ≤ length (start (c .before) .args .pool .now)
+room-here c = let l = c .before in let s = start l in done-room (at-entry s) (s .args .w) (s .args .pool .now) (s .pre .0) (s .pre .1) (l .loop .i) (here l) (l .loop .pool) (l .loop .k) (l .loop .inv)
+
+turn-requires : tie.Need-turn-requires Inv-loop μ-loop
+turn-requires c κs =
+    let t = c .before .before .before .before .before in
+    let l = t .before in
+    let s = start l in (
+      turn-slotted (at-entry s) (s .args .w) (s .args .pool .now) (s .pre .0) (s .pre .1) (l .loop .i) (here l) (l .loop .pool) (l .loop .k) (l .loop .inv) (inside t),
+      turn-room (at-entry s) (s .args .w) (s .args .pool .now) (s .pre .0) (s .pre .1) (l .loop .i) (here l) (l .loop .pool) (l .loop .k) (l .loop .inv) (inside t),
+    )
+
+-- one slot more
+after : (c : tie.After-pool Inv-loop μ-loop) → let u = c .before .before .before .before .before .before in let l = u .before .before .before .before .before .before .before in let s = start l in Done (at-entry s) (s .args .w) (s .args .pool .now) (l .loop .i + 1) (recordsIn (u .turn .last .0) (u .turn .last .1 .0) (u .turn .last .1 .1 .0) (u .turn .last .1 .1 .1 .0)) (u .turn .last .1 .1 .1 .1 .0) (l .loop .k + u .turn .result)
+after c =
+    let u = c .before .before .before .before .before .before in
+    let t = u .before .before .before .before .before .before in
+    let l = t .before in
+    let s = start l in
+    turn-done (at-entry s) (s .args .w) (s .args .pool .now) (s .pre .0) (s .pre .1) (l .loop .i) (here l) (l .loop .pool) (l .loop .k) (l .loop .inv) (inside t) _ _ _ (u .turn .ensures .0) (u .turn .ensures .1 .0) (u .turn .ensures .1 .1)
+
+abbrev turned-in : tie.After-pool Inv-loop μ-loop → tie.In-loop Inv-loop μ-loop
+turned-in c = c .before .before .before .before .before .before .before .before .before .before .before .before
+
+add-k : tie.Need-add-k Inv-loop μ-loop
+add-k c =
+    let l = turned-in c .before in
+    let s = start l in
+    omega (arith, done-room (at-entry s) (s .args .w) (s .args .pool .now) (s .pre .0) (s .pre .1) _ _ _ _ (after c))
+
+pub settle-slots-spec : {M : Type 1} → statement M
+settle-slots-spec =
+    tie.close
+    (tie.spec
+    Inv-loop
+    μ-loop
+    (λ c. let s = c .before in none-done (at-entry s) (s .args .w) (s .args .pool .now) (s .pre .0) (s .pre .1))
+    (λ c. omega (arith, room-here (c .before .before .before .before .before)))
+    turn-requires
+    add-k
+    (λ c. omega (arith, inside (turned-in c)))
+    (λ c. omega (arith, inside (turned-in c)))
+    after
+    (λ c. slots-stay (c .before))
+    (λ c. let l = c .before in let s = start l in done-reals (at-entry s) (s .args .w) (s .args .pool .now) (s .pre .0) (s .pre .1) (l .loop .i) (here l) (l .loop .pool) (l .loop .k) (l .loop .inv))
+    (λ c. let l = c .before in let s = start l in done-ints (at-entry s) (s .args .w) (s .args .pool .now) (s .pre .0) (s .pre .1) (l .loop .i) (here l) (l .loop .pool) (l .loop .k) (l .loop .inv))
+    (λ c. let l = c .before in let s = start l in done-map (at-entry s) (s .args .w) (s .args .pool .now) (s .pre .0) (s .pre .1) (l .loop .i) (here l) (l .loop .pool) (l .loop .k) (l .loop .inv))
+    (λ c. let l = c .before in let s = start l in put-long (at-entry s) (s .args .w) (s .args .pool .now) (s .pre .0) (s .pre .1) (l .loop .i) (here l) (l .loop .pool) (l .loop .k) (l .loop .inv))
+    (λ c. let l = c .before in let s = start l in all-done (at-entry s) (s .args .w) (s .args .pool .now) (s .pre .0) (s .pre .1) (l .loop .i) (here l) (l .loop .pool) (l .loop .k) (l .loop .inv) (omega (arith, slots-stay l, c .loop-test .left))))

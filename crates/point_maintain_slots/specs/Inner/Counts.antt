@@ -1,0 +1,36 @@
+-- The two counts of `maintain`, from the column of numbers alone. Assumes nothing.
+use Prim.Native.Nat.{ℕ}
+use mathlib.Core.List.{List, []}
+use lib.Dec.{eqb}
+use lib.ListN.{getD}
+use Rattle.basics.specs.Meaning.Refusals.{pick}
+use Rattle.slots.specs.Meaning.Slot.{live}
+use Rattle.point_records.specs.declared.State.{State}
+use Rattle.point_records.specs.Meaning.Columns.{recordOf}
+use Rattle.point_records.specs.Meaning.States.{isRemoved}
+use Rattle.point_tables.specs.Meaning.Tables.{Tables, tables}
+use Rattle.point_maintain.specs.Meaning.Maintain.{isMoving, countStates}
+use Rattle.point_maintain_slots.specs.declared.Counts.{Counts}
+
+abbrev pub counts : ℕ → ℕ → Counts
+counts m r = record { moved = m; removed = r }
+
+-- tables with a column of numbers alone
+abbrev pub numbered : List (List ℕ) → Tables
+numbered nums = tables nums [] [] [] [] [] []
+
+abbrev pub movedIn : Tables → ℕ → ℕ
+movedIn t n = countStates isMoving t n
+
+abbrev pub removedIn : Tables → ℕ → ℕ
+removedIn t n = countStates isRemoved t n
+
+-- what one row adds
+abbrev pub stateIn : List ℕ → State
+stateIn row = recordOf row [] [] .state
+
+abbrev pub oneMoved : List ℕ → ℕ
+oneMoved row = pick (eqb (getD row 1 0) live) (pick (isMoving (stateIn row)) 1 0) 0
+
+abbrev pub oneRemoved : List ℕ → ℕ
+oneRemoved row = pick (eqb (getD row 1 0) live) (pick (isRemoved (stateIn row)) 1 0) 0

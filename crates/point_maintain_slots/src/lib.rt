@@ -1,0 +1,147 @@
+// The pass of `maintain` over the slots: what is pending for each object is done to its record, and the rows of relocated objects are listed.
+ghost use mathlib.Core.Path.{_≡_};
+ghost use mathlib.Core.List.{[], _∷_};
+ghost use Prim.Native.Nat.{_+_, _≤_, _<_};
+ghost use lib.ListN.{length, set};
+ghost use Rattle.basics.specs.Meaning.Limits.{mostSlots};
+ghost use Rattle.basics.specs.Meaning.Lent.{was, is};
+ghost use Rattle.cells.specs.Meaning.Key.{keyOf};
+ghost use Rattle.point_maintain_slots.specs.Inner.Pass.{lentRecords, recordsBefore, recordsAfter, Slotted, Ready, Room, Placed, turned, turnedRows, Put};
+ghost use Rattle.point_maintain_slots.specs.Inner.Pass.{Passed};
+ghost use Rattle.point_maintain_slots.specs.Inner.Counts.{counts, numbered, movedIn, removedIn, oneMoved, oneRemoved};
+use cells::Cell;
+use slots::Row;
+
+// How many objects had either new-position state, and how many were removed.
+pub struct Counts {
+    pub moved: u32,
+    pub removed: u32,
+}
+
+// The object of slot s stands at its pending position in cell c, and nothing is pending for it. By columns, since no record need be made.
+fn place(nums: &mut [Row], reals: &mut [[f32; 4]], ints: &mut [[i32; 4]], s: usize, c: Cell)
+    requires { ⌜ (s < length (now nums)) × (s < length (now reals)) × (s < length (now ints)) ⌝ }
+    ensures { λ _. ⌜ Placed (was nums) (was reals) (was ints) s c (is nums) (is reals) (is ints) ⌝ }
+{
+    let n = nums[s];
+    let q = reals[s];
+    nums[s] = [n[0], n[1], n[2], 0];
+    reals[s] = [q[2], q[3], q[2], q[3]];
+    ints[s] = [c.x, c.y, c.x, c.y];
+}
+
+// The row of slot s under the key of cell c, at a place of the pool. Returns 1, the rows put.
+fn put_row(pool: &mut [[u64; 2]], at: usize, c: Cell, s: usize) -> usize
+    requires { ⌜ at < length (now pool) ⌝ }
+    ensures { λ r. ⌜ (r ≡ 1) × (is pool ≡ set (was pool) at (keyOf c ∷ s ∷ [])) ⌝ }
+{
+    let key = cells::key_of(c);
+    let item = basics::word_of(s);
+    pool[at] = [key, item];
+    1
+}
+
+// Slot s, if it is live, is settled by its tag, and the row of a relocated object is put at a place of the pool. Returns the rows put.
+fn turn(
+    nums: &mut [Row],
+    reals: &mut [[f32; 4]],
+    ints: &mut [[i32; 4]],
+    map: &mut [u64],
+    pool: &mut [[u64; 2]],
+    at: usize,
+    s: usize,
+) -> usize
+    requires { ⌜ Slotted (lentRecords nums reals ints map) s × (at + length (turnedRows (lentRecords nums reals ints map) s) ≤ length (now pool)) ⌝ }
+    ensures records { λ _. ⌜ recordsAfter nums reals ints map ≡ turned (recordsBefore nums reals ints map) s ⌝ }
+    ensures rows { λ r. ⌜ Put (turnedRows (recordsBefore nums reals ints map) s) at (was pool) (is pool) r ⌝ }
+{
+    let n = nums[s];
+    if n[1] != slots::LIVE {
+        return 0;
+    }
+    let tag = n[3];
+    let z = ints[s];
+    if tag == 1 {
+        place(nums, reals, ints, s, Cell { x: z[0], y: z[1] });
+        return 0;
+    }
+    if tag == 2 {
+        let c = Cell { x: z[2], y: z[3] };
+        place(nums, reals, ints, s, c);
+        return put_row(pool, at, c, s);
+    }
+    if tag == 0 {
+        return 0;
+    }
+    slots::empty(nums, map, s);
+    0
+}
+
+// Every live slot is settled, in ascending order, and the rows of relocated objects are put into the pool from place w on.
+// Returns how many there are.
+pub fn settle_slots(
+    nums: &mut [Row],
+    reals: &mut [[f32; 4]],
+    ints: &mut [[i32; 4]],
+    map: &mut [u64],
+    pool: &mut [[u64; 2]],
+    w: usize,
+) -> usize
+    requires { ⌜ Ready (lentRecords nums reals ints map) × Room (lentRecords nums reals ints map) w (now pool) ⌝ }
+    ensures { λ r. ⌜ Passed (recordsBefore nums reals ints map) (recordsAfter nums reals ints map) w (was pool) (is pool) r ⌝ }
+{
+    let mut k = 0;
+    let mut i = 0;
+    while i < nums.len() {
+        let n = turn(nums, reals, ints, map, pool, w + k, i);
+        k += n;
+        i += 1;
+    }
+    k
+}
+
+// 1 for a live row with either new-position state, else 0.
+fn one_moved(row: Row) -> u32
+    ensures { λ r. ⌜ r ≡ oneMoved row ⌝ }
+{
+    if row[1] != slots::LIVE {
+        return 0;
+    }
+    if row[3] == 1 {
+        return 1;
+    }
+    if row[3] == 2 {
+        return 1;
+    }
+    0
+}
+
+// 1 for a live row whose object is removed, else 0.
+fn one_removed(row: Row) -> u32
+    ensures { λ r. ⌜ r ≡ oneRemoved row ⌝ }
+{
+    if row[1] != slots::LIVE {
+        return 0;
+    }
+    if row[3] < 3 {
+        return 0;
+    }
+    1
+}
+
+// The two counts of `maintain`, from the states before it.
+pub fn count_moves(nums: &[Row]) -> Counts
+    requires { ⌜ length (now nums) ≤ mostSlots ⌝ }
+    ensures { λ r. ⌜ r ≡ counts (movedIn (numbered (was nums)) (length (was nums))) (removedIn (numbered (was nums)) (length (was nums))) ⌝ }
+{
+    let mut moved: u32 = 0;
+    let mut removed: u32 = 0;
+    let mut i = 0;
+    while i < nums.len() {
+        let row = nums[i];
+        moved += one_moved(row);
+        removed += one_removed(row);
+        i += 1;
+    }
+    Counts { moved, removed }
+}

@@ -1,0 +1,2 @@
+-- The laws that the proofs of point_pool share.
+pub mod laws

@@ -1,0 +1,56 @@
+-- `point_query::fill::report` meets its contract. Assumes nothing.
+use Prim.Native.Nat.{ℕ, _<_, min}
+use mathlib.Core.Path.{_≡_, refl, sym, ap, _∙_}
+use mathlib.Core.List.{List}
+use native.Mathlib.Omega.{arith}
+use lib.ListN.{length, take}
+use lib.Seq.{length-take-le}
+use borrow.Author.Needs.{needs}
+use Rattle.point_query.specs.Meaning.Queries.{findings}
+use Rattle.point_query.specs.Inner.Fill.{filled}
+use Rattle.point_query.proofs.laws.FillLaws.{filled-9, filled-put}
+use Rattle.point_query.proofs.fill.report.Statement.{statement}
+use Rattle.point_query.proofs.fill.report.Tie as tie
+use Rattle.replies.specs.Meaning.Replies.{count}
+
+-- the places found
+module _ (s : tie.Start) where
+  abbrev js : List ℕ
+  js = take (s .args .r) (s .args .found .now)
+
+  number : s .args .r ≡ length js
+  number = sym (length-take-le (s .args .r) (s .args .found .now) (s .pre .0))
+
+  -- an output that is too short
+  short : min (length (s .args .handles .now)) (length (s .args .places .now)) < s .args .r
+      → let a = s .args in findings (count 9 (a .r)) (a .handles .now) (a .places .now) ≡ filled (a .nums .now) (a .pool .now) (a .spots .now) js (a .handles .now) (a .places .now)
+  short l =
+      let a = s .args in
+      ap (λ (n : ℕ). findings (count 9 n) (a .handles .now) (a .places .now)) number ∙ filled-9 (a .nums .now) (a .pool .now) (a .spots .now) js (a .handles .now) (a .places .now) (omega (arith, number))
+
+returns : tie.Need-returns
+returns c = short (c .before .before) (omega (arith, c .if1 .taken))
+
+returns-2 : tie.Need-returns-2
+returns-2 c = short (c .before .before .before) (omega (arith, c .if2 .taken))
+
+returns-3 : tie.Need-returns-3
+returns-3 c =
+    let p = c .before .before in
+    let e = p .before .before .before in
+    let s = e .before .before .before in
+    let a = s .args in
+    filled-put (a .nums .now) (a .pool .now) (a .spots .now) (js s) (a .handles .now) (a .places .now) (a .found .now) (a .r) (p .put-findings .last .1 .1 .1 .1 .1 .0) (p .put-findings .last .1 .1 .1 .1 .1 .1 .0)
+    (number s) refl (p .put-findings .ensures .0) (p .put-findings .ensures .1) (e .before .if1 .left) (e .if2 .left)
+
+pub report-spec : {M : Type 1} → statement M
+report-spec =
+    tie.close
+    (tie.spec
+    (λ c. search needs)
+    returns
+    returns-2
+    (λ c κs. search needs)
+    (λ c. search needs)
+    (λ c. search needs)
+    returns-3)

@@ -1,0 +1,81 @@
+-- What `query` makes of document 01's case at cell size 1, whatever the grid holds: a range of 4,096 cells is accepted, and one of 4,160
+-- gets answer 7. Assumes nothing.
+use Prim.Native.Nat.{ℕ, _≤_, min}
+use mathlib.Core.Path.{_≡_, refl, sym, ap, _∙_}
+use mathlib.Core.Logic.{_⊎_, inl, inr}
+use mathlib.Core.Bool.{true}
+use mathlib.Core.List.{List}
+use native.Mathlib.Omega.{arith}
+use lib.Dec.{leb}
+use lib.Ieee.{Float, ofBits, lt, le, eq, fits}
+use lib.ListN.{length}
+use borrow.Author.Tests.{leb-true, leb-false}
+use Rattle.basics.specs.Meaning.Limits.{mostCells}
+use Rattle.geometry.specs.declared.Position.{Position}
+use Rattle.geometry.specs.Meaning.Domain.{positionInDomain}
+use Rattle.cells.specs.Meaning.CellRule.{cellOf, cellAt}
+use Rattle.cells.specs.Meaning.Range.{cellsIn}
+use Rattle.storage.proofs.laws.FilterLaws.{by-test}
+use Rattle.point_tables.specs.Meaning.Tables.{Tables, sizeOf}
+use Rattle.point_tables.specs.Meaning.Decide.{holds}
+use Rattle.point_query.specs.declared.Test.the-variants.{Any}
+use Rattle.point_query.specs.Meaning.Queries.{Findings, findings, found, searchOf, queryOf}
+use Rattle.point_query.specs.Inner.Cases.{origin, square, wider}
+use Rattle.point_query.proofs.laws.FindLaws.{search-7, search-9, search-0}
+use Rattle.point_query.proofs.laws.CornerLaws.{query-is}
+use Rattle.replies.specs.Meaning.Replies.{count}
+
+-- the cells from (0, 0) to a corner, at a cell size
+abbrev cellsTo : ℕ → Position → ℕ
+cellsTo size ur = cellsIn (cellAt size origin) (cellAt size ur)
+
+origin-fits : true ≡ positionInDomain origin
+unfolding ofBits le lt eq fits
+origin-fits = refl
+
+square-fits : true ≡ positionInDomain square
+unfolding ofBits le lt eq fits
+square-fits = refl
+
+wider-fits : true ≡ positionInDomain wider
+unfolding ofBits le lt eq fits
+wider-fits = refl
+
+square-cells : cellsTo 1 square ≡ 4096
+unfolding ofBits cellOf cellsIn
+square-cells = refl
+
+wider-cells : cellsTo 1 wider ≡ 4160
+unfolding ofBits cellOf cellsIn
+wider-cells = refl
+
+module _ (t : Tables) (h : holds t ≡ true) (one : sizeOf t ≡ 1) (handles : List (List ℕ)) (places : List (List Float)) where
+  abbrev number : ℕ
+  number = length (found t origin square Any)
+
+  abbrev room : ℕ
+  room = min (length handles) (length places)
+
+  square-most : cellsTo (sizeOf t) square ≤ mostCells
+  square-most = omega (arith, ap (λ (n : ℕ). cellsTo n square) one ∙ square-cells)
+
+  -- what a search from (0, 0) came to is what the query comes to
+  asked : (ur : Position) (o : Findings) → true ≡ positionInDomain ur
+      → o ≡ searchOf t true origin ur Any handles places → o ≡ queryOf t origin ur handles places
+  asked ur o f e = query-is true true t handles places o origin ur origin-fits f e
+
+  answered : (o : Findings) → o ≡ searchOf t true origin square Any handles places
+      → queryOf t origin square handles places .returned .answer ≡ o .returned .answer
+  answered o e = ap (λ (f : Findings). f .returned .answer) (sym (asked square o square-fits e))
+
+  -- neither 3, nor 6, nor 7: done, or an output is too short for what is found
+  pub square-accepted : (queryOf t origin square handles places .returned .answer ≡ 0) ⊎ (queryOf t origin square handles places .returned .answer ≡ 9)
+  square-accepted =
+      by-test (leb number room)
+      (λ q. inl (answered _ (search-0 t true origin square Any handles places h refl square-most (leb-true number room q))))
+      (λ q. inr (answered _ (search-9 t true origin square Any handles places h refl square-most (leb-false number room q))))
+
+  pub query-too-wide : findings (count 7 0) handles places ≡ queryOf t origin wider handles places
+  query-too-wide =
+      asked wider _ wider-fits
+      (search-7 t true origin wider Any handles places h refl (omega (arith, ap (λ (n : ℕ). cellsTo n wider) one ∙ wider-cells)))

@@ -1,0 +1,111 @@
+-- What is written of the places that a search collected is what the search finds. Assumes nothing.
+use Prim.Native.Nat.{ℕ, _+_, _<_, _≤_, min}
+use mathlib.Core.Path.{_≡_, sym, ap, _∙_, subst}
+use mathlib.Core.Bool.{Bool, true}
+use mathlib.Core.List.{List, map, map-map}
+use native.Mathlib.Omega.{arith}
+use lib.Dec.{leb}
+use lib.Ieee.{Float}
+use lib.ListN.{length, getD, take, drop, length-map, List·getD-append}
+use borrow.Author.Tests.{leb-true, leb-false, le-leb, lt-leb}
+use Rattle.basics.specs.Meaning.Limits.{mostCells}
+use Rattle.geometry.specs.declared.Position.{Position}
+use Rattle.cells.specs.declared.Cell.{Cell}
+use Rattle.cells.specs.Meaning.CellRule.{cellAt}
+use Rattle.cells.specs.Inner.CellRule.{Reached}
+use Rattle.cells.specs.Meaning.Range.{cellsIn}
+use Rattle.storage.specs.Meaning.Keyed.{All, written}
+use Rattle.storage.proofs.laws.FilterLaws.{by-test, all-map, all-at}
+use Rattle.point_tables.specs.Meaning.Tables.{Tables, sizeOf, usedOf}
+use Rattle.point_tables.specs.Meaning.Holds.{Holds}
+use Rattle.point_tables.specs.Meaning.Decide.{holds, holds-says}
+use Rattle.point_query.specs.declared.Test.{Test}
+use Rattle.point_query.specs.Meaning.Queries.{Findings, findings, handleRow, placeRow, found, searchOf}
+use Rattle.point_query.specs.Inner.Places.{wantedAt, placesOf}
+use Rattle.point_query.proofs.laws.PlacesLaws.{places-inside}
+use Rattle.point_query.specs.Inner.Fill.{handleAt, placeAt, filled, Stocked, Findable}
+use Rattle.point_query.proofs.laws.FoundLaws.{in-pool, in-spots, rows-sorted, found-places}
+use Rattle.point_query.proofs.laws.FindLaws.{search-9, search-0}
+use Rattle.replies.specs.Meaning.Replies.{count}
+use Rattle.point_tables.specs.Inner.Entry.{entryAt}
+
+module _ (nums pool : List (List ℕ)) (spots : List (List Float)) (js : List ℕ) (handles : List (List ℕ)) (places : List (List Float)) where
+  pub filled-0 : length js ≤ min (length handles) (length places)
+      → findings (count 0 (length js)) (written (map (handleAt nums pool spots) js) handles) (written (map (placeAt nums pool spots) js) places) ≡ filled nums pool spots js handles places
+  unfolding filled
+  filled-0 l = simp (le-leb (length js) (min (length handles) (length places)) l)
+
+  pub filled-9 : min (length handles) (length places) < length js → findings (count 9 (length js)) handles places ≡ filled nums pool spots js handles places
+  unfolding filled
+  filled-9 l = simp (lt-leb (length js) (min (length handles) (length places)) l)
+
+  -- what was written of the first r places of an array
+  pub filled-put : (fs : List ℕ) (r : ℕ) (h : List (List ℕ)) (p : List (List Float)) → r ≡ length js → take r fs ≡ js
+      → h ≡ written (map (handleAt nums pool spots) (take r fs)) handles → p ≡ written (map (placeAt nums pool spots) (take r fs)) places
+      → r ≤ length handles → r ≤ length places → findings (count 0 r) h p ≡ filled nums pool spots js handles places
+  filled-put fs r h p er ef eh ep rh rp =
+      (λ z. findings (count 0 (er z)) (eh z) (ep z))
+      ∙ ap (λ (l : List ℕ). findings (count 0 (length js)) (written (map (handleAt nums pool spots) l) handles) (written (map (placeAt nums pool spots) l) places)) ef
+      ∙ filled-0 (omega arith)
+
+module _ (t : Tables) (h : Holds t) where
+  pub stocked : Stocked (t .pool) (t .spots) (usedOf t)
+  stocked = record { most = omega (arith, h .counted .used-most, h .sized .most); in-pool = in-pool t h; in-spots = in-spots t h; sorted = rows-sorted t h }
+
+  pub findable : (j : ℕ) → j < usedOf t → Findable (t .nums) (t .pool) (t .spots) j
+  findable j l = record { in-pool = omega (arith, in-pool t h); in-spots = omega (arith, in-spots t h); in-nums = h .lists .each j l .inside }
+
+-- the places are places of entries in use
+pub places-used : (a b : Cell) (test : Test) (pool : List (List ℕ)) (spots : List (List Float)) (used : ℕ) → All (λ j. j < used) (placesOf a b test pool spots used)
+unfolding placesOf
+places-used a b test pool spots used =
+    all-map (λ j. j < 0 + used) (λ j. j < used) (λ j l. omega arith) (placesOf a b test pool spots used) (places-inside (wantedAt a b test pool spots) 0 used)
+
+-- an array fs whose first n places are js
+module _ (js o fs : List ℕ) (n : ℕ) (en : n ≡ length js) (ef : fs ≡ written js o) where
+  pub array-each : (P : ℕ → Type 0) → All P js → (k : ℕ) → k < n → P (getD fs k 0)
+  array-each P f k l =
+      let m : k < length js = omega arith in
+      subst P (sym (ap (λ (l : List ℕ). getD l k 0) ef ∙ List·getD-append js (drop (length js) o) 0 k m)) (all-at P 0 js k m f)
+
+module _ (t : Tables) (ok : Bool) (ll ur : Position) (test : Test) (handles : List (List ℕ)) (places : List (List Float)) where
+  abbrev js : List ℕ
+  js = placesOf (cellAt (sizeOf t) ll) (cellAt (sizeOf t) ur) test (t .pool) (t .spots) (usedOf t)
+
+  module _ (held : holds t ≡ true) (rl : Reached ll) (ru : Reached ur) where
+    found-js : found t ll ur test ≡ map (entryAt (t .pool) (t .spots)) js
+    found-js = found-places t (holds-says t .yes held) ll ur rl ru test
+
+    number-js : length (found t ll ur test) ≡ length js
+    number-js = ap length found-js ∙ length-map js (entryAt (t .pool) (t .spots))
+
+    handles-js : map (handleRow t) (found t ll ur test) ≡ map (handleAt (t .nums) (t .pool) (t .spots)) js
+    handles-js = ap (map (handleRow t)) found-js ∙ map-map (handleRow t) (entryAt (t .pool) (t .spots)) js
+
+    places-js : map placeRow (found t ll ur test) ≡ map (placeAt (t .nums) (t .pool) (t .spots)) js
+    places-js = ap (map placeRow) found-js ∙ map-map placeRow (entryAt (t .pool) (t .spots)) js
+
+    search-filled : ok ≡ true → cellsIn (cellAt (sizeOf t) ll) (cellAt (sizeOf t) ur) ≤ mostCells
+        → filled (t .nums) (t .pool) (t .spots) js handles places ≡ searchOf t ok ll ur test handles places
+    search-filled g l =
+        let room = min (length handles) (length places) in
+        by-test (leb (length js) room)
+        (λ q.
+        let m = leb-true (length js) room q in
+        sym (filled-0 (t .nums) (t .pool) (t .spots) js handles places m)
+        ∙ sym (λ z. findings (count 0 (number-js z)) (written (handles-js z) handles) (written (places-js z) places))
+        ∙ search-0 t ok ll ur test handles places held g l (omega (arith, number-js, m)))
+        (λ q.
+        let m = leb-false (length js) room q in
+        sym (filled-9 (t .nums) (t .pool) (t .spots) js handles places m)
+        ∙ sym (ap (λ (n : ℕ). findings (count 9 n) handles places) number-js)
+        ∙ search-9 t ok ll ur test handles places held g l (omega (arith, number-js, m)))
+
+    -- the same of two cells and a number that are those of the range and of the tables
+    pub search-done : (f : Findings) (a b : Cell) (used : ℕ) → a ≡ cellAt (sizeOf t) ll → b ≡ cellAt (sizeOf t) ur → used ≡ usedOf t
+        → f ≡ filled (t .nums) (t .pool) (t .spots) (placesOf a b test (t .pool) (t .spots) used) handles places
+        → ok ≡ true → cellsIn (cellAt (sizeOf t) ll) (cellAt (sizeOf t) ur) ≤ mostCells → f ≡ searchOf t ok ll ur test handles places
+    search-done f a b used ea eb eu ef g l =
+        ef
+        ∙ (λ z. filled (t .nums) (t .pool) (t .spots) (placesOf (ea z) (eb z) test (t .pool) (t .spots) (eu z)) handles places)
+        ∙ search-filled g l

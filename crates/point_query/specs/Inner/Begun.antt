@@ -1,0 +1,24 @@
+-- Places collected as far as an array has room for them. Assumes nothing.
+use Prim.Native.Nat.{ℕ, _+_, _-_, _<_, _≤_}
+use mathlib.Core.Path.{_≡_}
+use mathlib.Core.Bool.{Bool}
+use mathlib.Core.List.{List, _++_}
+use lib.Ieee.{Float}
+use lib.ListN.{length, take}
+use Rattle.cells.specs.declared.Cell.{Cell}
+use Rattle.point_query.specs.declared.Test.{Test}
+use Rattle.point_query.specs.Inner.Places.{placesIn, placesOf}
+
+-- of the stretch from `from` up to `place` the places that pass stand behind the first n of the old array, `number` in all
+pub record Gathered (test : ℕ → Bool) (from to n : ℕ) (old : List ℕ) (number place : ℕ) (new : List ℕ) : Type 0 where
+  pub onward : from ≤ place
+  pub within : place ≤ to
+  pub moved : n < length old → from < to → from < place
+  pub size : length new ≡ length old
+  pub counted : number ≡ n + length (placesIn test from (place - from))
+  pub collected : take number new ≡ take n old ++ placesIn test from (place - from)
+
+-- the first `number` places of an array are those below `place` of the entries that a search is for
+pub record Begun (a b : Cell) (test : Test) (pool : List (List ℕ)) (spots : List (List Float)) (number place : ℕ) (array : List ℕ) : Type 0 where
+  pub counted : number ≡ length (placesOf a b test pool spots place)
+  pub collected : take number array ≡ placesOf a b test pool spots place

@@ -1,0 +1,34 @@
+-- What is stored is loaded again, and every other record is as it was.
+use Prim.Native.Nat.{ℕ, _<_}
+use mathlib.Core.Path.{_≡_, refl, ap}
+use mathlib.Core.List.{List, []}
+use lib.Ieee.{Float}
+use lib.IntN.{ℤ}
+use lib.ListN.{length, getD, set}
+use lib.Seq.{getD-set-same, getD-set-other}
+use Rattle.point_records.specs.declared.State.{State}
+use Rattle.point_records.specs.declared.State.the-variants.{Unchanged, NewPos, Relocate, Removed}
+use Rattle.point_records.specs.declared.Record.{Record}
+use Rattle.geometry.specs.declared.Position.{Position}
+use Rattle.cells.specs.declared.Cell.{Cell}
+use Rattle.point_records.specs.Meaning.Columns.{recordAt, recordOf, stateOf, tagOf, pendingOf, targetOf, numsOf, realsOf, intsOf}
+
+pub state-back : (s : State) (p : Position) (c : Cell) → stateOf (tagOf s) (pendingOf s p) (targetOf s c) ≡ s
+state-back Unchanged p c = refl
+state-back (NewPos q) p c = refl
+state-back (Relocate q d) p c = refl
+state-back Removed p c = refl
+
+abbrev with-state : Record → State → Record
+with-state r s = record { version = r .version; phase = r .phase; obj = r .obj; position = r .position; cell = r .cell; state = s }
+
+pub record-back : (r : Record) → recordOf (numsOf r) (realsOf r) (intsOf r) ≡ r
+record-back r =
+    ap (with-state r) (state-back (r .state) (r .position) (r .cell))
+
+module _ (ns : List (List ℕ)) (qs : List (List Float)) (zs : List (List ℤ)) (i : ℕ) (r : Record) where
+  pub stored-same : i < length ns → i < length qs → i < length zs → recordAt (set ns i (numsOf r)) (set qs i (realsOf r)) (set zs i (intsOf r)) i ≡ r
+  stored-same hn hq hz = cc (getD-set-same ns i (numsOf r) [] hn, getD-set-same qs i (realsOf r) [] hq, getD-set-same zs i (intsOf r) [] hz, record-back r)
+
+  pub stored-other : (j : ℕ) → (j ≡ i → ⊥) → recordAt (set ns i (numsOf r)) (set qs i (realsOf r)) (set zs i (intsOf r)) j ≡ recordAt ns qs zs j
+  stored-other j h = cc (getD-set-other ns i j (numsOf r) [] h, getD-set-other qs i j (realsOf r) [] h, getD-set-other zs i j (intsOf r) [] h)

@@ -1,0 +1,78 @@
+-- The answers that the code gives, from its tests. Assumes nothing.
+use Prim.Native.Nat.{ℕ, _<_, _≤_, min}
+use mathlib.Core.Path.{_≡_, refl, sym, ap, _∙_}
+use mathlib.Core.Bool.{Bool, true, false}
+use mathlib.Core.List.{[], _∷_}
+use native.Mathlib.Omega.{arith}
+use borrow.Author.Tests.{le-leb, lt-leb}
+use Rattle.basics.specs.Meaning.Refusals.{unless, firstOf}
+use Rattle.slots.specs.declared.Handle.{Handle}
+use Rattle.slots.proofs.laws.HandleLaws.{good-says}
+use Rattle.point_tables.specs.Meaning.Tables.{Tables, recordOn}
+use Rattle.point_tables.specs.Meaning.Decide.{holds, holds-says}
+use Rattle.point_tables.specs.Meaning.Outcome.{Outcome, outcome}
+use Rattle.point_remove.specs.Meaning.RemoveMaintain.{takenOut, removeMaintainOf}
+use Rattle.point_remove.proofs.laws.RemoveLaws.{isGood, remove-unheld, remove-lost, remove-done}
+use Rattle.point_remove.specs.Inner.{Object, roomAnswer, countBy}
+use Rattle.replies.specs.Meaning.Replies.{count, reply}
+
+-- ---- `remove_maintain`: the tests
+module _ (held good : Bool) where
+  pub answer-3 : held ≡ false → 3 ≡ firstOf (unless held 3 ∷ unless good 5 ∷ [])
+  answer-3 e = rw e
+
+  pub answer-5 : held ≡ true → good ≡ false → 5 ≡ firstOf (unless held 3 ∷ unless good 5 ∷ [])
+  answer-5 e f = rw (e, f)
+
+  pub answer-0 : held ≡ true → good ≡ true → 0 ≡ firstOf (unless held 3 ∷ unless good 5 ∷ [])
+  answer-0 e f = rw (e, f)
+
+-- the answer a of the tests, with the verdict that was handed down
+module _ (t : Tables) (h : Handle) (a : ℕ) (held : Bool) (e : held ≡ holds t) (q : a ≡ firstOf (unless held 3 ∷ unless (isGood t h) 5 ∷ [])) where
+  pub refused : (a ≡ 0 → ⊥) → outcome (reply a 0) t ≡ removeMaintainOf t h
+  refused n = go held (isGood t h) e refl q
+    where
+      go : (b g : Bool) → b ≡ holds t → isGood t h ≡ g → a ≡ firstOf (unless b 3 ∷ unless g 5 ∷ []) → outcome (reply a 0) t ≡ removeMaintainOf t h
+      go false g f k z = ap (λ (n : ℕ). outcome (reply n 0) t) z ∙ sym (remove-unheld t h (sym f))
+      go true false f k z = ap (λ (n : ℕ). outcome (reply n 0) t) z ∙ sym (remove-lost t h (sym f) k)
+      go true true f k z = absurd (n z)
+
+  passed : a ≡ 0 → (holds t ≡ true) × (isGood t h ≡ true)
+  passed z = go held (isGood t h) e refl (sym z ∙ q)
+    where
+      go : (b g : Bool) → b ≡ holds t → isGood t h ≡ g → 0 ≡ firstOf (unless b 3 ∷ unless g 5 ∷ []) → (holds t ≡ true) × (isGood t h ≡ true)
+      go false g f k z = absurd (omega arith)
+      go true false f k z = absurd (omega arith)
+      go true true f k z = (sym f, k)
+
+  -- the slot as an index
+  module _ (s : ℕ) (es : s ≡ h .slot) (z : a ≡ 0) where
+    pub object : Object t s
+    object =
+        let p = passed z in
+        let g = good-says (t .nums) (h .slot) (h .version) .yes (p .1) in
+        rw es (record { held = holds-says t .yes (p .0); inside = g .0; occupied = g .1 })
+
+    pub done : (d : ℕ) (u : Tables) → outcome d u ≡ outcome (recordOn t s .obj) (takenOut t s) → outcome (reply 0 d) u ≡ removeMaintainOf t h
+    done d u w =
+        let p = passed z in
+        ap (λ (o : Outcome ℕ). outcome (reply 0 (o .result)) (o .after)) (w ∙ ap (λ (i : ℕ). outcome (recordOn t i .obj) (takenOut t i)) es) ∙ sym (remove-done t h (p .0) (p .1))
+
+-- ---- `clear`: the room in both outputs
+module _ (n places objs : ℕ) where
+  pub short-places : places < n → 9 ≡ roomAnswer n places objs
+  short-places l = rw (lt-leb n (min places objs) (omega arith))
+
+  pub short-objs : objs < n → 9 ≡ roomAnswer n places objs
+  short-objs l = rw (lt-leb n (min places objs) (omega arith))
+
+  pub enough : n ≤ places → n ≤ objs → 0 ≡ roomAnswer n places objs
+  enough l m = rw (le-leb n (min places objs) (omega arith))
+
+-- the answer with the number of objects
+module _ (held : Bool) (n places objs : ℕ) where
+  pub count-3 : held ≡ false → count 3 0 ≡ countBy held n places objs
+  count-3 e = rw e
+
+  pub count-room : (a k : ℕ) → held ≡ true → k ≡ n → a ≡ roomAnswer k places objs → count a n ≡ countBy held n places objs
+  count-room a k e q w = rw e (ap (λ (b : ℕ). count b n) (w ∙ ap (λ (j : ℕ). roomAnswer j places objs) q))

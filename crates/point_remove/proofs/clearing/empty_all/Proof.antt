@@ -1,0 +1,23 @@
+-- `point_remove::clearing::empty_all` meets its contract. Assumes nothing.
+use native.Mathlib.Omega.{arith}
+use lib.ListN.{length-set}
+use borrow.Author.Needs.{needs}
+use Rattle.point_remove.proofs.clearing.empty_all.Statement.{statement}
+use Rattle.point_remove.proofs.clearing.empty_all.Tie as tie
+
+slice-write-map-2 : tie.Need-slice-write-map-2
+slice-write-map-2 c = simp length-set (omega arith)
+
+returns : tie.Need-returns
+returns c = (c .before .before .before .empty-slots .ensures .0, cc (c .before .before .before .empty-slots .ensures .1))
+
+pub empty-all-spec : {M : Type 1} → statement M
+empty-all-spec =
+    tie.close
+    (tie.spec
+    (λ c κs. search needs)
+    (λ c. search needs)
+    slice-write-map-2
+    (λ c. search needs)
+    (λ c. search needs)
+    returns)

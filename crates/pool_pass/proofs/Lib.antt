@@ -1,2 +1,0 @@
--- The laws that the proofs of pool_pass share.
-pub mod laws

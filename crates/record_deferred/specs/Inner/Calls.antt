@@ -1,0 +1,17 @@
+-- `set_position` and `remove` on columns of n rows, and on a table of records. Assumes nothing.
+-- Here: what only inner contracts cite.
+use Prim.Native.Nat.{ℕ}
+use Rattle.geometry.specs.declared.Position.{Position}
+use Rattle.slots.specs.declared.Handle.{Handle}
+use Rattle.replies.specs.declared.Reply.{Reply}
+use Rattle.replies.specs.Meaning.Replies.{reply}
+use Rattle.point_tables.specs.Meaning.Tables.{Tables}
+use Rattle.point_tables.specs.Meaning.Outcome.{Outcome}
+use Rattle.point_deferred.specs.Meaning.Moves.{setPositionOf, removeOf}
+use Rattle.records.specs.Meaning.Seen.{fitted}
+
+abbrev pub setPositionFor : ℕ → Tables → Handle → Position → Outcome Reply
+setPositionFor n t h at = fitted (λ u. setPositionOf u h at) (reply 3 0) n t
+
+abbrev pub removeFor : ℕ → Tables → Handle → Outcome Reply
+removeFor n t h = fitted (λ u. removeOf u h) (reply 3 0) n t

@@ -1,0 +1,13 @@
+-- `insert` on columns of n rows, and on a table of records. Assumes nothing.
+use Prim.Native.Nat.{ℕ}
+use mathlib.Core.List.{List}
+use Rattle.geometry.specs.declared.Position.{Position}
+use Rattle.replies.specs.declared.Inserted.{Inserted}
+use Rattle.replies.specs.Meaning.Replies.{inserted}
+use Rattle.point_records.specs.declared.Record.{Record}
+use Rattle.point_tables.specs.Meaning.Tables.{Tables}
+use Rattle.point_insert.specs.Meaning.Insert.{insertOf}
+use Rattle.records.specs.Meaning.Seen.{Seen, onRecords}
+
+abbrev pub insertOn : List Record → Tables → Position → ℕ → Seen Inserted
+insertOn rs t at obj = onRecords (λ u. insertOf u at obj) (inserted 3 0 0) rs t

@@ -1,0 +1,25 @@
+-- `query_around` on columns of n rows, and on a table of records. Assumes nothing.
+use Prim.Native.Nat.{ℕ}
+use mathlib.Core.Path.{_≡_}
+use mathlib.Core.List.{List}
+use lib.IntN.{ℤ}
+use lib.Ieee.{Float}
+use Rattle.basics.specs.Meaning.Lent.{Lent, was, is}
+use Rattle.geometry.specs.declared.Position.{Position}
+use Rattle.replies.specs.declared.Count.{Count}
+use Rattle.replies.specs.Meaning.Replies.{count}
+use Rattle.point_records.specs.declared.Record.{Record}
+use Rattle.point_tables.specs.Meaning.Tables.{Tables}
+use Rattle.point_tables.specs.Meaning.Lent.{before, after}
+use Rattle.point_tables.specs.Meaning.Outcome.{Outcome, outcome}
+use Rattle.point_query.specs.Meaning.Queries.{Findings, findings, aroundOf}
+use Rattle.records.specs.Meaning.Seen.{readRecords}
+
+abbrev pub aroundOn : List Record → Tables → Position → Float → List (List ℕ) → List (List Float) → Outcome Findings
+aroundOn rs t c r handles places = readRecords (λ u. aroundOf u c r handles places) (findings (count 3 0) handles places) rs t
+
+-- what is returned, the outputs and the tables after the call are what `query` gives of records, tables and outputs before it
+abbrev pub Finds : (List Record → Tables → List (List ℕ) → List (List Float) → Outcome Findings) → Count → Lent (List (List ℕ)) → Lent (List (List Float)) → Lent (List Record)
+    → Lent (List (List ℕ)) → Lent (List (List Float)) → Lent (List (List ℤ)) → Lent (List ℕ) → Lent (List (List ℕ)) → Lent (List (List Float)) → Lent (List (List ℕ)) → Type 0
+Finds query r found places records a b c d e f g =
+    outcome (findings r (is found) (is places)) (after a b c d e f g) ≡ query (was records) (before a b c d e f g) (was found) (was places)

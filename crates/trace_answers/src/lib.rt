@@ -1,0 +1,115 @@
+// The two grids of the trace answer a request: a call of one of them, or for `cell` of both.
+ghost use mathlib.Core.Path.{_≡_};
+ghost use Rattle.basics.specs.Meaning.Lent.{was, is};
+ghost use Rattle.point_tables.specs.Meaning.Lent as Points;
+ghost use Rattle.box_tables.specs.Meaning.Lent as Boxes;
+ghost use Rattle.trace_telling.specs.Inner.InRange.{InRange};
+ghost use Rattle.trace_telling.specs.Meaning.Tells.{tells, doneOr};
+ghost use Rattle.trace_answers.specs.Meaning.State.{state, answered};
+ghost use Rattle.trace_answers.specs.Meaning.Cell.{built, cellOf};
+ghost use Rattle.trace_answers.specs.Meaning.Answer.{answerOf};
+use slots::Row;
+use trace_lines::Line;
+use trace_lines::Request;
+use trace_printing::Said;
+
+// The first refusal of two, if there is one.
+fn done_both(a: u32, b: u32) -> Said
+    ensures { λ said. ⌜ said ≡ tells a (doneOr b) ⌝ }
+{
+    if a == 0 {
+        return trace_telling::done(b);
+    }
+    Said::Refused(a)
+}
+
+// Both grids built anew.
+pub fn cell(
+    nums: &mut [Row],
+    reals: &[[f32; 4]],
+    ints: &[[i32; 4]],
+    map: &mut [u64],
+    pool: &[[u64; 2]],
+    spots: &[[f32; 2]],
+    cells: &[[u64; 2]],
+    bnums: &mut [[u32; 4]],
+    breals: &[[f32; 4]],
+    bmap: &mut [u64],
+    bpool: &[[u64; 2]],
+    size: u32,
+) -> Said
+    ensures { λ said. ⌜ built said (Points.after nums reals ints map pool spots cells) (Boxes.after bnums breals bmap bpool) ≡ cellOf (Points.before nums reals ints map pool spots cells) (Boxes.before bnums breals bmap bpool) size ⌝ }
+{
+    let a = points::new(nums, reals, ints, map, pool, spots, cells, size);
+    let b = boxes::new(bnums, breals, bmap, bpool, size);
+    done_both(a, b)
+}
+
+// One request. The findings of a query are in its outputs.
+pub fn answer(
+    nums: &mut [Row],
+    reals: &mut [[f32; 4]],
+    ints: &mut [[i32; 4]],
+    map: &mut [u64],
+    pool: &mut [[u64; 2]],
+    spots: &mut [[f32; 2]],
+    cells: &mut [[u64; 2]],
+    bnums: &mut [[u32; 4]],
+    breals: &mut [[f32; 4]],
+    bmap: &mut [u64],
+    bpool: &mut [[u64; 2]],
+    handles: &mut [[u32; 2]],
+    places: &mut [[f32; 2]],
+    corners: &mut [[f32; 4]],
+    objs: &mut [u32],
+    r: Request,
+) -> Said
+    requires { ⌜ InRange r ⌝ }
+    ensures { λ said. ⌜ answered said (state (Points.after nums reals ints map pool spots cells) (Boxes.after bnums breals bmap bpool) (is handles) (is places) (is corners) (is objs)) ≡ answerOf (state (Points.before nums reals ints map pool spots cells) (Boxes.before bnums breals bmap bpool) (was handles) (was places) (was corners) (was objs)) r ⌝ }
+{
+    let line = r.line;
+    let h = r.h;
+    let p = r.p;
+    let q = r.q;
+    match line {
+        Line::Cell => cell(
+            nums,
+            reals,
+            ints,
+            map,
+            pool,
+            spots,
+            cells,
+            bnums,
+            breals,
+            bmap,
+            bpool,
+            r.n,
+        ),
+        Line::PointChange(k) => {
+            trace_points::change_points(nums, reals, ints, map, pool, spots, cells, k, h, p, r.n)
+        }
+        Line::PointSearch(s) => trace_points::search_points(
+            nums,
+            reals,
+            ints,
+            map,
+            pool,
+            spots,
+            cells,
+            s,
+            p,
+            q,
+            r.far,
+            handles,
+            places,
+        ),
+        Line::BoxChange(k) => {
+            trace_boxes::change_boxes(bnums, breals, bmap, bpool, k, h, p, q, r.n)
+        }
+        Line::BoxSearch => {
+            trace_boxes::search_boxes(bnums, breals, bmap, bpool, p, q, handles, corners, objs)
+        }
+        Line::Unreadable => Said::Refused(10),
+    }
+}

@@ -1,0 +1,78 @@
+-- The findings that a search says are in its outputs. Assumes nothing.
+use Prim.Native.Nat.{ℕ, min, _≤_}
+use mathlib.Core.Path.{_≡_, refl, sym, subst}
+use mathlib.Core.Bool.{Bool, true, false}
+use mathlib.Core.List.{List, map}
+use native.Mathlib.Omega.{arith}
+use native.Mathlib.Nat.{min-le-left, min-le-right}
+use lib.Dec.{eqb, leb}
+use lib.Ieee.{Float}
+use lib.ListN.{length, length-map}
+use borrow.Author.Tests.{eqb-true, leb-true}
+use Rattle.basics.specs.Meaning.Limits.{mostCells}
+use Rattle.basics.specs.Meaning.Refusals.{pick}
+use Rattle.geometry.specs.declared.Aabb.{Aabb}
+use Rattle.geometry.specs.Meaning.Domain.{aabbInDomain}
+use Rattle.storage.specs.Meaning.Keyed.{written}
+use Rattle.storage.proofs.laws.WrittenLaws.{length-written}
+use Rattle.box_tables.specs.Meaning.Tables.{Tables, sizeOf, objOn, covers}
+use Rattle.box_tables.specs.Meaning.Decide.{holds}
+use Rattle.box_insert.specs.Meaning.Insert.{insertOf}
+use Rattle.box_change.specs.Meaning.SetAabb.{setAabbOf}
+use Rattle.box_change.specs.Meaning.Remove.{removeOf}
+use Rattle.trace_telling.specs.Meaning.Places.{boxOf}
+use Rattle.box_query.specs.Meaning.Queries as query
+use Rattle.trace_printing.specs.declared.Said.the-variants.{Refused, Done, One, Two, Boxes}
+use Rattle.trace_printing.specs.Inner.Said.{Told}
+use Rattle.replies.specs.Meaning.Replies.{count}
+use Rattle.slots.specs.declared.Handle.{Handle}
+use Rattle.trace_lines.specs.declared.Spot.{Spot}
+use Rattle.trace_lines.specs.declared.BoxChange.{BoxChange}
+use Rattle.trace_lines.specs.declared.BoxChange.the-variants.{Bin, Bset, Brem}
+use Rattle.trace_telling.proofs.laws.RoomLaws.{had-room}
+use Rattle.trace_telling.proofs.laws.Tells.{told-tells}
+use Rattle.trace_boxes.specs.Meaning.Changes.{changeOf}
+use Rattle.trace_boxes.specs.Meaning.Searches.{Searched, said, searchOf}
+use Rattle.slot_walks.specs.Meaning.Live.{handleAt}
+
+-- what there is to tell is there: as many findings as the trace's grids can give, and all in the outputs
+abbrev pub IsTold : ℕ → Searched → Type 0
+IsTold places s = Told (s .tells) (length (s .handles)) places (length (s .corners))
+
+room-of : (t : Tables) (q : Aabb) (n room : ℕ) → query.answerOf t q n room ≡ 0 → n ≤ room
+unfolding query.answerOf
+room-of t q n room h = leb-true n room (had-room (holds t) (aabbInDomain q) (leb (covers (sizeOf t) q) mostCells) (leb n room) h)
+
+module _ (places : ℕ) (handles : List (List ℕ)) (corners : List (List Float)) (objs : List ℕ) (few : length corners ≤ 64) where
+  told-found : (ss : List ℕ) (f : ℕ → List ℕ) (g : ℕ → List Float) → length ss ≤ query.roomOf handles corners objs
+      → Told (Boxes (length ss)) (length (written (map f ss) handles)) places (length (written (map g ss) corners))
+  told-found ss f g h =
+      let m = min (length corners) (length objs) in
+      let i : length ss ≤ length handles = omega (arith, min-le-left (length handles) m) in
+      let j : length ss ≤ length corners = omega (arith, min-le-right (length handles) m, min-le-left (length corners) (length objs)) in
+      (omega arith, omega (arith, length-written (map f ss) handles (omega (arith, length-map ss f))), omega (arith, length-written (map g ss) corners (omega (arith, length-map ss g))))
+
+  told-query : (t : Tables) (q : Aabb) → IsTold places (said (query.queryOf t q handles corners objs))
+  unfolding query.queryOf
+  told-query t q = go (eqb a 0) refl
+    where
+      ss : List ℕ
+      ss = query.narrow t q
+
+      a : ℕ
+      a = query.answerOf t q (length ss) (query.roomOf handles corners objs)
+
+      go : (x : Bool) → eqb a 0 ≡ x → IsTold places (said (pick x (query.findings (count 0 (length ss)) (written (map (handleAt (t .nums)) ss) handles) (written (map (query.boxRow (t .reals)) ss) corners) (written (map (objOn t) ss) objs)) (query.findings (count a (pick (eqb a 9) (length ss) 0)) handles corners objs)))
+      go true h = told-found ss (handleAt (t .nums)) (query.boxRow (t .reals)) (room-of t q (length ss) (query.roomOf handles corners objs) (eqb-true a 0 h))
+      go false h = subst (λ (x : Bool). Told (pick x (Boxes (pick (eqb a 9) (length ss) 0)) (Refused a)) (length handles) places (length corners)) (sym h) tt
+
+  pub told : (t : Tables) (p q : Spot) → IsTold places (searchOf t p q handles corners objs)
+  told t p q = told-query t (boxOf p q)
+
+-- a change has no findings to tell
+module _ (handles places boxes : ℕ) where
+  pub told-change : (t : Tables) (k : BoxChange) (h : Handle) (p q : Spot) (n : ℕ) → Told (changeOf t k h p q n .result) handles places boxes
+  unfolding changeOf
+  told-change t Bin h p q n = let r = insertOf t (boxOf p q) n .result in told-tells handles places boxes (r .answer) (Two (r .handle .slot) (r .handle .version)) tt
+  told-change t Bset h p q n = told-tells handles places boxes (setAabbOf t h (boxOf p q) .result) Done tt
+  told-change t Brem h p q n = let r = removeOf t h .result in told-tells handles places boxes (r .answer) (One (r .obj)) tt

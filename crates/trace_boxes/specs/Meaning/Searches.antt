@@ -1,0 +1,27 @@
+-- The line that searches the boxes: a query of the grid, which says its count; the findings are in the outputs. Assumes nothing.
+use Prim.Native.Nat.{ℕ}
+use mathlib.Core.List.{List}
+use lib.Ieee.{Float}
+use Rattle.box_tables.specs.Meaning.Tables.{Tables}
+use Rattle.box_query.specs.Meaning.Queries.{Findings, queryOf}
+use Rattle.trace_printing.specs.declared.Said.{Said}
+use Rattle.trace_lines.specs.declared.Spot.{Spot}
+use Rattle.trace_telling.specs.Meaning.Places.{boxOf}
+use Rattle.trace_telling.specs.Meaning.Tells.{boxesOr}
+
+-- what is said, and the outputs after it
+pub record Searched : Type 0 where
+  pub tells : Said
+  pub handles : List (List ℕ)
+  pub corners : List (List Float)
+  pub objs : List ℕ
+
+abbrev pub searched : Said → List (List ℕ) → List (List Float) → List ℕ → Searched
+searched s h c o = record { tells = s; handles = h; corners = c; objs = o }
+
+abbrev pub said : Findings → Searched
+said f = searched (boxesOr (f .returned .answer) (f .returned .count)) (f .handles) (f .boxes) (f .objs)
+
+-- `bqry`: the boxes that the query box meets
+abbrev pub searchOf : Tables → Spot → Spot → List (List ℕ) → List (List Float) → List ℕ → Searched
+searchOf t ll ur handles corners objs = said (queryOf t (boxOf ll ur) handles corners objs)

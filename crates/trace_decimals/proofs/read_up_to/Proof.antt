@@ -1,0 +1,35 @@
+-- `trace_decimals::read_up_to` meets its contract. Assumes nothing.
+use Prim.Native.Nat.{_<_}
+use mathlib.Core.Path.{_∙_}
+use mathlib.Core.Logic.{⊎-elim}
+use native.Mathlib.Omega.{arith}
+use borrow.Author.Needs.{needs}
+use Rattle.trace_decimals.proofs.laws.StepLaws.{no-digit, leading-zero, no-leading-zero, last-byte}
+use Rattle.trace_decimals.proofs.read_up_to.Statement.{statement}
+use Rattle.trace_decimals.proofs.read_up_to.Tie as tie
+
+returns : tie.Need-returns
+returns c =
+    let a = c .before .before .args in
+    no-digit (a .b .now) (a .most) (a .from) (a .to) (c .if1 .taken)
+
+returns-2 : tie.Need-returns-2
+returns-2 c =
+    let s = c .before .before .before .before .before in
+    leading-zero (s .args .b .now) (s .args .from) (s .args .to) (omega arith) (s .pre .1) (s .args .most) (c .if3 .taken)
+
+returns-3 : tie.Need-returns-3
+returns-3 c =
+    let s = c .before .before .before .before in
+    let b = s .args .b .now in
+    let l : s .args .from < s .args .to = omega arith in
+    c .read-digits .ensures
+    ∙ ⊎-elim
+    (λ w. no-leading-zero b (s .args .from) (s .args .to) (w .0 .taken) (s .pre .1) (s .args .most) (w .2 .left))
+    (λ w. last-byte b (s .args .from) (s .args .to) l (s .pre .1) (omega (arith, w .left)) (s .args .most))
+    (c .before .if2 .came)
+
+pub read-up-to-spec : {M : Type 1} → statement M
+read-up-to-spec =
+    tie.close
+    (tie.spec returns (λ c. search needs) (λ c. search needs) returns-2 (λ c κs. search needs) returns-3)

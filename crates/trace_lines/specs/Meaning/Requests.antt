@@ -1,0 +1,49 @@
+-- The request that a record reads as: the first field is its word, and the fields behind it are what the word asks for, no more and no fewer.
+-- Assumes nothing.
+use Prim.Native.Nat.{ℕ}
+use mathlib.Core.List.{List, [], _∷_}
+use lib.Dec.{leb}
+use lib.IntN.{ℤ, pos}
+use lib.ListN.{length}
+use Rattle.basics.specs.Meaning.Refusals.{pick}
+use Rattle.slots.specs.declared.Handle.{Handle}
+use Rattle.trace_lines.specs.declared.Spot.{Spot}
+use Rattle.trace_lines.specs.declared.Line.{Line}
+use Rattle.trace_lines.specs.declared.Line.the-variants.{Unreadable}
+use Rattle.trace_lines.specs.declared.Asks.{Asks}
+use Rattle.trace_lines.specs.declared.Request.{Request}
+use Rattle.trace_lines.specs.Meaning.Fields.{fieldsOf}
+use Rattle.trace_lines.specs.Meaning.Words.{askedBy}
+use Rattle.trace_lines.specs.Meaning.Taken.{Taken, taken, missing, Taker, both, made, takeNumber, takeCount, takeHandle, ifAsked, nobody, origin}
+use Rattle.trace_lines.specs.Meaning.Taken.{takePlaces}
+
+-- a handle, two places, a radius and a number
+abbrev pub Arguments : Type 0
+Arguments = ((Handle × (Spot × Spot)) × ℤ) × ℕ
+
+abbrev pub request : Line → Arguments → Request
+request line a = record { line = line; h = a .0 .0 .0; p = a .0 .0 .1 .0; q = a .0 .0 .1 .1; far = a .0 .1; n = a .1 }
+
+abbrev pub unreadable : Request
+unreadable = request Unreadable (((nobody, (origin, origin)), pos 0), 0)
+
+-- what is asked for, in this order
+abbrev pub takeArguments : Asks → Taker Arguments
+takeArguments k =
+    both (both (both (ifAsked (k .handle) nobody takeHandle) (takePlaces (k .places))) (ifAsked (k .radius) (pos 0) takeCount)) (ifAsked (k .number) 0 takeNumber)
+
+unfoldable pub argumentsOf : Asks → Taker Request
+argumentsOf k = made (request (k .line)) (takeArguments k)
+
+-- no field may be left
+abbrev pub whole : Taken Request → Request
+whole (taken r []) = r
+whole (taken r (f ∷ fs)) = unreadable
+whole missing = unreadable
+
+unfoldable pub ofFields : List (List ℕ) → Request
+ofFields [] = unreadable
+ofFields (w ∷ fs) = whole (argumentsOf (askedBy w) fs)
+
+unfoldable pub requestOf : List ℕ → Request
+requestOf bytes = pick (leb (length bytes) 128) (ofFields (fieldsOf bytes)) unreadable

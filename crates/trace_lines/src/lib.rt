@@ -1,0 +1,265 @@
+// A record of the trace read as a request: its word, then what the word asks for, field by field.
+ghost use mathlib.Core.Path.{_≡_};
+ghost use Prim.Native.Nat.{_≤_};
+ghost use lib.ListN.{length, take};
+ghost use Rattle.basics.specs.Meaning.Lent.{was};
+ghost use Rattle.trace_lines.specs.Meaning.Words.{row as Words·row, rowSays, pointChanges, pointSearches, boxLines, foundIn, askedBy};
+ghost use Rattle.trace_lines.specs.Meaning.Requests.{requestOf};
+use slots::Handle;
+
+mod arguments;
+mod fields;
+mod words;
+
+// The lines that change the points, those that search them, and those that change the boxes.
+pub enum PointChange {
+    Ins,
+    Pos,
+    Rem,
+    Now,
+    Mnt,
+}
+
+pub enum PointSearch {
+    Cir,
+    Rec,
+    Cel,
+}
+
+pub enum BoxChange {
+    Bin,
+    Bset,
+    Brem,
+}
+
+// What a line is for, by grid and kind. One line searches the boxes, and `cell` is for both grids.
+pub enum Line {
+    Cell,
+    PointChange(PointChange),
+    PointSearch(PointSearch),
+    BoxChange(BoxChange),
+    BoxSearch,
+    Unreadable,
+}
+
+// What a word asks for: slot and version, so many places, a radius, one more number; in this order.
+pub struct Asks {
+    pub line: Line,
+    pub handle: bool,
+    pub places: u32,
+    pub radius: bool,
+    pub number: bool,
+}
+
+// A place by its counts of sixteenths.
+pub struct Spot {
+    pub x: i32,
+    pub y: i32,
+}
+
+// What is not asked for is zero.
+pub struct Request {
+    pub line: Line,
+    pub h: Handle,
+    pub p: Spot,
+    pub q: Spot,
+    pub far: i32,
+    pub n: u32,
+}
+
+// What was taken from a place on, and the place of the next field.
+pub enum TakenNumber {
+    At(u32, usize),
+    Missing,
+}
+
+pub enum TakenCount {
+    At(i32, usize),
+    Missing,
+}
+
+pub enum TakenSpot {
+    At(Spot, usize),
+    Missing,
+}
+
+pub enum TakenSpots {
+    At(Spot, Spot, usize),
+    Missing,
+}
+
+pub enum TakenHandle {
+    At(Handle, usize),
+    Missing,
+}
+
+// A row of the table: what the word asks for if it is w, and else what the rows behind this one say.
+fn row(
+    word: &[u8],
+    others: Asks,
+    w: &[u8],
+    line: Line,
+    handle: bool,
+    places: u32,
+    radius: bool,
+    number: bool,
+) -> Asks
+    ensures { λ r. ⌜ r ≡ rowSays (Words·row (was w) line handle places radius number) (was word) others ⌝ }
+{
+    if words::same(word, w) {
+        return Asks {
+            line,
+            handle,
+            places,
+            radius,
+            number,
+        };
+    }
+    others
+}
+
+fn point_change(
+    word: &[u8],
+    others: Asks,
+    w: &[u8],
+    k: PointChange,
+    handle: bool,
+    places: u32,
+    radius: bool,
+    number: bool,
+) -> Asks
+    ensures { λ r. ⌜ r ≡ rowSays (Words·row (was w) (Line.PointChange k) handle places radius number) (was word) others ⌝ }
+{
+    row(
+        word,
+        others,
+        w,
+        Line::PointChange(k),
+        handle,
+        places,
+        radius,
+        number,
+    )
+}
+
+fn point_search(
+    word: &[u8],
+    others: Asks,
+    w: &[u8],
+    k: PointSearch,
+    handle: bool,
+    places: u32,
+    radius: bool,
+    number: bool,
+) -> Asks
+    ensures { λ r. ⌜ r ≡ rowSays (Words·row (was w) (Line.PointSearch k) handle places radius number) (was word) others ⌝ }
+{
+    row(
+        word,
+        others,
+        w,
+        Line::PointSearch(k),
+        handle,
+        places,
+        radius,
+        number,
+    )
+}
+
+fn box_change(
+    word: &[u8],
+    others: Asks,
+    w: &[u8],
+    k: BoxChange,
+    handle: bool,
+    places: u32,
+    radius: bool,
+    number: bool,
+) -> Asks
+    ensures { λ r. ⌜ r ≡ rowSays (Words·row (was w) (Line.BoxChange k) handle places radius number) (was word) others ⌝ }
+{
+    row(
+        word,
+        others,
+        w,
+        Line::BoxChange(k),
+        handle,
+        places,
+        radius,
+        number,
+    )
+}
+
+// The table of words, by grid and kind: slot and version, places, radius, number. The last row is looked at first.
+fn point_changes(word: &[u8], t: Asks) -> Asks
+    ensures { λ r. ⌜ r ≡ foundIn pointChanges (was word) t ⌝ }
+{
+    let t = point_change(word, t, b"mnt", PointChange::Mnt, false, 0, false, false);
+    let t = point_change(word, t, b"now", PointChange::Now, true, 0, false, false);
+    let t = point_change(word, t, b"rem", PointChange::Rem, true, 0, false, false);
+    let t = point_change(word, t, b"pos", PointChange::Pos, true, 1, false, false);
+    point_change(word, t, b"ins", PointChange::Ins, false, 1, false, true)
+}
+
+fn point_searches(word: &[u8], t: Asks) -> Asks
+    ensures { λ r. ⌜ r ≡ foundIn pointSearches (was word) t ⌝ }
+{
+    let t = point_search(word, t, b"cel", PointSearch::Cel, false, 2, false, false);
+    let t = point_search(word, t, b"rec", PointSearch::Rec, false, 2, false, false);
+    point_search(word, t, b"cir", PointSearch::Cir, false, 1, true, false)
+}
+
+fn box_lines(word: &[u8], t: Asks) -> Asks
+    ensures { λ r. ⌜ r ≡ foundIn boxLines (was word) t ⌝ }
+{
+    let t = row(word, t, b"bqry", Line::BoxSearch, false, 2, false, false);
+    let t = box_change(word, t, b"brem", BoxChange::Brem, true, 0, false, false);
+    let t = box_change(word, t, b"bset", BoxChange::Bset, true, 2, false, false);
+    box_change(word, t, b"bin", BoxChange::Bin, false, 2, false, true)
+}
+
+// What a word asks for; any other word is unreadable and asks for nothing.
+fn asked(word: &[u8]) -> Asks
+    ensures { λ r. ⌜ r ≡ askedBy (was word) ⌝ }
+{
+    let t = Asks {
+        line: Line::Unreadable,
+        handle: false,
+        places: 0,
+        radius: false,
+        number: false,
+    };
+    let t = box_lines(word, t);
+    let t = point_searches(word, t);
+    let t = point_changes(word, t);
+    row(word, t, b"cell", Line::Cell, false, 0, false, true)
+}
+
+// A record that is not too long.
+fn read_short(b: &[u8]) -> Request
+    requires { ⌜ length (now b) ≤ 128 ⌝ }
+    ensures { λ r. ⌜ r ≡ requestOf (was b) ⌝ }
+{
+    let end = fields::field_end(b, 0);
+    let k = asked(&b[..end]);
+    arguments::arguments(k, b, end + 1)
+}
+
+fn read_record(b: &[u8]) -> Request
+    ensures { λ r. ⌜ r ≡ requestOf (was b) ⌝ }
+{
+    if 128 < b.len() {
+        return arguments::unreadable();
+    }
+    read_short(b)
+}
+
+// The record that is the first `len` bytes of the line.
+pub fn read(line: &[u8], len: usize) -> Request
+    ensures { λ r. ⌜ r ≡ requestOf (take len (was line)) ⌝ }
+{
+    if len <= line.len() {
+        return read_record(&line[..len]);
+    }
+    read_record(line)
+}

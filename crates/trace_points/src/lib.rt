@@ -1,0 +1,236 @@
+// What the point grid of the trace answers to a line: each is one call of the grid.
+ghost use mathlib.Core.Path.{_≡_};
+ghost use Rattle.basics.specs.Meaning.Lent.{was, is};
+ghost use Rattle.trace_lines.specs.Inner.Texts.{SpotInRange, CountInRange};
+ghost use Rattle.point_tables.specs.Meaning.Lent.{after, before};
+ghost use Rattle.point_tables.specs.Meaning.Outcome.{outcome};
+ghost use Rattle.trace_points.specs.Meaning.Changes.{changeOf, movedOf, insertedOf, takenOf, markedOf, maintainedOf};
+ghost use Rattle.trace_points.specs.Meaning.Searches.{searched, findingsOf, searchOf};
+ghost use Rattle.point_query.specs.Meaning.Queries.{findings};
+use geometry::Position;
+use replies::Count;
+use slots::Handle;
+use slots::Row;
+use trace_lines::PointChange;
+use trace_lines::PointSearch;
+use trace_lines::Spot;
+use trace_printing::Said;
+
+fn ins(
+    nums: &mut [Row],
+    reals: &mut [[f32; 4]],
+    ints: &mut [[i32; 4]],
+    map: &mut [u64],
+    pool: &mut [[u64; 2]],
+    spots: &mut [[f32; 2]],
+    cells: &mut [[u64; 2]],
+    at: Spot,
+    obj: u32,
+) -> Said
+    requires { ⌜ SpotInRange at ⌝ }
+    ensures { λ r. ⌜ outcome r (after nums reals ints map pool spots cells) ≡ insertedOf (before nums reals ints map pool spots cells) at obj ⌝ }
+{
+    let p = trace_telling::place(at);
+    let r = points::insert(nums, reals, ints, map, pool, spots, cells, p, obj);
+    let h = r.handle;
+    trace_telling::two(r.answer, h.slot, h.version)
+}
+
+fn pos(
+    nums: &mut [Row],
+    reals: &mut [[f32; 4]],
+    ints: &mut [[i32; 4]],
+    map: &[u64],
+    pool: &[[u64; 2]],
+    spots: &[[f32; 2]],
+    cells: &mut [[u64; 2]],
+    h: Handle,
+    at: Spot,
+) -> Said
+    requires { ⌜ SpotInRange at ⌝ }
+    ensures { λ r. ⌜ outcome r (after nums reals ints map pool spots cells) ≡ movedOf (before nums reals ints map pool spots cells) h at ⌝ }
+{
+    let p = trace_telling::place(at);
+    let answer = points::set_position(nums, reals, ints, map, pool, spots, cells, h, p);
+    trace_telling::done(answer)
+}
+
+fn rem(
+    nums: &mut [Row],
+    reals: &mut [[f32; 4]],
+    ints: &mut [[i32; 4]],
+    map: &[u64],
+    pool: &[[u64; 2]],
+    spots: &[[f32; 2]],
+    cells: &mut [[u64; 2]],
+    h: Handle,
+) -> Said
+    ensures { λ r. ⌜ outcome r (after nums reals ints map pool spots cells) ≡ markedOf (before nums reals ints map pool spots cells) h ⌝ }
+{
+    let r = points::remove(nums, reals, ints, map, pool, spots, cells, h);
+    trace_telling::one(r.answer, r.obj)
+}
+
+fn now(
+    nums: &mut [Row],
+    reals: &[[f32; 4]],
+    ints: &[[i32; 4]],
+    map: &mut [u64],
+    pool: &mut [[u64; 2]],
+    spots: &mut [[f32; 2]],
+    cells: &mut [[u64; 2]],
+    h: Handle,
+) -> Said
+    ensures { λ r. ⌜ outcome r (after nums reals ints map pool spots cells) ≡ takenOf (before nums reals ints map pool spots cells) h ⌝ }
+{
+    let r = points::remove_maintain(nums, reals, ints, map, pool, spots, cells, h);
+    trace_telling::one(r.answer, r.obj)
+}
+
+fn mnt(
+    nums: &mut [Row],
+    reals: &mut [[f32; 4]],
+    ints: &mut [[i32; 4]],
+    map: &mut [u64],
+    pool: &mut [[u64; 2]],
+    spots: &mut [[f32; 2]],
+    cells: &mut [[u64; 2]],
+) -> Said
+    ensures { λ r. ⌜ outcome r (after nums reals ints map pool spots cells) ≡ maintainedOf (before nums reals ints map pool spots cells) ⌝ }
+{
+    let r = points::maintain(nums, reals, ints, map, pool, spots, cells);
+    trace_telling::two(r.answer, r.moved, r.removed)
+}
+
+// A line that changes the points, with what its record says.
+pub fn change_points(
+    nums: &mut [Row],
+    reals: &mut [[f32; 4]],
+    ints: &mut [[i32; 4]],
+    map: &mut [u64],
+    pool: &mut [[u64; 2]],
+    spots: &mut [[f32; 2]],
+    cells: &mut [[u64; 2]],
+    k: PointChange,
+    h: Handle,
+    p: Spot,
+    n: u32,
+) -> Said
+    requires { ⌜ SpotInRange p ⌝ }
+    ensures { λ said. ⌜ outcome said (after nums reals ints map pool spots cells) ≡ changeOf (before nums reals ints map pool spots cells) k h p n ⌝ }
+{
+    match k {
+        PointChange::Ins => ins(nums, reals, ints, map, pool, spots, cells, p, n),
+        PointChange::Pos => pos(nums, reals, ints, map, pool, spots, cells, h, p),
+        PointChange::Rem => rem(nums, reals, ints, map, pool, spots, cells, h),
+        PointChange::Now => now(nums, reals, ints, map, pool, spots, cells, h),
+        PointChange::Mnt => mnt(nums, reals, ints, map, pool, spots, cells),
+    }
+}
+
+// Each line that searches the points is a query of the grid.
+fn find(
+    nums: &[Row],
+    reals: &[[f32; 4]],
+    ints: &[[i32; 4]],
+    map: &[u64],
+    pool: &[[u64; 2]],
+    spots: &[[f32; 2]],
+    cells: &[[u64; 2]],
+    s: PointSearch,
+    p: Position,
+    q: Position,
+    far: f32,
+    handles: &mut [[u32; 2]],
+    places: &mut [[f32; 2]],
+) -> Count
+    ensures { λ r. ⌜ findings r (is handles) (is places) ≡ findingsOf (before nums reals ints map pool spots cells) s p q far (was handles) (was places) ⌝ }
+{
+    match s {
+        PointSearch::Cir => {
+            points::query_around(
+                nums,
+                reals,
+                ints,
+                map,
+                pool,
+                spots,
+                cells,
+                p,
+                far,
+                handles,
+                places,
+            )
+        }
+        PointSearch::Rec => {
+            points::query_aabb(
+                nums,
+                reals,
+                ints,
+                map,
+                pool,
+                spots,
+                cells,
+                p,
+                q,
+                handles,
+                places,
+            )
+        }
+        PointSearch::Cel => {
+            points::query(
+                nums,
+                reals,
+                ints,
+                map,
+                pool,
+                spots,
+                cells,
+                p,
+                q,
+                handles,
+                places,
+            )
+        }
+    }
+}
+
+// A line that searches the points, with what its record says. The findings are in the outputs.
+pub fn search_points(
+    nums: &[Row],
+    reals: &[[f32; 4]],
+    ints: &[[i32; 4]],
+    map: &[u64],
+    pool: &[[u64; 2]],
+    spots: &[[f32; 2]],
+    cells: &[[u64; 2]],
+    s: PointSearch,
+    p: Spot,
+    q: Spot,
+    far: i32,
+    handles: &mut [[u32; 2]],
+    places: &mut [[f32; 2]],
+) -> Said
+    requires { ⌜ (SpotInRange p × SpotInRange q) × CountInRange far ⌝ }
+    ensures { λ said. ⌜ searched said (is handles) (is places) ≡ searchOf (before nums reals ints map pool spots cells) s p q far (was handles) (was places) ⌝ }
+{
+    let a = trace_telling::place(p);
+    let b = trace_telling::place(q);
+    let radius = trace_sixteenths::from_sixteenths(far);
+    let r = find(
+        nums,
+        reals,
+        ints,
+        map,
+        pool,
+        spots,
+        cells,
+        s,
+        a,
+        b,
+        radius,
+        handles,
+        places,
+    );
+    trace_telling::points(r.answer, r.count)
+}

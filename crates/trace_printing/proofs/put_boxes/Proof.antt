@@ -1,0 +1,78 @@
+-- `trace_printing::put_boxes` meets its contract: the findings so far are put. The measure is what is left. Assumes nothing.
+use Prim.Native.Nat.{_*_, _-_, _≤_}
+use mathlib.Core.Path.{_≡_, sym, ap}
+use native.Mathlib.Numerals.{add-one}
+use native.Mathlib.Omega.{arith}
+use Rattle.trace_printing.specs.Meaning.Said.{boxesText}
+use Rattle.trace_printing.specs.Inner.Puts.{Puts}
+use Rattle.trace_printing.proofs.laws.Puts.{puts-none, puts-length, puts-then, puts-as}
+use Rattle.trace_printing.proofs.put_boxes.Statement.{statement}
+use Rattle.trace_printing.proofs.put_boxes.Tie as tie
+
+abbrev Inv-loop : tie.InvT-loop
+Inv-loop out₀ at handles boxes n next₀ i₀ out next i = (i ≤ n) × Puts out₀ at out next (boxesText handles boxes i) (i * 70)
+
+abbrev μ-loop : tie.MeasureT-loop
+μ-loop out₀ at handles boxes n next₀ i₀ out next i = n - i
+
+loop-holds : tie.Need-loop-holds Inv-loop μ-loop
+loop-holds c = (omega arith, puts-none _ _)
+
+mul-put-box : tie.Need-mul-put-box Inv-loop μ-loop
+mul-put-box c = omega arith
+
+shared-slice-copy-out-put-box : tie.Need-shared-slice-copy-out-put-box Inv-loop μ-loop
+shared-slice-copy-out-put-box c = omega arith
+
+mul-put-box-2 : tie.Need-mul-put-box-2 Inv-loop μ-loop
+mul-put-box-2 c = omega arith
+
+shared-slice-copy-out-put-box-2 : tie.Need-shared-slice-copy-out-put-box-2 Inv-loop μ-loop
+shared-slice-copy-out-put-box-2 c = omega arith
+
+put-box-requires : tie.Need-put-box-requires Inv-loop μ-loop
+put-box-requires c κs =
+    let l = c .before .before .before .before in
+    omega (arith, l .loop .inv .1 .short, puts-length (l .loop .inv .1) (omega arith))
+
+add-i : tie.Need-add-i Inv-loop μ-loop
+add-i c = omega arith
+
+loop-less : tie.Need-loop-less Inv-loop μ-loop
+loop-less c = omega arith
+
+loop-again : tie.Need-loop-again Inv-loop μ-loop
+loop-again c =
+    let l = c .before .before .before .before .before .before .before in
+    let s = l .before .before in
+    (omega arith, puts-as (puts-then (l .loop .inv .1) (omega arith) (c .before .before .put-box .ensures)) (ap (boxesText (s .args .handles .now) (s .args .boxes .now)) (sym (add-one (l .loop .i)))) (omega arith))
+
+same-length : tie.Need-same-length Inv-loop μ-loop
+same-length c =
+    let l = c .before in
+    puts-length (l .loop .inv .1) (omega arith)
+
+returns : tie.Need-returns Inv-loop μ-loop
+returns c =
+    let l = c .before in
+    let s = l .before .before in
+    let e : l .loop .i ≡ s .args .n = omega arith in
+    puts-as (l .loop .inv .1) (ap (boxesText (s .args .handles .now) (s .args .boxes .now)) e) (omega (arith, e))
+
+pub put-boxes-spec : {M : Type 1} → statement M
+put-boxes-spec =
+    tie.close
+    (tie.spec
+    Inv-loop
+    μ-loop
+    loop-holds
+    mul-put-box
+    shared-slice-copy-out-put-box
+    mul-put-box-2
+    shared-slice-copy-out-put-box-2
+    put-box-requires
+    add-i
+    loop-less
+    loop-again
+    same-length
+    returns)

@@ -1,0 +1,24 @@
+-- `trace_printing::put_corners` meets its contract. Assumes nothing.
+use native.Mathlib.Omega.{arith}
+use Rattle.trace_printing.proofs.laws.Puts.{puts-then}
+use borrow.Author.Needs.{needs}
+use Rattle.trace_printing.proofs.put_corners.Statement.{statement}
+use Rattle.trace_printing.proofs.put_corners.Tie as tie
+
+returns : tie.Need-returns
+returns c =
+    let p = c .before .before .before .before .before .before in
+    puts-then (p .put-corner .ensures) (omega arith) (c .before .before .put-corner2 .ensures)
+
+pub put-corners-spec : {M : Type 1} → statement M
+put-corners-spec =
+    tie.close
+    (tie.spec
+    (λ c. search needs)
+    (λ c. search needs)
+    (λ c κs. search needs)
+    (λ c. search needs)
+    (λ c. search needs)
+    (λ c κs. search needs)
+    (λ c. search needs)
+    returns)

@@ -1,0 +1,22 @@
+-- `trace_printing::put_point` meets its contract. Assumes nothing.
+use native.Mathlib.Omega.{arith}
+use Rattle.trace_printing.proofs.laws.Puts.{puts-then}
+use borrow.Author.Needs.{needs}
+use Rattle.trace_printing.proofs.put_point.Statement.{statement}
+use Rattle.trace_printing.proofs.put_point.Tie as tie
+
+returns : tie.Need-returns
+returns c =
+    let p = c .before .before .before .before .before .before in
+    puts-then (p .put-handle .ensures) (omega arith) (c .before .before .put-corner .ensures)
+
+pub put-point-spec : {M : Type 1} → statement M
+put-point-spec =
+    tie.close
+    (tie.spec
+    (λ c κs. search needs)
+    (λ c. search needs)
+    (λ c. search needs)
+    (λ c κs. search needs)
+    (λ c. search needs)
+    returns)

@@ -1,0 +1,78 @@
+-- `trace_printing::put_points` meets its contract: the findings so far are put. The measure is what is left. Assumes nothing.
+use Prim.Native.Nat.{_*_, _-_, _≤_}
+use mathlib.Core.Path.{_≡_, sym, ap}
+use native.Mathlib.Numerals.{add-one}
+use native.Mathlib.Omega.{arith}
+use Rattle.trace_printing.specs.Meaning.Said.{pointsText}
+use Rattle.trace_printing.specs.Inner.Puts.{Puts}
+use Rattle.trace_printing.proofs.laws.Puts.{puts-none, puts-length, puts-then, puts-as}
+use Rattle.trace_printing.proofs.put_points.Statement.{statement}
+use Rattle.trace_printing.proofs.put_points.Tie as tie
+
+abbrev Inv-loop : tie.InvT-loop
+Inv-loop out₀ at handles places n next₀ i₀ out next i = (i ≤ n) × Puts out₀ at out next (pointsText handles places i) (i * 46)
+
+abbrev μ-loop : tie.MeasureT-loop
+μ-loop out₀ at handles places n next₀ i₀ out next i = n - i
+
+loop-holds : tie.Need-loop-holds Inv-loop μ-loop
+loop-holds c = (omega arith, puts-none _ _)
+
+mul-put-point : tie.Need-mul-put-point Inv-loop μ-loop
+mul-put-point c = omega arith
+
+shared-slice-copy-out-put-point : tie.Need-shared-slice-copy-out-put-point Inv-loop μ-loop
+shared-slice-copy-out-put-point c = omega arith
+
+mul-put-point-2 : tie.Need-mul-put-point-2 Inv-loop μ-loop
+mul-put-point-2 c = omega arith
+
+shared-slice-copy-out-put-point-2 : tie.Need-shared-slice-copy-out-put-point-2 Inv-loop μ-loop
+shared-slice-copy-out-put-point-2 c = omega arith
+
+put-point-requires : tie.Need-put-point-requires Inv-loop μ-loop
+put-point-requires c κs =
+    let l = c .before .before .before .before in
+    omega (arith, l .loop .inv .1 .short, puts-length (l .loop .inv .1) (omega arith))
+
+add-i : tie.Need-add-i Inv-loop μ-loop
+add-i c = omega arith
+
+loop-less : tie.Need-loop-less Inv-loop μ-loop
+loop-less c = omega arith
+
+loop-again : tie.Need-loop-again Inv-loop μ-loop
+loop-again c =
+    let l = c .before .before .before .before .before .before .before in
+    let s = l .before .before in
+    (omega arith, puts-as (puts-then (l .loop .inv .1) (omega arith) (c .before .before .put-point .ensures)) (ap (pointsText (s .args .handles .now) (s .args .places .now)) (sym (add-one (l .loop .i)))) (omega arith))
+
+same-length : tie.Need-same-length Inv-loop μ-loop
+same-length c =
+    let l = c .before in
+    puts-length (l .loop .inv .1) (omega arith)
+
+returns : tie.Need-returns Inv-loop μ-loop
+returns c =
+    let l = c .before in
+    let s = l .before .before in
+    let e : l .loop .i ≡ s .args .n = omega arith in
+    puts-as (l .loop .inv .1) (ap (pointsText (s .args .handles .now) (s .args .places .now)) e) (omega (arith, e))
+
+pub put-points-spec : {M : Type 1} → statement M
+put-points-spec =
+    tie.close
+    (tie.spec
+    Inv-loop
+    μ-loop
+    loop-holds
+    mul-put-point
+    shared-slice-copy-out-put-point
+    mul-put-point-2
+    shared-slice-copy-out-put-point-2
+    put-point-requires
+    add-i
+    loop-less
+    loop-again
+    same-length
+    returns)

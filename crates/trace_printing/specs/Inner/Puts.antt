@@ -1,0 +1,11 @@
+-- What a function that writes says: the text that it put, and at most how long that is. Assumes nothing.
+-- Here: what only inner contracts cite.
+use Prim.Native.Nat.{ℕ, _+_, _≤_}
+use mathlib.Core.Path.{_≡_}
+use mathlib.Core.List.{List}
+use Rattle.trace_decimals.specs.Meaning.Written.{written, put}
+
+-- from place `at` of the bytes a on, up to r, where the bytes are then b
+pub record Puts (a : List ℕ) (at : ℕ) (b : List ℕ) (r : ℕ) (text : List ℕ) (most : ℕ) : Type 0 where
+  pub put-is : written b r ≡ put (written a at) text
+  pub short : r ≤ at + most

@@ -1,0 +1,24 @@
+-- What the code of a record did is what the record asks for. Assumes nothing.
+use mathlib.Core.Path.{_≡_, sym, ap, subst, _∙_}
+use mathlib.Core.List.{List}
+use native.Mathlib.Omega.{arith}
+use Prim.Native.Nat.{ℕ}
+use Rattle.trace_decimals.specs.Meaning.Written.{Written, put}
+use Rattle.trace_printing.specs.declared.Said.{Said}
+use Rattle.trace_printing.specs.Meaning.Said.{recordText}
+use Rattle.trace_lines.specs.declared.Request.{Request}
+use Rattle.trace_lines.specs.Meaning.Requests.{requestOf}
+use Rattle.trace_answers.specs.Meaning.State.{State, Answered, answered}
+use Rattle.trace_answers.proofs.laws.ToldLaws.{IsTold, told}
+use Rattle.trace_answers.specs.Meaning.Answer.{answerOf}
+use Rattle.trace_replay.specs.Meaning.Replay.{Grids, grids, fresh, answerTo, textOf, gridsOf, replayed, replayOf}
+
+module _ (g : Grids) (bytes : List ℕ) {q : Request} (read : q ≡ requestOf bytes) {s : Said} {after : State} (done : answered s after ≡ answerOf (fresh g) q) where
+  pub can-tell : IsTold (answered s after)
+  can-tell = subst IsTold (sym done) (told (fresh g) (omega arith) (omega arith) q)
+
+  pub is-replayed : (w : Written) {v : Written} → v ≡ put w (recordText s (after .handles) (after .places) (after .corners)) → replayed (grids (after .points) (after .boxes)) v ≡ replayOf g bytes w
+  unfolding answerTo
+  is-replayed w e =
+      ap (replayed (grids (after .points) (after .boxes))) e
+      ∙ ap (λ (a : Answered). replayed (gridsOf a) (put w (textOf a))) (done ∙ ap (answerOf (fresh g)) read)

@@ -1,0 +1,52 @@
+-- A record replayed: its request performed on the two grids, and its answer put behind what is written. A trace is its records, one after the
+-- other. Assumes nothing.
+use Prim.Native.Nat.{ℕ}
+use mathlib.Core.Bool.{false}
+use mathlib.Core.List.{List}
+use lib.ListN.{replicate}
+use lib.Ieee.{Float, fin}
+use lib.IntN.{pos}
+use Rattle.trace_decimals.specs.Meaning.Written.{Written, put}
+use Rattle.point_tables.specs.Meaning.Tables as point
+use Rattle.box_tables.specs.Meaning.Tables as box
+use Rattle.trace_printing.specs.Meaning.Said.{recordText}
+use Rattle.trace_lines.specs.Meaning.Requests.{requestOf}
+use Rattle.trace_answers.specs.Meaning.State.{State, state, Answered}
+use Rattle.trace_answers.specs.Meaning.Answer.{answerOf}
+
+pub record Grids : Type 0 where
+  pub points : point.Tables
+  pub boxes : box.Tables
+
+abbrev pub grids : point.Tables → box.Tables → Grids
+grids p b = record { points = p; boxes = b }
+
+abbrev pub naught : Float
+naught = fin false 0 (pos 0)
+
+-- the outputs of the queries before a request: 256 findings of points, 64 of boxes
+abbrev pub fresh : Grids → State
+fresh g =
+    state (g .points) (g .boxes) (replicate 256 (replicate 2 0)) (replicate 256 (replicate 2 naught)) (replicate 64 (replicate 4 naught)) (replicate 64 0)
+
+-- what the grids answer to the bytes of a record
+unfoldable pub answerTo : Grids → List ℕ → Answered
+answerTo g bytes = answerOf (fresh g) (requestOf bytes)
+
+-- the text of the answer, and the grids after it
+abbrev pub textOf : Answered → List ℕ
+textOf a = recordText (a .tells) (a .after .handles) (a .after .places) (a .after .corners)
+
+abbrev pub gridsOf : Answered → Grids
+gridsOf a = grids (a .after .points) (a .after .boxes)
+
+-- ---- one record, where its answer is put behind what is written
+pub record Replayed : Type 0 where
+  pub after : Grids
+  pub out : Written
+
+abbrev pub replayed : Grids → Written → Replayed
+replayed g w = record { after = g; out = w }
+
+abbrev pub replayOf : Grids → List ℕ → Written → Replayed
+replayOf g bytes w = replayed (gridsOf (answerTo g bytes)) (put w (textOf (answerTo g bytes)))

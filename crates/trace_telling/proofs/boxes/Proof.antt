@@ -1,0 +1,14 @@
+-- `trace_telling::boxes` meets its contract. Assumes nothing.
+use Rattle.trace_printing.specs.declared.Said.the-variants.{Boxes}
+use Rattle.trace_telling.proofs.laws.Tells.{told-done, told-refused}
+use Rattle.trace_telling.proofs.boxes.Statement.{statement}
+use Rattle.trace_telling.proofs.boxes.Tie as tie
+
+returns : tie.Need-returns
+returns c = let a = c .before .args in told-done (a .answer) (Boxes (a .count)) (c .if1 .taken)
+
+returns-2 : tie.Need-returns-2
+returns-2 c = let a = c .before .args in told-refused (a .answer) (Boxes (a .count)) (c .if1 .left)
+
+pub boxes-spec : {M : Type 1} → statement M
+boxes-spec = tie.close (tie.spec returns returns-2)

@@ -1,0 +1,28 @@
+-- What an answer says: a refusal its number alone, and after 0 what there is to tell. Assumes nothing.
+-- Here: the laws.
+use Prim.Native.Nat.{ℕ}
+use mathlib.Core.Path.{_≡_, sym, ap}
+use mathlib.Core.Bool.{Bool, true, false}
+use lib.Dec.{eqb}
+use borrow.Author.Tests.{eq-eqb, ne-eqb}
+use Rattle.basics.specs.Meaning.Refusals.{pick}
+use Rattle.trace_printing.specs.Inner.Said.{Told}
+use Rattle.trace_printing.specs.declared.Said.{Said}
+use Rattle.trace_printing.specs.declared.Said.the-variants.{Refused}
+use Rattle.trace_telling.specs.Meaning.Tells.{tells}
+
+-- ---- by the test of the answer
+pub told-done : (answer : ℕ) (said : Said) → answer ≡ 0 → said ≡ tells answer said
+told-done answer said e = sym (ap (λ (b : Bool). pick b said (Refused answer)) (eq-eqb answer 0 e))
+
+pub told-refused : (answer : ℕ) (said : Said) → (answer ≡ 0 → ⊥) → Refused answer ≡ tells answer said
+told-refused answer said e = sym (ap (λ (b : Bool). pick b said (Refused answer)) (ne-eqb answer 0 e))
+
+-- a refusal has no findings to tell
+module _ (handles places boxes : ℕ) where
+  pub told-tells : (answer : ℕ) (said : Said) → Told said handles places boxes → Told (tells answer said) handles places boxes
+  told-tells answer said h = go (eqb answer 0)
+    where
+      go : (b : Bool) → Told (pick b said (Refused answer)) handles places boxes
+      go true = h
+      go false = tt

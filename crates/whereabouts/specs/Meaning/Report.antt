@@ -1,0 +1,33 @@
+-- What a query reports, read from what it returns and from its outputs, and what a circle has to report after deferred calls and maintain.
+-- Assumes nothing.
+use Prim.Native.Nat.{ℕ, _<_}
+use mathlib.Core.Path.{_≡_}
+use mathlib.Core.Bool.{true, false}
+use mathlib.Core.List.{List, [], _∷_}
+use lib.Ieee.{Float}
+use lib.ListN.{getD}
+use Rattle.geometry.specs.declared.Position.{Position}
+use Rattle.geometry.specs.Meaning.Circle.{inCircle}
+use Rattle.slots.specs.declared.Handle.{Handle}
+use Rattle.slots.specs.Meaning.Slot.{good}
+use Rattle.point_tables.specs.Meaning.Tables.{Tables, recordOn}
+use Rattle.point_deferred.specs.Meaning.Batch.{Call, replies}
+use Rattle.point_query.specs.Meaning.Queries.{Findings}
+use Rattle.whereabouts.specs.Meaning.Whereabouts.{removedBy, lastAt}
+
+-- place j of the outputs is one of those that were filled, and has the handle g and the position p
+pub record ReportedAt (o : Findings) (j : ℕ) (g : Handle) (p : Position) : Type 0 where
+  pub filled : j < o .returned .count
+  pub handle : getD (o .handles) j [] ≡ g .slot ∷ g .version ∷ []
+  pub place : getD (o .places) j [] ≡ p .x ∷ p .y ∷ []
+
+abbrev pub Reports : Findings → Handle → Position → Type 0
+Reports o g p = (j : ℕ) × ReportedAt o j g p
+
+-- a point of the tables t was live before the calls cs and is not removed by them; p is its last accepted position, or where it was; and the
+-- binary32 squared distance of p from the centre is below the binary32 square of the radius
+pub record Due (t : Tables) (cs : List Call) (centre : Position) (radius : Float) (g : Handle) (p : Position) : Type 0 where
+  pub was-live : good (t .nums) (g .slot) (g .version) ≡ true
+  pub not-removed : removedBy g cs (replies t cs) ≡ false
+  pub at-last : p ≡ lastAt g cs (replies t cs) (recordOn t (g .slot) .position)
+  pub near : inCircle p centre radius ≡ true
