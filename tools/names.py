@@ -1,7 +1,7 @@
 #!/usr/bin/env python3
-"""Holds docs/PROMISES.md and docs/WORDS.md to the tree: every file that they name is there, and every name in backticks that stands with
-a file is declared in it. A cell of a table, or a point below a point of a list, is read part by part, parted by semicolons. Prints what is not so, and
-ends in 1 then."""
+"""Holds the documents to the tree and to a screen. No line is wider than 160. In docs/PROMISES.md and docs/WORDS.md every file that they name is there,
+and every name in backticks that stands with a file is declared in it; a cell of a table, or a point below a point of a list, is read part by part, parted by
+semicolons. Prints what is not so, and ends in 1 then."""
 import glob
 import os
 import re
@@ -9,7 +9,9 @@ import sys
 
 os.chdir(os.path.join(os.path.dirname(os.path.abspath(__file__)), '..'))
 DOCUMENTS = 'docs/PROMISES.md', 'docs/WORDS.md'
-FILE = re.compile(r'([a-z_]+)/((?:specs|proofs/laws|src)(?:/[A-Za-z0-9_.]+)+|src)')
+FILE = re.compile(r'([a-z_]+)/((?:specs|proofs/laws|src|Meaning|Inner|laws)(?:/[A-Za-z0-9_.]+)+|src)')
+# how the documents call these folders
+FOLDERS = {'Meaning': 'specs/Meaning', 'Inner': 'specs/Inner', 'laws': 'proofs/laws'}
 # a further file of the same folder, by its name alone: "demands/specs/Demands and BoxDemands"
 FURTHER = re.compile(r'(?:,| and) ([A-Z][A-Za-z]+)(?=[ ,:.()]|$)')
 # words in backticks that are no names: lines of the trace, words of the language
@@ -26,7 +28,8 @@ def text_of(file):
 
 def find(crate, rest):
     """The files that this names: one, or all of `src`."""
-    base = f'crates/{crate}/{rest}'
+    first, slash, last = rest.partition('/')
+    base = f'crates/{crate}/{FOLDERS.get(first, first)}{slash}{last}'
     if rest == 'src':
         return sorted(glob.glob(base + '/*.rt'))
     return [f for f in (base, base + '.antt', base + '.rt') if os.path.isfile(f)]
@@ -80,6 +83,14 @@ def wrong_lines(document):
                     yield f'{document}:{number}: {what}'
 
 
+def wide_lines(document):
+    with open(document) as lines:
+        for number, line in enumerate(lines, 1):
+            if len(line) > 161:
+                yield f'{document}:{number}: {len(line) - 1} wide'
+
+
 wrong = [line for document in DOCUMENTS for line in wrong_lines(document)]
+wrong += [line for document in ['README.md', 'beside/README.md'] + sorted(glob.glob('docs/**/*.md', recursive=True)) for line in wide_lines(document)]
 print('\n'.join(wrong) if wrong else f'every name in {" and ".join(DOCUMENTS)} is where it says')
 sys.exit(bool(wrong))
