@@ -5,7 +5,7 @@ It follows what is cited, from
 - the contracts of the public calls: every `pub use` and `pub fn` of points, boxes and exports, and every `pub fn` of the record_ crates but those that end
   in _for (these only serve the others there);
 - the statements of the user's demands: the `pub` theorems of the files Demands and BoxDemands of crates/demands;
-- with --trace the contracts of the trace: every `pub fn` of replay, which the program of ./trace runs.
+- with --trace the contracts of the trace: every `pub fn` of trace_replay, which the program of ./trace runs.
 A definition (abbrev, unfoldable, record, data) is followed in full. A law is followed by its statement alone, and is not counted. A decider (a shut
 definition `f` beside a law `f-says`) is followed by that law's statement: what it decides is believed, not how. A private abbreviation inside a file of the
 demands is part of their statements.

@@ -4,4 +4,3 @@ pub mod PutLaws
 pub mod InsertKeeps
 pub mod EnterLaws
 pub mod NewLaws
-pub mod Insert

@@ -1,2 +1,3 @@
 -- What only inner contracts cite.
 pub mod Fresh
+pub mod Insert

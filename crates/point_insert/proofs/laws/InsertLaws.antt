@@ -19,7 +19,7 @@ use Rattle.point_tables.specs.Meaning.Decide.{holds, holds-says}
 use Rattle.point_tables.specs.Meaning.Outcome.{Outcome, outcome}
 use Rattle.replies.specs.declared.Inserted.{Inserted}
 use Rattle.point_insert.specs.Meaning.Insert.{usableSlot, put, insertAnswer, insertOf}
-use Rattle.point_insert.proofs.laws.Insert.{answerBy}
+use Rattle.point_insert.specs.Inner.Insert.{answerBy}
 use Rattle.point_insert.proofs.laws.InsertKeeps.{put-keeps}
 use Rattle.replies.specs.Meaning.Replies.{inserted}
 

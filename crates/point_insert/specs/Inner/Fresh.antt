@@ -19,6 +19,7 @@ use Rattle.point_records.specs.Meaning.Columns.{numsOf, realsOf, intsOf}
 use Rattle.point_records.specs.Meaning.Occupied.{InDomain}
 use Rattle.point_tables.specs.Meaning.Tables.{Tables, slotsOf}
 use Rattle.point_tables.specs.Meaning.Holds.{Holds}
+use Rattle.point_insert.specs.Inner.Insert.{answerBy}
 
 -- tables that hold a grid, a position of the domain, and a slot that is free
 pub record Fresh (t : Tables) (s : ℕ) (p : Position) : Type 0 where

@@ -1,5 +1,5 @@
 -- `insert`: the lowest usable slot takes the object, and (handle, position) goes to the end of its cell's list. Assumes nothing.
--- Here: the laws.
+-- Here: what only inner contracts cite.
 use Prim.Native.Nat.{ℕ}
 use mathlib.Core.Bool.{Bool}
 use Rattle.basics.specs.Meaning.Refusals.{firstOf}
