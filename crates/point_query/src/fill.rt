@@ -1,16 +1,13 @@
 // Writing what a search found into the outputs.
 ghost use mathlib.Core.Path.{_≡_};
-ghost use mathlib.Core.List.{_++_, map};
-ghost use Prim.Native.Nat.{ℕ, _+_, _-_, _≤_, _<_};
-ghost use lib.ListN.{length, getD, set, take};
+ghost use Prim.Native.Nat.{_≤_, _<_};
+ghost use lib.ListN.{length, set, take};
 ghost use Rattle.basics.specs.Meaning.Limits.{mostSlots};
 ghost use Rattle.basics.specs.Meaning.Lent.{was, is};
-ghost use Rattle.cells.specs.Inner.Numbers.{Near};
 ghost use Rattle.storage.specs.Meaning.Keyed.{written};
 ghost use Rattle.point_query.specs.Meaning.Queries.{findings};
-ghost use Rattle.point_query.specs.Inner.Places.{placesIn, spotPasses, placesOf};
-ghost use Rattle.point_query.specs.Inner.Fill.{findingOf, handleOf, placeOf, handleAt, placeAt, filled, Stocked, Findable};
-ghost use Rattle.point_query.specs.Inner.Begun.{Begun};
+ghost use Rattle.point_query.specs.Inner.Fill.{findingOf, handleOf, placeOf, filled};
+ghost use Rattle.point_query.specs.Inner.Asked.{Searchable, searched, BegunBy, Reportable, Reported, SearchReported, StretchReportable, StretchReported};
 use crate::Finding;
 use crate::Part;
 use crate::Test;
@@ -61,8 +58,8 @@ fn put_findings(
     handles: &mut [[u32; 2]],
     places: &mut [[f32; 2]],
 )
-    requires { ⌜ (r ≤ length (now found)) × (r ≤ length (now handles)) × (r ≤ length (now places)) × (length (now nums) ≤ mostSlots) × ((k : ℕ) → k < r → Findable (now nums) (now pool) (now spots) (getD (now found) k 0)) ⌝ }
-    ensures { λ _. ⌜ (is handles ≡ written (map (handleAt (was nums) (was pool) (was spots)) (take r (was found))) (was handles)) × (is places ≡ written (map (placeAt (was nums) (was pool) (was spots)) (take r (was found))) (was places)) ⌝ }
+    requires { ⌜ Reportable (now nums) (now pool) (now spots) (now found) r × (r ≤ length (now handles)) × (r ≤ length (now places)) ⌝ }
+    ensures { λ _. ⌜ Reported (was nums) (was pool) (was spots) (take r (was found)) (was handles) (was places) (is handles) (is places) ⌝ }
 {
     let mut k = 0;
     while k < r {
@@ -84,7 +81,7 @@ fn report(
     handles: &mut [[u32; 2]],
     places: &mut [[f32; 2]],
 ) -> Count
-    requires { ⌜ (r ≤ length (now found)) × (r ≤ mostSlots) × (length (now nums) ≤ mostSlots) × ((k : ℕ) → k < r → Findable (now nums) (now pool) (now spots) (getD (now found) k 0)) ⌝ }
+    requires { ⌜ Reportable (now nums) (now pool) (now spots) (now found) r × (r ≤ mostSlots) ⌝ }
     ensures { λ c. ⌜ findings c (is handles) (is places) ≡ filled (was nums) (was pool) (was spots) (take r (was found)) (was handles) (was places) ⌝ }
 {
     let number = r as u32;
@@ -133,8 +130,8 @@ fn fill_many(
     handles: &mut [[u32; 2]],
     places: &mut [[f32; 2]],
 ) -> Count
-    requires { ⌜ Stocked (now pool) (now spots) used × Near a × Near b × (length (now nums) ≤ mostSlots) × ((j : ℕ) → j < used → Findable (now nums) (now pool) (now spots) j) × (part .place ≤ used) × Begun a b test (now pool) (now spots) (part .number) (part .place) (now few) ⌝ }
-    ensures { λ r. ⌜ findings r (is handles) (is places) ≡ filled (was nums) (was pool) (was spots) (placesOf a b test (was pool) (was spots) used) (was handles) (was places) ⌝ }
+    requires { ⌜ Searchable a b (now nums) (now pool) (now spots) used × (part .place ≤ used) × BegunBy a b test (now pool) (now spots) part (now few) ⌝ }
+    ensures { λ r. ⌜ findings r (is handles) (is places) ≡ searched a b test (was nums) (was pool) (was spots) used (was handles) (was places) ⌝ }
 {
     let mut all: [u32; basics::MOST_SLOTS] = [0; basics::MOST_SLOTS];
     copy(few, part.number, &mut all);
@@ -154,8 +151,8 @@ fn fill_few(
     handles: &mut [[u32; 2]],
     places: &mut [[f32; 2]],
 ) -> Count
-    requires { ⌜ Stocked (now pool) (now spots) used × Near a × Near b × (length (now nums) ≤ mostSlots) × ((j : ℕ) → j < used → Findable (now nums) (now pool) (now spots) j) ⌝ }
-    ensures { λ r. ⌜ findings r (is handles) (is places) ≡ filled (was nums) (was pool) (was spots) (placesOf a b test (was pool) (was spots) used) (was handles) (was places) ⌝ }
+    requires { ⌜ Searchable a b (now nums) (now pool) (now spots) used ⌝ }
+    ensures { λ r. ⌜ findings r (is handles) (is places) ≡ searched a b test (was nums) (was pool) (was spots) used (was handles) (was places) ⌝ }
 {
     let mut few: [u32; 256] = [0; 256];
     let start = Part {
@@ -193,8 +190,8 @@ fn put_run(
     handles: &mut [[u32; 2]],
     places: &mut [[f32; 2]],
 ) -> usize
-    requires { ⌜ (n ≤ from) × (from ≤ to) × (to ≤ mostSlots) × (to ≤ length (now handles)) × (to ≤ length (now places)) × (length (now nums) ≤ mostSlots) × ((j : ℕ) → j < to → Findable (now nums) (now pool) (now spots) j) ⌝ }
-    ensures { λ r. ⌜ (r ≡ n + length (placesIn (spotPasses test (was spots)) from (to - from))) × (is handles ≡ written (take n (was handles) ++ map (handleAt (was nums) (was pool) (was spots)) (placesIn (spotPasses test (was spots)) from (to - from))) (was handles)) × (is places ≡ written (take n (was places) ++ map (placeAt (was nums) (was pool) (was spots)) (placesIn (spotPasses test (was spots)) from (to - from))) (was places)) ⌝ }
+    requires { ⌜ StretchReportable (now nums) (now pool) (now spots) from to n (now handles) (now places) ⌝ }
+    ensures { λ r. ⌜ StretchReported test (was nums) (was pool) (was spots) from to n (was handles) (was places) r (is handles) (is places) ⌝ }
 {
     let mut k = n;
     let mut j = from;
@@ -223,8 +220,8 @@ fn put_range(
     handles: &mut [[u32; 2]],
     places: &mut [[f32; 2]],
 ) -> usize
-    requires { ⌜ Stocked (now pool) (now spots) used × Near a × Near b × (length (now nums) ≤ mostSlots) × ((j : ℕ) → j < used → Findable (now nums) (now pool) (now spots) j) × (used ≤ length (now handles)) × (used ≤ length (now places)) ⌝ }
-    ensures { λ r. ⌜ (r ≡ length (placesOf a b test (was pool) (was spots) used)) × (is handles ≡ written (map (handleAt (was nums) (was pool) (was spots)) (placesOf a b test (was pool) (was spots) used)) (was handles)) × (is places ≡ written (map (placeAt (was nums) (was pool) (was spots)) (placesOf a b test (was pool) (was spots) used)) (was places)) ⌝ }
+    requires { ⌜ Searchable a b (now nums) (now pool) (now spots) used × (used ≤ length (now handles)) × (used ≤ length (now places)) ⌝ }
+    ensures { λ r. ⌜ SearchReported a b test (was nums) (was pool) (was spots) used (was handles) (was places) r (is handles) (is places) ⌝ }
 {
     let low = cells::key_of(a);
     let high = cells::key_of(b);
@@ -260,8 +257,8 @@ pub fn fill(
     handles: &mut [[u32; 2]],
     places: &mut [[f32; 2]],
 ) -> Count
-    requires { ⌜ Stocked (now pool) (now spots) used × Near a × Near b × (length (now nums) ≤ mostSlots) × ((j : ℕ) → j < used → Findable (now nums) (now pool) (now spots) j) ⌝ }
-    ensures { λ r. ⌜ findings r (is handles) (is places) ≡ filled (was nums) (was pool) (was spots) (placesOf a b test (was pool) (was spots) used) (was handles) (was places) ⌝ }
+    requires { ⌜ Searchable a b (now nums) (now pool) (now spots) used ⌝ }
+    ensures { λ r. ⌜ findings r (is handles) (is places) ≡ searched a b test (was nums) (was pool) (was spots) used (was handles) (was places) ⌝ }
 {
     if lesser(handles.len(), places.len()) < used {
         return fill_few(nums, pool, spots, used, a, b, test, handles, places);

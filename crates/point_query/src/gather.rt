@@ -1,16 +1,13 @@
 // Collecting the places of the entries that a search is for.
 ghost use mathlib.Core.Path.{_≡_};
-ghost use mathlib.Core.List.{_++_};
 ghost use Prim.Native.Nat.{_+_, _-_, _≤_, min};
-ghost use lib.ListN.{length, take};
+ghost use lib.ListN.{length};
 ghost use Rattle.basics.specs.Meaning.Limits.{mostSlots};
 ghost use Rattle.basics.specs.Meaning.Lent.{was, is};
-ghost use Rattle.cells.specs.Inner.Numbers.{Near};
-ghost use Rattle.storage.specs.Meaning.Keyed.{written};
 ghost use Rattle.point_query.specs.Meaning.Queries;
-ghost use Rattle.point_query.specs.Inner.Places.{placesIn, spotPasses};
-ghost use Rattle.point_query.specs.Inner.Fill.{Stocked};
-ghost use Rattle.point_query.specs.Inner.Begun.{Gathered, Begun};
+ghost use Rattle.point_query.specs.Inner.Places.{spotPasses};
+ghost use Rattle.point_query.specs.Inner.Begun.{Gathered};
+ghost use Rattle.point_query.specs.Inner.Asked.{BegunBy, Gatherable, StretchGathered};
 use crate::Part;
 use crate::Test;
 use cells::Cell;
@@ -36,7 +33,7 @@ fn gather_run(
     places: &mut [u32],
 ) -> usize
     requires { ⌜ (from ≤ to) × (to ≤ length (now spots)) × (to ≤ mostSlots) × (n + (to - from) ≤ length (now places)) × (length (now places) ≤ mostSlots) ⌝ }
-    ensures { λ r. ⌜ (r ≡ n + length (placesIn (spotPasses test (was spots)) from (to - from))) × (is places ≡ written (take n (was places) ++ placesIn (spotPasses test (was spots)) from (to - from)) (was places)) ⌝ }
+    ensures { λ r. ⌜ StretchGathered test (was spots) from to n (was places) r (is places) ⌝ }
 {
     let mut k = n;
     let mut j = from;
@@ -103,8 +100,8 @@ pub fn gather(
     start: Part,
     places: &mut [u32],
 ) -> Part
-    requires { ⌜ Stocked (now pool) (now spots) used × Near a × Near b × (start .place ≤ used) × Begun a b test (now pool) (now spots) (start .number) (start .place) (now places) × (length (now places) ≤ mostSlots) ⌝ }
-    ensures { λ r. ⌜ Begun a b test (was pool) (was spots) (r .number) (r .place) (is places) × (r .place ≤ used) × (used ≤ length (was places) → r .place ≡ used) ⌝ }
+    requires { ⌜ Gatherable a b test (now pool) (now spots) used start (now places) ⌝ }
+    ensures { λ r. ⌜ BegunBy a b test (was pool) (was spots) r (is places) × (r .place ≤ used) × (used ≤ length (was places) → r .place ≡ used) ⌝ }
 {
     let low = cells::key_of(a);
     let high = cells::key_of(b);

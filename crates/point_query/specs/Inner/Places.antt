@@ -1,5 +1,5 @@
 -- The places of the pool whose entries a search is for, ascending. Assumes nothing.
-use Prim.Native.Nat.{ℕ, zero, suc, _+_}
+use Prim.Native.Nat.{ℕ, zero, suc, _+_, _-_}
 use mathlib.Core.Bool.{Bool, _&&_}
 use mathlib.Core.List.{List, [], _∷_, _++_}
 use lib.Ieee.{Float}
@@ -27,6 +27,10 @@ wantedAt a b test pool spots j = wanted a b test (entryAt pool spots j)
 -- the spot at place j passes
 abbrev pub spotPasses : Test → List (List Float) → ℕ → Bool
 spotPasses test spots j = passes test (spotAt spots j)
+
+-- the places of a stretch whose spots pass
+abbrev pub stretchPlaces : Test → List (List Float) → ℕ → ℕ → List ℕ
+stretchPlaces test spots from to = placesIn (spotPasses test spots) from (to - from)
 
 -- the places below `used` of the entries that a search is for
 unfoldable pub placesOf : Cell → Cell → Test → List (List ℕ) → List (List Float) → ℕ → List ℕ

@@ -35,11 +35,13 @@ report-requires c κs =
     let a = s .args in
     let r = g .gather .result in
     let few = begun-few (a .a) (a .b) (a .test) (a .pool .now) (a .spots .now) (r .number) (r .place) (last g) (begun g) in (
-      begun-room (a .a) (a .b) (a .test) (a .pool .now) (a .spots .now) (r .number) (r .place) (last g) (begun g),
+      (
+        begun-room (a .a) (a .b) (a .test) (a .pool .now) (a .spots .now) (r .number) (r .place) (last g) (begun g),
+        s .pre .3,
+        begun-each (a .a) (a .b) (a .test) (a .pool .now) (a .spots .now) (r .number) (r .place) (last g) (begun g)
+            (Findable (a .nums .now) (a .pool .now) (a .spots .now)) (λ j l. s .pre .4 j (omega (arith, l, g .gather .ensures .1))),
+      ),
       omega (arith, few, g .gather .ensures .1, s .pre .0 .most),
-      s .pre .3,
-      begun-each (a .a) (a .b) (a .test) (a .pool .now) (a .spots .now) (r .number) (r .place) (last g) (begun g)
-          (Findable (a .nums .now) (a .pool .now) (a .spots .now)) (λ j l. s .pre .4 j (omega (arith, l, g .gather .ensures .1))),
     )
 
 returns : tie.Need-returns

@@ -16,9 +16,9 @@ copy-requires : tie.Need-copy-requires
 copy-requires c κs =
     let s = c .before .before in
     let a = s .args in
-    let few = begun-few (a .a) (a .b) (a .test) (a .pool .now) (a .spots .now) (a .part .number) (a .part .place) (a .few .now) (s .pre .6) in
-    let room = begun-room (a .a) (a .b) (a .test) (a .pool .now) (a .spots .now) (a .part .number) (a .part .place) (a .few .now) (s .pre .6) in
-    let most : a .part .number ≤ 4096 = omega (arith, few, s .pre .5, s .pre .0 .most) in
+    let few = begun-few (a .a) (a .b) (a .test) (a .pool .now) (a .spots .now) (a .part .number) (a .part .place) (a .few .now) (s .pre .2) in
+    let room = begun-room (a .a) (a .b) (a .test) (a .pool .now) (a .spots .now) (a .part .number) (a .part .place) (a .few .now) (s .pre .2) in
+    let most : a .part .number ≤ 4096 = omega (arith, few, s .pre .1, s .pre .0 .0 .most) in
     (room, search needs, search needs)
 
 gather-requires : tie.Need-gather-requires
@@ -26,11 +26,11 @@ gather-requires c κs =
     let k = c .before .before in
     let s = k .before .before .before in
     let a = s .args in (
-      s .pre .0,
+      s .pre .0 .0,
+      s .pre .0 .1,
+      s .pre .0 .2,
       s .pre .1,
-      s .pre .2,
-      s .pre .5,
-      begun-copied (a .a) (a .b) (a .test) (a .pool .now) (a .spots .now) (a .part .number) (a .part .place) (a .few .now) (s .pre .6) _ _ (k .copy .ensures .0),
+      begun-copied (a .a) (a .b) (a .test) (a .pool .now) (a .spots .now) (a .part .number) (a .part .place) (a .few .now) (s .pre .2) _ _ (k .copy .ensures .0),
       omega (arith, k .copy .ensures .1),
     )
 
@@ -46,7 +46,7 @@ module _ (g : tie.After-gather) where
   last = g .gather .last .1 .1 .1 .1 .1 .1 .1 .0
 
   whole : g .gather .result .place ≡ start .args .used
-  whole = g .gather .ensures .2 (omega (arith, copied .copy .ensures .1, start .pre .0 .most))
+  whole = g .gather .ensures .2 (omega (arith, copied .copy .ensures .1, start .pre .0 .0 .most))
 
   begun : let a = start .args in Begun (a .a) (a .b) (a .test) (a .pool .now) (a .spots .now) (g .gather .result .number) (g .gather .result .place) last
   begun = g .gather .ensures .0
@@ -61,11 +61,13 @@ report-requires c κs =
     let a = s .args in
     let r = g .gather .result in
     let few = begun-few (a .a) (a .b) (a .test) (a .pool .now) (a .spots .now) (r .number) (r .place) (last g) (begun g) in (
-      begun-room (a .a) (a .b) (a .test) (a .pool .now) (a .spots .now) (r .number) (r .place) (last g) (begun g),
-      omega (arith, few, g .gather .ensures .1, s .pre .0 .most),
-      s .pre .3,
-      begun-each (a .a) (a .b) (a .test) (a .pool .now) (a .spots .now) (r .number) (r .place) (last g) (begun g)
-          (Findable (a .nums .now) (a .pool .now) (a .spots .now)) (λ j l. s .pre .4 j (omega (arith, l, g .gather .ensures .1))),
+      (
+        begun-room (a .a) (a .b) (a .test) (a .pool .now) (a .spots .now) (r .number) (r .place) (last g) (begun g),
+        s .pre .0 .3,
+        begun-each (a .a) (a .b) (a .test) (a .pool .now) (a .spots .now) (r .number) (r .place) (last g) (begun g)
+            (Findable (a .nums .now) (a .pool .now) (a .spots .now)) (λ j l. s .pre .0 .4 j (omega (arith, l, g .gather .ensures .1))),
+      ),
+      omega (arith, few, g .gather .ensures .1, s .pre .0 .0 .most),
     )
 
 returns : tie.Need-returns

@@ -39,12 +39,12 @@ module _ (l : tie.At-loop Inv-loop μ-loop) where
   handles-kept : length (l .loop .handles) ≡ length (start .args .handles .now)
   handles-kept =
       ap length (l .loop .inv .1)
-      ∙ put-length handle (start .args .found .now) (start .args .handles .now) (l .loop .k) (omega (arith, start .pre .0)) (omega (arith, start .pre .1))
+      ∙ put-length handle (start .args .found .now) (start .args .handles .now) (l .loop .k) (omega (arith, start .pre .0 .0)) (omega (arith, start .pre .1))
 
   places-kept : length (l .loop .places) ≡ length (start .args .places .now)
   places-kept =
       ap length (l .loop .inv .2)
-      ∙ put-length place (start .args .found .now) (start .args .places .now) (l .loop .k) (omega (arith, start .pre .0)) (omega (arith, start .pre .2))
+      ∙ put-length place (start .args .found .now) (start .args .places .now) (l .loop .k) (omega (arith, start .pre .0 .0)) (omega (arith, start .pre .2))
 
 -- the place at hand is one of an entry
 here : (w : tie.After-wide Inv-loop μ-loop)
@@ -53,7 +53,7 @@ here w =
     let l = w .before .before .before in
     let s = start l in
     let a = s .args in
-    subst (Findable (a .nums .now) (a .pool .now) (a .spots .now)) (sym (w .wide .ensures)) (s .pre .4 (l .loop .k) (omega arith))
+    subst (Findable (a .nums .now) (a .pool .now) (a .spots .now)) (sym (w .wide .ensures)) (s .pre .0 .2 (l .loop .k) (omega arith))
 
 -- what is reported of it
 reported : (c : tie.After-finding-of Inv-loop μ-loop)
@@ -67,10 +67,10 @@ reported c =
     ∙ ap (findingAt (a .nums .now) (a .pool .now) (a .spots .now)) (c .before .before .wide .ensures)
 
 mul-wide : tie.Need-mul-wide Inv-loop μ-loop
-mul-wide c = let h : c .before .loop .k < length (start (c .before) .args .found .now) = omega (arith, start (c .before) .pre .0) in search needs
+mul-wide c = let h : c .before .loop .k < length (start (c .before) .args .found .now) = omega (arith, start (c .before) .pre .0 .0) in search needs
 
 in-found : tie.Need-shared-slice-read-wide Inv-loop μ-loop
-in-found c = omega (arith, start (c .before .before) .pre .0)
+in-found c = omega (arith, start (c .before .before) .pre .0 .0)
 
 in-columns : tie.Need-entry-at-requires Inv-loop μ-loop
 in-columns c κs = (here c .in-pool, here c .in-spots)
@@ -78,7 +78,7 @@ in-columns c κs = (here c .in-pool, here c .in-spots)
 in-nums : tie.Need-finding-of-requires Inv-loop μ-loop
 in-nums c κs =
     let s = start (c .before .before .before .before) in
-    (subst (λ (e : Entry). e .slot < length (s .args .nums .now)) (sym (c .entry-at .ensures)) (here (c .before) .in-nums), s .pre .3)
+    (subst (λ (e : Entry). e .slot < length (s .args .nums .now)) (sym (c .entry-at .ensures)) (here (c .before) .in-nums), s .pre .0 .1)
 
 in-outputs : tie.Need-put-finding-requires Inv-loop μ-loop
 in-outputs c κs =
@@ -95,7 +95,7 @@ loop-again c =
     let a = s .args in
     let k = l .loop .k in
     let more = i .loop-test .taken in
-    let in-found : k < length (a .found .now) = omega (arith, more, s .pre .0) in (
+    let in-found : k < length (a .found .now) = omega (arith, more, s .pre .0 .0) in (
       omega arith,
       p .put-finding .ensures .0
           ∙ put-next (handle l) (a .found .now) (a .handles .now) k (l .loop .handles) _ (l .loop .inv .1) (ap handleOf (reported f)) in-found (omega (arith, s .pre .1)),

@@ -46,23 +46,23 @@ module _ (l : tie.At-loop Inv-loop μ-loop) where
   place = let a = start .args in placeAt (a .nums .now) (a .pool .now) (a .spots .now)
 
   met : (l .loop .n ≡ length js) × (l .loop .handles ≡ written (map handle js) (start .args .handles .now)) × (l .loop .places ≡ written (map place js) (start .args .places .now))
-  met = let s = start in l .loop .inv .1 (s .args .a) (s .args .b) (s .pre .1) (s .pre .2) (l .before .before .key-of .ensures) (l .before .key-of2 .ensures)
+  met = let s = start in l .loop .inv .1 (s .args .a) (s .args .b) (s .pre .0 .1) (s .pre .0 .2) (l .before .before .key-of .ensures) (l .before .key-of2 .ensures)
 
   few : l .loop .n ≤ l .loop .i
   few = let a = start .args in omega (arith, met .0, places-most (a .a) (a .b) (a .test) (a .pool .now) (a .spots .now) (l .loop .i))
 
   handles-kept : length (l .loop .handles) ≡ length (start .args .handles .now)
-  handles-kept = ap length (met .1) ∙ length-written (map handle js) (start .args .handles .now) (omega (arith, length-map js handle, met .0, few, l .loop .inv .0, start .pre .5))
+  handles-kept = ap length (met .1) ∙ length-written (map handle js) (start .args .handles .now) (omega (arith, length-map js handle, met .0, few, l .loop .inv .0, start .pre .1))
 
   places-kept : length (l .loop .places) ≡ length (start .args .places .now)
-  places-kept = ap length (met .2) ∙ length-written (map place js) (start .args .places .now) (omega (arith, length-map js place, met .0, few, l .loop .inv .0, start .pre .6))
+  places-kept = ap length (met .2) ∙ length-written (map place js) (start .args .places .now) (omega (arith, length-map js place, met .0, few, l .loop .inv .0, start .pre .2))
 
 loop-holds : tie.Need-loop-holds Inv-loop μ-loop
 unfolding placesOf placesIn
 loop-holds c = (omega arith, λ a b na nb el eh. (refl, refl, refl))
 
 next-run-requires : tie.Need-next-run-requires Inv-loop μ-loop
-next-run-requires c κs = let l = c .before in let s = start l in (l .loop .inv .0, s .pre .0 .in-pool, s .pre .0 .sorted)
+next-run-requires c κs = let l = c .before in let s = start l in (l .loop .inv .0, s .pre .0 .0 .in-pool, s .pre .0 .0 .sorted)
 
 put-run-requires : tie.Need-put-run-requires Inv-loop μ-loop
 put-run-requires c κs =
@@ -72,11 +72,11 @@ put-run-requires c κs =
     let r = x .next-run .ensures in (
       omega (arith, few l, r .onward),
       r .ends,
-      omega (arith, r .within, s .pre .0 .most),
-      omega (arith, r .within, handles-kept l, s .pre .5),
-      omega (arith, r .within, places-kept l, s .pre .6),
-      s .pre .3,
-      λ j h. s .pre .4 j (omega (arith, h, r .within)),
+      omega (arith, r .within, s .pre .0 .0 .most),
+      omega (arith, r .within, handles-kept l, s .pre .1),
+      omega (arith, r .within, places-kept l, s .pre .2),
+      s .pre .0 .3,
+      λ j h. s .pre .0 .4 j (omega (arith, h, r .within)),
     )
 
 loop-less : tie.Need-loop-less Inv-loop μ-loop

@@ -19,7 +19,7 @@ module _ (s : tie.Start) where
   js = take (s .args .r) (s .args .found .now)
 
   number : s .args .r ≡ length js
-  number = sym (length-take-le (s .args .r) (s .args .found .now) (s .pre .0))
+  number = sym (length-take-le (s .args .r) (s .args .found .now) (s .pre .0 .0))
 
   -- an output that is too short
   short : min (length (s .args .handles .now)) (length (s .args .places .now)) < s .args .r
