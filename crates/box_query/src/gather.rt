@@ -1,7 +1,7 @@
 // Collecting the slots that the entries of a range name, each once.
 ghost use mathlib.Core.Path.{_≡_};
 ghost use mathlib.Core.List.{map};
-ghost use Prim.Native.Nat.{_+_, _≤_};
+ghost use Prim.Native.Nat.{_≤_};
 ghost use lib.ListN.{length, take};
 ghost use Rattle.basics.specs.Meaning.Limits.{mostBoxes};
 ghost use Rattle.basics.specs.Meaning.Lent.{was, is};
@@ -9,9 +9,8 @@ ghost use Rattle.storage.specs.Inner.Keyed.{Sorted};
 ghost use Rattle.storage.specs.Meaning.Entries.{rowKey};
 ghost use Rattle.box_tables.specs.Meaning.Tables.{slotOf};
 ghost use Rattle.box_query.specs.Meaning.Firsts.{firsts};
-ghost use Rattle.box_query.specs.Inner.Marks.{unmarked};
 ghost use Rattle.box_query.specs.Inner.Gather.{Slots, inside, slotsIn};
-ghost use Rattle.box_query.specs.Inner.Collected.{Collected};
+ghost use Rattle.box_query.specs.Inner.Collected.{Collected, Collectable};
 
 // Collects the slots of a stretch that have no mark behind the first n of `found`, and marks them. Returns how many there are then.
 fn gather_run(
@@ -22,7 +21,7 @@ fn gather_run(
     marks: &mut [bool; basics::MOST_BOXES],
     found: &mut [u32; basics::MOST_BOXES],
 ) -> usize
-    requires { ⌜ (from ≤ to) × (to ≤ length (now pool)) × Slots (now pool) to × (n + unmarked (now marks) ≤ mostBoxes) × (length (now marks) ≡ mostBoxes) × (length (now found) ≡ mostBoxes) ⌝ }
+    requires { ⌜ Collectable (now pool) from to n (now marks) (now found) ⌝ }
     ensures { λ r. ⌜ Collected (was marks) (was found) n (slotsIn (was pool) from to) (is marks) (is found) r ⌝ }
 {
     let mut k = n;

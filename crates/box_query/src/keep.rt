@@ -4,16 +4,13 @@ ghost use Prim.Native.Nat.{_≤_};
 ghost use lib.ListN.{length, take};
 ghost use Rattle.basics.specs.Meaning.Limits.{mostBoxes};
 ghost use Rattle.basics.specs.Meaning.Lent.{was, is};
-ghost use Rattle.geometry.specs.Meaning.Intersects.{intersects};
-ghost use Rattle.storage.specs.Meaning.Keyed.{filter};
-ghost use Rattle.box_tables.specs.Meaning.Tables.{aabbAt};
-ghost use Rattle.box_query.specs.Inner.Put.{Found};
+ghost use Rattle.box_query.specs.Inner.Put.{Found, intersecting};
 use geometry::Aabb;
 
 // Of the first n slots of `found` those whose box q intersects go to the front, in the same order. Returns how many they are.
 pub fn keep(reals: &[[f32; 4]], q: Aabb, n: usize, found: &mut [u32; basics::MOST_BOXES]) -> usize
     requires { ⌜ Found (length (now reals)) (now found) n ⌝ }
-    ensures { λ r. ⌜ (r ≤ n) × (take r (is found) ≡ filter (λ s. intersects q (aabbAt (was reals) s)) (take n (was found))) × (length (is found) ≡ mostBoxes) ⌝ }
+    ensures { λ r. ⌜ (r ≤ n) × (take r (is found) ≡ intersecting q (was reals) (take n (was found))) × (length (is found) ≡ mostBoxes) ⌝ }
 {
     let mut k = 0;
     let mut j = 0;

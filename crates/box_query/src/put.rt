@@ -6,7 +6,7 @@ ghost use lib.ListN.{length, take};
 ghost use Rattle.basics.specs.Meaning.Lent.{was, is};
 ghost use Rattle.storage.specs.Meaning.Keyed.{written};
 ghost use Rattle.box_query.specs.Meaning.Queries.{boxRow};
-ghost use Rattle.box_query.specs.Inner.Put.{Found};
+ghost use Rattle.box_query.specs.Inner.Put.{Found, Reportable, Reported};
 ghost use Rattle.slot_walks.specs.Meaning.Live.{objAt, handleAt};
 use slots::Row;
 
@@ -70,8 +70,8 @@ pub fn put_findings(
     boxes: &mut [[f32; 4]],
     objs: &mut [u32],
 )
-    requires { ⌜ Found (length (now nums)) (now found) n × (length (now reals) ≡ length (now nums)) × (n ≤ length (now handles)) × (n ≤ length (now boxes)) × (n ≤ length (now objs)) ⌝ }
-    ensures { λ _. ⌜ (is handles ≡ written (map (handleAt (was nums)) (take n (was found))) (was handles)) × (is boxes ≡ written (map (boxRow (was reals)) (take n (was found))) (was boxes)) × (is objs ≡ written (map (objAt (was nums)) (take n (was found))) (was objs)) ⌝ }
+    requires { ⌜ Reportable (now nums) (now reals) (now found) n (now handles) (now boxes) (now objs) ⌝ }
+    ensures { λ _. ⌜ Reported (was nums) (was reals) (take n (was found)) (was handles) (was boxes) (was objs) (is handles) (is boxes) (is objs) ⌝ }
 {
     put_handles(nums, found, n, handles);
     put_boxes(reals, found, n, boxes);

@@ -1,13 +1,20 @@
 -- What collecting the slots of a list behind the first n of `fs`, with the marks m, comes to. Assumes nothing.
-use Prim.Native.Nat.{ℕ, _+_}
+use Prim.Native.Nat.{ℕ, _+_, _≤_}
 use mathlib.Core.Path.{_≡_}
 use mathlib.Core.Bool.{Bool}
 use mathlib.Core.List.{List, _++_}
 use lib.ListN.{length, take}
-use Rattle.box_query.specs.Inner.Marks.{marked, fresh}
+use Rattle.basics.specs.Meaning.Limits.{mostBoxes}
+use Rattle.box_query.specs.Inner.Marks.{marked, fresh, unmarked}
+use Rattle.box_query.specs.Inner.Gather.{Slots}
 
 pub record Collected (m : List Bool) (fs : List ℕ) (n : ℕ) (l : List ℕ) (marks : List Bool) (found : List ℕ) (k : ℕ) : Type 0 where
   pub number : k ≡ n + length (fresh m l)
   pub marks-after : marks ≡ marked m l
   pub first : take k found ≡ take n fs ++ fresh m l
   pub size : length found ≡ length fs
+
+-- what collecting the slots of a stretch asks for: room behind the first n for each slot that has no mark
+abbrev pub Collectable : List (List ℕ) → ℕ → ℕ → ℕ → List Bool → List ℕ → Type 0
+Collectable pool from to n marks found =
+    (from ≤ to) × (to ≤ length pool) × Slots pool to × (n + unmarked marks ≤ mostBoxes) × (length marks ≡ mostBoxes) × (length found ≡ mostBoxes)
