@@ -3,22 +3,20 @@ ghost use mathlib.Core.Path.{_≡_};
 ghost use mathlib.Core.Bool.{true};
 ghost use mathlib.Core.List.{[], _∷_};
 ghost use Prim.Native.Nat.{_+_, _/_, _≤_, _<_};
-ghost use lib.Dec.{leb};
 ghost use lib.ListN.{length, getD, set};
 ghost use Rattle.basics.specs.Meaning.Limits.{mostBoxes};
 ghost use Rattle.basics.specs.Meaning.Lent.{was, is};
 ghost use Rattle.basics.specs.Meaning.Refusals.{orElse};
-ghost use Rattle.geometry.specs.Meaning.Domain.{aabbInDomain};
 ghost use Rattle.slots.specs.declared.Usable.the-variants.{At};
-ghost use Rattle.slots.specs.Meaning.Map.{taken, lowestUsable, isSome};
+ghost use Rattle.slots.specs.Meaning.Map.{taken, isSome};
 ghost use Rattle.slots.specs.Meaning.Slot.{live, versionAt};
-ghost use Rattle.box_tables.specs.Meaning.Tables.{counting, covers, cornersOf};
+ghost use Rattle.box_tables.specs.Meaning.Tables.{counting, cornersOf};
 ghost use Rattle.box_tables.specs.Meaning.Lent.{after, before, lent};
 ghost use Rattle.box_tables.specs.Meaning.Outcome.{outcome};
 ghost use Rattle.box_tables.specs.Inner.Way.{spanOf};
 ghost use Rattle.box_insert.specs.Meaning.Insert;
-ghost use Rattle.box_insert.specs.Meaning.Insert.{fewCells, insertOf};
-ghost use Rattle.box_insert.specs.Inner.Insert.{answerBy};
+ghost use Rattle.box_insert.specs.Meaning.Insert.{insertOf};
+ghost use Rattle.box_insert.specs.Inner.Insert.{Chosen};
 ghost use Rattle.box_insert.specs.Inner.Fresh.{Ready, Fresh};
 ghost use Rattle.replies.specs.Meaning.Replies.{inserted};
 use box_tables::Span;
@@ -81,7 +79,7 @@ fn slot_for(u: Usable, fits: bool, p: Span) -> Choice
 // The first refusal that applies, or the lowest usable slot. The pool has `room` entries.
 fn choose(nums: &[Row], map: &[u64], room: usize, held: bool, b: Aabb) -> Choice
     requires { ⌜ (held ≡ true → Ready (now nums) (now map)) ⌝ }
-    ensures { λ r. ⌜ (r .answer ≡ answerBy held (aabbInDomain b) (fewCells (getD (was map) 0 0) b) (lowestUsable (was map) (length (was nums))) (leb (getD (was map) 1 0 + covers (getD (was map) 0 0) b) room)) × (r .answer ≡ 0 → (lowestUsable (was map) (length (was nums)) ≡ At (r .slot)) × (r .span ≡ spanOf (getD (was map) 0 0) b)) ⌝ }
+    ensures { λ r. ⌜ Chosen (was nums) (was map) room held b (r .answer) (r .slot) (r .span) ⌝ }
 {
     if !held {
         return refusal(3);
