@@ -1,2 +1,3 @@
 -- What the two grids of the trace answer to a request.
 pub mod Meaning
+pub mod Inner

@@ -1,13 +1,9 @@
 // The two grids of the trace answer a request: a call of one of them, or for `cell` of both.
 ghost use mathlib.Core.Path.{_≡_};
-ghost use Rattle.basics.specs.Meaning.Lent.{was, is};
-ghost use Rattle.point_tables.specs.Meaning.Lent as Points;
-ghost use Rattle.box_tables.specs.Meaning.Lent as Boxes;
 ghost use Rattle.trace_telling.specs.Inner.InRange.{InRange};
 ghost use Rattle.trace_telling.specs.Meaning.Tells.{tells, doneOr};
-ghost use Rattle.trace_answers.specs.Meaning.State.{state, answered};
-ghost use Rattle.trace_answers.specs.Meaning.Cell.{built, cellOf};
-ghost use Rattle.trace_answers.specs.Meaning.Answer.{answerOf};
+ghost use Rattle.trace_answers.specs.Meaning.Cell.{Builds};
+ghost use Rattle.trace_answers.specs.Inner.Answer.{Answers};
 use slots::Row;
 use trace_lines::Line;
 use trace_lines::Request;
@@ -38,7 +34,7 @@ pub fn cell(
     bpool: &[[u64; 2]],
     size: u32,
 ) -> Said
-    ensures { λ said. ⌜ built said (Points.after nums reals ints map pool spots cells) (Boxes.after bnums breals bmap bpool) ≡ cellOf (Points.before nums reals ints map pool spots cells) (Boxes.before bnums breals bmap bpool) size ⌝ }
+    ensures { λ said. ⌜ Builds size said nums reals ints map pool spots cells bnums breals bmap bpool ⌝ }
 {
     let a = points::new(nums, reals, ints, map, pool, spots, cells, size);
     let b = boxes::new(bnums, breals, bmap, bpool, size);
@@ -65,7 +61,7 @@ pub fn answer(
     r: Request,
 ) -> Said
     requires { ⌜ InRange r ⌝ }
-    ensures { λ said. ⌜ answered said (state (Points.after nums reals ints map pool spots cells) (Boxes.after bnums breals bmap bpool) (is handles) (is places) (is corners) (is objs)) ≡ answerOf (state (Points.before nums reals ints map pool spots cells) (Boxes.before bnums breals bmap bpool) (was handles) (was places) (was corners) (was objs)) r ⌝ }
+    ensures { λ said. ⌜ Answers r said nums reals ints map pool spots cells bnums breals bmap bpool handles places corners objs ⌝ }
 {
     let line = r.line;
     let h = r.h;
