@@ -1,14 +1,11 @@
 // The two grids of the trace, and what they answer to a record.
-ghost use mathlib.Core.Path.{_≡_};
 ghost use Prim.Native.Nat.{_+_, _≤_};
 ghost use lib.ListN.{length, take};
 ghost use Rattle.basics.specs.Meaning.Lent.{was, is};
 ghost use Rattle.trace_decimals.specs.Meaning.Written.{written};
-ghost use Rattle.point_tables.specs.Meaning.Lent as Points;
-ghost use Rattle.box_tables.specs.Meaning.Lent as Boxes;
 ghost use Rattle.trace_printing.specs.Meaning.Said.{longest};
-ghost use Rattle.trace_replay.specs.Meaning.Replay.{grids, replayed, replayOf};
-ghost use Rattle.trace_answers.specs.Meaning.Cell.{built, cellOf};
+ghost use Rattle.trace_replay.specs.Meaning.Replay.{Replays};
+ghost use Rattle.trace_answers.specs.Meaning.Cell.{Builds};
 use slots::Row;
 use trace_printing::Said;
 
@@ -26,7 +23,7 @@ pub fn start(
     bmap: &mut [u64],
     bpool: &[[u64; 2]],
 ) -> Said
-    ensures { λ said. ⌜ built said (Points.after nums reals ints map pool spots cells) (Boxes.after bnums breals bmap bpool) ≡ cellOf (Points.before nums reals ints map pool spots cells) (Boxes.before bnums breals bmap bpool) 16 ⌝ }
+    ensures { λ said. ⌜ Builds 16 said nums reals ints map pool spots cells bnums breals bmap bpool ⌝ }
 {
     trace_answers::cell(
         nums,
@@ -63,7 +60,7 @@ pub fn answer_record(
     at: usize,
 ) -> usize
     requires { ⌜ at + longest ≤ length (now out) ⌝ }
-    ensures { λ r. ⌜ replayed (grids (Points.after nums reals ints map pool spots cells) (Boxes.after bnums breals bmap bpool)) (written (is out) r) ≡ replayOf (grids (Points.before nums reals ints map pool spots cells) (Boxes.before bnums breals bmap bpool)) (take len (was line)) (written (was out) at) ⌝ }
+    ensures { λ r. ⌜ Replays (take len (was line)) (written (was out) at) (written (is out) r) nums reals ints map pool spots cells bnums breals bmap bpool ⌝ }
     ensures { λ r. ⌜ r ≤ at + longest ⌝ }
 {
     let mut handles = [[0u32; 2]; 256];

@@ -1,14 +1,18 @@
 -- A record replayed: its request performed on the two grids, and its answer put behind what is written. A trace is its records, one after the
 -- other. Assumes nothing.
 use Prim.Native.Nat.{ℕ}
+use mathlib.Core.Path.{_≡_}
 use mathlib.Core.Bool.{false}
 use mathlib.Core.List.{List}
 use lib.ListN.{replicate}
 use lib.Ieee.{Float, fin}
-use lib.IntN.{pos}
+use lib.IntN.{ℤ, pos}
+use Rattle.basics.specs.Meaning.Lent.{Lent}
 use Rattle.trace_decimals.specs.Meaning.Written.{Written, put}
 use Rattle.point_tables.specs.Meaning.Tables as point
+use Rattle.point_tables.specs.Meaning.Lent as Points
 use Rattle.box_tables.specs.Meaning.Tables as box
+use Rattle.box_tables.specs.Meaning.Lent as Boxes
 use Rattle.trace_printing.specs.Meaning.Said.{recordText}
 use Rattle.trace_lines.specs.Meaning.Requests.{requestOf}
 use Rattle.trace_answers.specs.Meaning.State.{State, state, Answered}
@@ -50,3 +54,10 @@ replayed g w = record { after = g; out = w }
 
 abbrev pub replayOf : Grids → List ℕ → Written → Replayed
 replayOf g bytes w = replayed (gridsOf (answerTo g bytes)) (put w (textOf (answerTo g bytes)))
+
+-- the promise of a record's answer, with the tables behind their references named once: w is what is written before it, v what is written after it
+abbrev pub Replays : List ℕ → Written → Written
+    → Lent (List (List ℕ)) → Lent (List (List Float)) → Lent (List (List ℤ)) → Lent (List ℕ) → Lent (List (List ℕ)) → Lent (List (List Float)) → Lent (List (List ℕ))
+    → Lent (List (List ℕ)) → Lent (List (List Float)) → Lent (List ℕ) → Lent (List (List ℕ)) → Type 0
+Replays bytes w v a b c d e f g h i j k =
+    replayed (grids (Points.after a b c d e f g) (Boxes.after h i j k)) v ≡ replayOf (grids (Points.before a b c d e f g) (Boxes.before h i j k)) bytes w
