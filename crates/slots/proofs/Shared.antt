@@ -5,7 +5,7 @@ use mathlib.Core.Bool.{Bool, true, false}
 use mathlib.Core.List.{List, [], _∷_}
 use native.Mathlib.Omega.{arith}
 use lib.Dec.{eqb}
-use lib.ListN.{length, getD, drop}
+use lib.ListN.{length, getD, set}
 use borrow.Author.Tests.{lt-ltb, le-ltb, eq-eqb, ne-eqb}
 use Rattle.basics.specs.Meaning.Says.{Says}
 use Rattle.basics.proofs.laws.Says.{says-yes, says-no, apart}
@@ -14,17 +14,11 @@ use Rattle.slots.specs.Meaning.Map.{usable}
 use Rattle.slots.proofs.laws.MapLaws.{not-usable}
 use Rattle.slots.specs.Meaning.Slot.{live, versionAt, phaseAt, good, nextVersion, nextPhase, emptiedRow, SlotHolds}
 
--- the numbers of a row behind its first two
-behind : (row : List ℕ) → length row ≡ 4 → drop 2 row ≡ getD row 2 0 ∷ getD row 3 0 ∷ []
-behind [] e = absurd (omega arith)
-behind (a ∷ []) e = absurd (omega arith)
-behind (a ∷ b ∷ []) e = absurd (omega arith)
-behind (a ∷ b ∷ c ∷ []) e = absurd (omega arith)
-behind (a ∷ b ∷ c ∷ d ∷ []) e = refl
-behind (a ∷ b ∷ c ∷ d ∷ x ∷ row) e = absurd (omega arith)
-
-pub row-emptied : (row : List ℕ) (v p : ℕ) → length row ≡ 4 → v ≡ nextVersion (getD row 0 0) → p ≡ nextPhase (getD row 0 0) → v ∷ p ∷ getD row 2 0 ∷ getD row 3 0 ∷ [] ≡ emptiedRow row
-row-emptied row v p l e f = rw (e, f, ← behind row l)
+-- a row with another version and phase
+pub row-emptied : (row : List ℕ) (v p : ℕ) → length row ≡ 4 → v ≡ nextVersion (getD row 0 0) → p ≡ nextPhase (getD row 0 0) → set (set row 0 v) 1 p ≡ emptiedRow row
+row-emptied [] v p l e f = absurd (omega arith)
+row-emptied (a ∷ []) v p l e f = absurd (omega arith)
+row-emptied (a ∷ b ∷ row) v p l e f = rw (e, f)
 
 -- ---- a handle's tests, in the order of the code; i is its slot as an index
 module _ (nums : List (List ℕ)) (slot version i : ℕ) (e : i ≡ slot) where

@@ -9,7 +9,7 @@ ghost use Rattle.basics.specs.Meaning.Says.{Says};
 ghost use Rattle.basics.specs.Meaning.Refusals.{pick};
 ghost use Rattle.slots.specs.Meaning.Map.{wordsFor, usable, taken, givenBack, lowestUsable};
 ghost use Rattle.slots.specs.Inner.Map.{usableBelow, NonePast};
-ghost use Rattle.slots.specs.Meaning.Slot.{lastVersion, good, nextVersion, nextPhase, emptiedRow, emptiedNums, emptiedMap, SlotHolds};
+ghost use Rattle.slots.specs.Meaning.Slot.{lastVersion, good, handleRefusal, nextVersion, nextPhase, emptiedRow, emptiedNums, emptiedMap, SlotHolds};
 
 // The row of a slot: version, phase, data, state.
 pub type Row = [u32; 4];
@@ -48,6 +48,16 @@ pub fn is_good(nums: &[Row], h: Handle) -> bool
         return false;
     }
     row[0] == h.version
+}
+
+// Why a handle is refused, or 0: every call that takes one asks here.
+pub fn refusal_of(nums: &[Row], h: Handle) -> u32
+    ensures { λ r. ⌜ r ≡ handleRefusal (was nums) h ⌝ }
+{
+    if is_good(nums, h) {
+        return 0;
+    }
+    5
 }
 
 // Words of 64 bits for n slots.
@@ -169,9 +179,10 @@ fn emptied_row(row: Row) -> Row
     ensures { λ r. ⌜ r ≡ emptiedRow row ⌝ }
 {
     let v = row[0];
-    let version = next_version(v);
-    let phase = next_phase(v);
-    [version, phase, row[2], row[3]]
+    let mut emptied = row;
+    emptied[0] = next_version(v);
+    emptied[1] = next_phase(v);
+    emptied
 }
 
 // Slot s is emptied: its version rises and the map has it again, or it is retired.

@@ -10,8 +10,9 @@ use lib.Seq.{getD-set-same}
 use borrow.Author.Tests.{ltb-true, eqb-true, lt-ltb, eq-eqb}
 use Rattle.basics.specs.Meaning.Says.{Says}
 use Rattle.basics.proofs.laws.Says.{both-true}
-use Rattle.basics.specs.Meaning.Refusals.{pick}
-use Rattle.slots.specs.Meaning.Slot.{free, live, retired, lastVersion, versionAt, phaseAt, good, nextVersion, emptiedRow, emptiedNums}
+use Rattle.basics.specs.Meaning.Refusals.{orElse, pick}
+use Rattle.slots.specs.declared.Handle.{Handle}
+use Rattle.slots.specs.Meaning.Slot.{free, live, retired, lastVersion, versionAt, phaseAt, good, handleRefusal, nextVersion, emptiedRow, emptiedNums}
 
 -- a handle is good exactly when its slot is one of the table's, is occupied and at that version
 pub good-says : (nums : List (List ℕ)) (slot version : ℕ) → Says (good nums slot version) ((slot < length nums) × (phaseAt nums slot ≡ live) × (versionAt nums slot ≡ version))
@@ -27,6 +28,14 @@ good-says nums slot version =
           (ltb-true slot (length nums) p, eqb-true (phaseAt nums slot) live q, eqb-true (versionAt nums slot) version v);
       no = λ h. rw (lt-ltb slot (length nums) (h .0), eq-eqb (phaseAt nums slot) live (h .1), eq-eqb (versionAt nums slot) version (h .2));
     }
+
+-- a handle that is not refused is good
+pub not-refused : (nums : List (List ℕ)) (h : Handle) → handleRefusal nums h ≡ 0 → good nums (h .slot) (h .version) ≡ true
+not-refused nums h = go (good nums (h .slot) (h .version))
+  where
+    go : (b : Bool) → orElse b 5 0 ≡ 0 → b ≡ true
+    go true e = refl
+    go false e = absurd (omega arith)
 
 -- ---- emptying
 pub emptied-not-good : (nums : List (List ℕ)) (s v : ℕ) → good (emptiedNums nums s) s v ≡ false

@@ -5,7 +5,8 @@ use mathlib.Core.Bool.{Bool, _&&_}
 use mathlib.Core.List.{List, [], _∷_}
 use lib.Dec.{eqb, ltb}
 use lib.ListN.{length, getD, set, drop}
-use Rattle.basics.specs.Meaning.Refusals.{pick}
+use Rattle.basics.specs.Meaning.Refusals.{Refusal, unless, firstOf, pick}
+use Rattle.slots.specs.declared.Handle.{Handle}
 use Rattle.slots.specs.Meaning.Map.{wordsFor, usable, givenBack}
 
 -- the phases: 0 free, 1 live, 2 retired
@@ -30,6 +31,14 @@ phaseAt nums s = getD (getD nums s []) 1 0
 -- a handle is good exactly when its slot is occupied at that version
 unfoldable pub good : List (List ℕ) → ℕ → ℕ → Bool
 good nums slot version = ltb slot (length nums) && (eqb (phaseAt nums slot) live && eqb (versionAt nums slot) version)
+
+-- ---- why a handle is refused: 5, it is not good. Every call that takes a handle has this test in its place
+abbrev pub handleTest : List (List ℕ) → Handle → Refusal
+handleTest nums h = unless (good nums (h .slot) (h .version)) 5
+
+-- 0, or why it is refused
+abbrev pub handleRefusal : List (List ℕ) → Handle → ℕ
+handleRefusal nums h = firstOf (handleTest nums h ∷ [])
 
 -- ---- emptying: the version rises by one; a slot emptied at the last version keeps it and is retired
 abbrev pub nextVersion : ℕ → ℕ
