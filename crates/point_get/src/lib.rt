@@ -34,9 +34,10 @@ pub fn get(
             obj: 0,
         };
     }
-    if !slots::is_good(nums, h) {
+    let why = slots::refusal_of(nums, h);
+    if why != 0 {
         return Got {
-            answer: 5,
+            answer: why,
             position: Position { x: 0.0, y: 0.0 },
             obj: 0,
         };

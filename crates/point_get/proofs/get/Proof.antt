@@ -7,11 +7,12 @@ use lib.ListN.{length}
 use borrow.Author.Tests.{not-true, not-false}
 use borrow.Author.Needs.{needs}
 use Rattle.slots.specs.Meaning.Slot.{good}
+use Rattle.slots.proofs.laws.HandleLaws.{not-refused}
 use Rattle.point_tables.specs.Meaning.Tables.{Tables, tables, recordOn}
 use Rattle.point_tables.specs.Meaning.Decide.{holds, holds-says}
 use Rattle.point_get.specs.declared.Got.{Got}
 use Rattle.point_get.specs.Meaning.{got}
-use Rattle.point_get.proofs.laws.ReadsLaws.{good-inside, get-3, get-5, get-0}
+use Rattle.point_get.proofs.laws.ReadsLaws.{good-inside, get-3, get-refused, get-0}
 use Rattle.point_get.proofs.get.Statement.{statement}
 use Rattle.point_get.proofs.get.Tie as tie
 
@@ -30,7 +31,7 @@ abbrev checked : tie.Else2 → tie.After-check
 checked c = c .before .before .before
 
 is-good : (c : tie.Else2) → let s = start (checked c) in good (s .args .nums .now) (s .args .h .slot) (s .args .h .version) ≡ true
-is-good c = sym (c .before .is-good .ensures) ∙ not-false _ (c .if2 .left)
+is-good c = let s = start (checked c) in not-refused (s .args .nums .now) (s .args .h) (sym (c .before .refusal-of .ensures) ∙ c .if2 .left)
 
 inside : (c : tie.Else2) → start (checked c) .args .h .slot < length (start (checked c) .args .nums .now)
 inside c = let s = start (checked c) in good-inside (lent s) (s .args .h) (is-good c)
@@ -44,7 +45,7 @@ unfolding ofBits
 returns-2 c =
     let e = c .before .before in
     let s = start (e .before) in
-    get-5 (lent s) (s .args .h) (held e) (sym (c .before .is-good .ensures) ∙ not-true _ (c .if2 .taken))
+    get-refused (lent s) (s .args .h) (held e) (c .before .refusal-of .result) (c .before .refusal-of .ensures) (c .if2 .taken)
 
 in-nums : tie.Need-shared-slice-copy-out-n
 in-nums c = subst (λ n. n < length (start (checked (c .before)) .args .nums .now)) (sym (c .wide .ensures)) (inside (c .before))

@@ -6,10 +6,10 @@ use mathlib.Core.List.{List, [], _∷_}
 use native.Mathlib.Omega.{arith}
 use lib.Dec.{eqb, ltb}
 use lib.ListN.{length}
-use borrow.Author.Tests.{ltb-true, le-leb, lt-leb}
+use borrow.Author.Tests.{ltb-true, ne-eqb, le-leb, lt-leb}
 use Rattle.basics.proofs.laws.Says.{both-true}
 use Rattle.slots.specs.declared.Handle.{Handle}
-use Rattle.slots.specs.Meaning.Slot.{live, good, phaseAt, versionAt}
+use Rattle.slots.specs.Meaning.Slot.{live, good, handleRefusal, phaseAt, versionAt}
 use Rattle.storage.specs.Meaning.Keyed.{written}
 use Rattle.point_tables.specs.Meaning.Tables.{Tables, slotsOf, recordOn}
 use Rattle.point_tables.specs.Meaning.Decide.{holds}
@@ -29,9 +29,9 @@ module _ (t : Tables) (h : Handle) where
   unfolding getOf
   get-3 e = simp e
 
-  pub get-5 : holds t ≡ true → good (t .nums) (h .slot) (h .version) ≡ false → got 5 zero-position 0 ≡ getOf t h
+  pub get-refused : holds t ≡ true → (a : ℕ) → a ≡ handleRefusal (t .nums) h → (a ≡ 0 → ⊥) → got a zero-position 0 ≡ getOf t h
   unfolding getOf
-  get-5 e f = simp (e, f)
+  get-refused e a q n = rw (e, ← q, ne-eqb a 0 n)
 
   pub get-0 : holds t ≡ true → good (t .nums) (h .slot) (h .version) ≡ true → got 0 (recordOn t (h .slot) .position) (recordOn t (h .slot) .obj) ≡ getOf t h
   unfolding getOf
