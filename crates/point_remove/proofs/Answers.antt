@@ -1,49 +1,37 @@
 -- The answers that the code gives, from its tests. Assumes nothing.
 use Prim.Native.Nat.{ℕ, _<_, _≤_, min}
-use mathlib.Core.Path.{_≡_, refl, sym, ap, _∙_}
+use mathlib.Core.Path.{_≡_, sym, ap, _∙_}
 use mathlib.Core.Bool.{Bool, true, false}
 use mathlib.Core.List.{[], _∷_}
 use native.Mathlib.Omega.{arith}
-use borrow.Author.Tests.{le-leb, lt-leb}
+use borrow.Author.Tests.{ne-eqb, le-leb, lt-leb}
 use Rattle.basics.specs.Meaning.Refusals.{unless, firstOf}
 use Rattle.slots.specs.declared.Handle.{Handle}
-use Rattle.slots.proofs.laws.HandleLaws.{good-says}
+use Rattle.slots.specs.Meaning.Slot.{handleTest}
+use Rattle.slots.proofs.laws.HandleLaws.{good-says, not-refused}
 use Rattle.point_tables.specs.Meaning.Tables.{Tables, recordOn}
 use Rattle.point_tables.specs.Meaning.Decide.{holds, holds-says}
 use Rattle.point_tables.specs.Meaning.Outcome.{Outcome, outcome}
-use Rattle.point_remove.specs.Meaning.RemoveMaintain.{takenOut, removeMaintainOf}
-use Rattle.point_remove.proofs.laws.RemoveLaws.{isGood, remove-unheld, remove-lost, remove-done}
+use Rattle.point_remove.specs.Meaning.RemoveMaintain.{takenOut, removeMaintainTests, removeMaintainOf}
+use Rattle.point_remove.proofs.laws.RemoveLaws.{isGood, remove-done}
 use Rattle.point_remove.specs.Inner.{Object, roomAnswer, countBy}
 use Rattle.replies.specs.Meaning.Replies.{count, reply}
 
--- ---- `remove_maintain`: the tests
-module _ (held good : Bool) where
-  pub answer-3 : held ≡ false → 3 ≡ firstOf (unless held 3 ∷ unless good 5 ∷ [])
-  answer-3 e = rw e
+-- ---- `remove_maintain`: the answer a of its tests, with the verdict that was handed down
+module _ (t : Tables) (h : Handle) (a : ℕ) (held : Bool) (e : held ≡ holds t) (q : a ≡ firstOf (unless held 3 ∷ handleTest (t .nums) h ∷ [])) where
+  answer-is : a ≡ firstOf (removeMaintainTests t h)
+  answer-is = q ∙ ap (λ (b : Bool). firstOf (unless b 3 ∷ handleTest (t .nums) h ∷ [])) e
 
-  pub answer-5 : held ≡ true → good ≡ false → 5 ≡ firstOf (unless held 3 ∷ unless good 5 ∷ [])
-  answer-5 e f = rw (e, f)
-
-  pub answer-0 : held ≡ true → good ≡ true → 0 ≡ firstOf (unless held 3 ∷ unless good 5 ∷ [])
-  answer-0 e f = rw (e, f)
-
--- the answer a of the tests, with the verdict that was handed down
-module _ (t : Tables) (h : Handle) (a : ℕ) (held : Bool) (e : held ≡ holds t) (q : a ≡ firstOf (unless held 3 ∷ unless (isGood t h) 5 ∷ [])) where
   pub refused : (a ≡ 0 → ⊥) → outcome (reply a 0) t ≡ removeMaintainOf t h
-  refused n = go held (isGood t h) e refl q
-    where
-      go : (b g : Bool) → b ≡ holds t → isGood t h ≡ g → a ≡ firstOf (unless b 3 ∷ unless g 5 ∷ []) → outcome (reply a 0) t ≡ removeMaintainOf t h
-      go false g f k z = ap (λ (n : ℕ). outcome (reply n 0) t) z ∙ sym (remove-unheld t h (sym f))
-      go true false f k z = ap (λ (n : ℕ). outcome (reply n 0) t) z ∙ sym (remove-lost t h (sym f) k)
-      go true true f k z = absurd (n z)
+  unfolding removeMaintainOf
+  refused n = rw (← answer-is, ne-eqb a 0 n)
 
   passed : a ≡ 0 → (holds t ≡ true) × (isGood t h ≡ true)
-  passed z = go held (isGood t h) e refl (sym z ∙ q)
+  passed z = go held e (sym z ∙ q)
     where
-      go : (b g : Bool) → b ≡ holds t → isGood t h ≡ g → 0 ≡ firstOf (unless b 3 ∷ unless g 5 ∷ []) → (holds t ≡ true) × (isGood t h ≡ true)
-      go false g f k z = absurd (omega arith)
-      go true false f k z = absurd (omega arith)
-      go true true f k z = (sym f, k)
+      go : (b : Bool) → b ≡ holds t → 0 ≡ firstOf (unless b 3 ∷ handleTest (t .nums) h ∷ []) → (holds t ≡ true) × (isGood t h ≡ true)
+      go false f k = absurd (omega arith)
+      go true f k = (sym f, not-refused (t .nums) h (sym k))
 
   -- the slot as an index
   module _ (s : ℕ) (es : s ≡ h .slot) (z : a ≡ 0) where

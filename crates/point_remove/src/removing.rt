@@ -5,7 +5,7 @@ ghost use Prim.Native.Nat.{_+_, _/_, _≤_, _<_};
 ghost use lib.ListN.{length, take};
 ghost use Rattle.basics.specs.Meaning.Lent.{was, is};
 ghost use Rattle.basics.specs.Meaning.Refusals.{unless, firstOf};
-ghost use Rattle.slots.specs.Meaning.Slot.{good, emptiedNums, emptiedMap};
+ghost use Rattle.slots.specs.Meaning.Slot.{handleTest, emptiedNums, emptiedMap};
 ghost use Rattle.storage.specs.Inner.Keyed.{Sorted};
 ghost use Rattle.storage.specs.Meaning.Entries.{rowKey};
 ghost use Rattle.storage.specs.Inner.Tables.{Rising};
@@ -20,15 +20,12 @@ use slots::Row;
 
 // The answer: the first refusal that applies, or 0. The object's state is not looked at.
 fn answer(nums: &[Row], held: bool, h: Handle) -> u32
-    ensures { λ r. ⌜ r ≡ firstOf (unless held 3 ∷ unless (good (was nums) (h .slot) (h .version)) 5 ∷ []) ⌝ }
+    ensures { λ r. ⌜ r ≡ firstOf (unless held 3 ∷ handleTest (was nums) h ∷ []) ⌝ }
 {
     if !held {
         return 3;
     }
-    if !slots::is_good(nums, h) {
-        return 5;
-    }
-    0
+    slots::refusal_of(nums, h)
 }
 
 // The row of a cell whose list is empty goes. Returns how many rows are left.

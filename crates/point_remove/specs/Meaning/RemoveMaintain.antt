@@ -6,7 +6,7 @@ use lib.ListN.{length}
 use Rattle.basics.specs.Meaning.Refusals.{Refusal, unless, pick, byTests}
 use Rattle.cells.specs.Meaning.Key.{keyOf}
 use Rattle.slots.specs.declared.Handle.{Handle}
-use Rattle.slots.specs.Meaning.Slot.{good, emptiedNums, emptiedMap}
+use Rattle.slots.specs.Meaning.Slot.{handleTest, emptiedNums, emptiedMap}
 use Rattle.storage.specs.Meaning.Keyed.{under, onList, takeOut, written}
 use Rattle.storage.specs.Meaning.Entries.{Entry, rowOf, spotOf, entryKey, isItem}
 use Rattle.storage.specs.Meaning.CellTable.{dropped}
@@ -38,7 +38,7 @@ takenOut t s =
     (written (rowsWithout t s) (t .cells))
 
 abbrev pub removeMaintainTests : Tables → Handle → List Refusal
-removeMaintainTests t h = unless (holds t) 3 ∷ unless (good (t .nums) (h .slot) (h .version)) 5 ∷ []
+removeMaintainTests t h = unless (holds t) 3 ∷ handleTest (t .nums) h ∷ []
 
 unfoldable pub removeMaintainOf : Tables → Handle → Outcome Reply
 unfolding takenOut
