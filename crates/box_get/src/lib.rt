@@ -45,8 +45,9 @@ pub fn get(nums: &[Row], reals: &[[f32; 4]], map: &[u64], pool: &[[u64; 2]], h: 
     if !box_tables::check(nums, reals, map, pool) {
         return no_box(3);
     }
-    if !slots::is_good(nums, h) {
-        return no_box(5);
+    let why = slots::refusal_of(nums, h);
+    if why != 0 {
+        return no_box(why);
     }
     let s = basics::wide(h.slot);
     let n = nums[s];

@@ -6,12 +6,12 @@ use lib.ListN.{length}
 use borrow.Author.Tests.{not-true, not-false}
 use borrow.Author.Needs.{needs}
 use Rattle.slots.specs.Meaning.Slot.{good}
-use Rattle.slots.proofs.laws.HandleLaws.{good-says}
+use Rattle.slots.proofs.laws.HandleLaws.{good-says, not-refused}
 use Rattle.box_tables.specs.Meaning.Tables.{Tables, tables, aabbOn, objOn}
 use Rattle.box_tables.specs.Meaning.Decide.{holds, holds-says}
 use Rattle.box_get.specs.declared.Got.{Got}
 use Rattle.box_get.specs.Meaning.Reads.{got}
-use Rattle.box_get.proofs.laws.ReadsLaws.{get-3, get-5, get-0}
+use Rattle.box_get.proofs.laws.ReadsLaws.{get-3, get-refused, get-0}
 use Rattle.box_get.proofs.get.Statement.{statement}
 use Rattle.box_get.proofs.get.Tie as tie
 
@@ -30,7 +30,7 @@ abbrev checked : tie.Else2 → tie.After-check
 checked c = c .before .before .before
 
 is-good : (c : tie.Else2) → let s = start (checked c) in good (s .args .nums .now) (s .args .h .slot) (s .args .h .version) ≡ true
-is-good c = sym (c .before .is-good .ensures) ∙ not-false _ (c .if2 .left)
+is-good c = let s = start (checked c) in not-refused (s .args .nums .now) (s .args .h) (sym (c .before .refusal-of .ensures) ∙ c .if2 .left)
 
 inside : (c : tie.Else2) → start (checked c) .args .h .slot < length (start (checked c) .args .nums .now)
 inside c = let a = start (checked c) .args in good-says (a .nums .now) (a .h .slot) (a .h .version) .yes (is-good c) .0
@@ -45,7 +45,7 @@ returns-2 : tie.Need-returns-2
 returns-2 c =
     let g = c .before .before in
     let s = start (g .before .before) in
-    c .no-box2 .ensures ∙ get-5 (at-entry s) (s .args .h) (held (g .before)) (sym (g .is-good .ensures) ∙ not-true _ (c .before .if2 .taken))
+    c .no-box2 .ensures ∙ get-refused (at-entry s) (s .args .h) (held (g .before)) (g .refusal-of .result) (g .refusal-of .ensures) (c .before .if2 .taken)
 
 in-nums : tie.Need-shared-slice-copy-out-n
 in-nums c = subst (λ n. n < length (start (checked (c .before)) .args .nums .now)) (sym (c .wide .ensures)) (inside (c .before))

@@ -8,7 +8,7 @@ use borrow.Author.Tests.{eq-eqb, ne-eqb}
 use Rattle.basics.specs.Inner.Counting.{countBelow}
 use Rattle.geometry.specs.Meaning.Zero.{zero-aabb}
 use Rattle.slots.specs.declared.Handle.{Handle}
-use Rattle.slots.specs.Meaning.Slot.{good}
+use Rattle.slots.specs.Meaning.Slot.{good, handleRefusal}
 use Rattle.storage.specs.Meaning.Keyed.{written}
 use Rattle.slot_walks.proofs.laws.Live.{liveAt}
 use Rattle.slot_walks.specs.Meaning.Live.{handlesIn}
@@ -25,9 +25,9 @@ module _ (t : Tables) (h : Handle) where
   unfolding getOf
   get-3 e = simp e
 
-  pub get-5 : holds t ≡ true → good (t .nums) (h .slot) (h .version) ≡ false → got 5 zero-aabb 0 ≡ getOf t h
+  pub get-refused : holds t ≡ true → (a : ℕ) → a ≡ handleRefusal (t .nums) h → (a ≡ 0 → ⊥) → got a zero-aabb 0 ≡ getOf t h
   unfolding getOf
-  get-5 e f = simp (e, f)
+  get-refused e a q n = rw (e, ← q, ne-eqb a 0 n)
 
   pub get-0 : holds t ≡ true → good (t .nums) (h .slot) (h .version) ≡ true → got 0 (aabbOn t (h .slot)) (objOn t (h .slot)) ≡ getOf t h
   unfolding getOf

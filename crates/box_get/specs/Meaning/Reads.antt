@@ -7,7 +7,7 @@ use Rattle.basics.specs.Meaning.Refusals.{Refusal, unless, pick, byTests}
 use Rattle.geometry.specs.declared.Aabb.{Aabb}
 use Rattle.geometry.specs.Meaning.Zero.{zero-aabb}
 use Rattle.slots.specs.declared.Handle.{Handle}
-use Rattle.slots.specs.Meaning.Slot.{good}
+use Rattle.slots.specs.Meaning.Slot.{handleTest}
 use Rattle.storage.specs.Meaning.Keyed.{written}
 use Rattle.slot_walks.specs.Meaning.Live.{handlesIn}
 use Rattle.box_tables.specs.Meaning.Tables.{Tables, aabbOn, objOn}
@@ -22,7 +22,7 @@ got a b d = record { answer = a; aabb = b; obj = d }
 
 -- ---- get
 abbrev pub getTests : Tables → Handle → List Refusal
-getTests t h = unless (holds t) 3 ∷ unless (good (t .nums) (h .slot) (h .version)) 5 ∷ []
+getTests t h = unless (holds t) 3 ∷ handleTest (t .nums) h ∷ []
 
 unfoldable pub getOf : Tables → Handle → Got
 getOf t h = byTests (getTests t h) (got 0 (aabbOn t (h .slot)) (objOn t (h .slot))) (λ a. got a zero-aabb 0)
