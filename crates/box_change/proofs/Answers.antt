@@ -2,14 +2,17 @@
 use Prim.Native.Nat.{ℕ, _+_, _<_, _≤_}
 use mathlib.Core.Path.{_≡_, refl, sym, _∙_, ap}
 use mathlib.Core.Bool.{Bool, true, false}
+use mathlib.Core.List.{List, [], _∷_}
 use native.Mathlib.Omega.{arith}
 use lib.Dec.{T}
 use lib.ListN.{length}
 use borrow.Author.Tests.{ne-eqb, le-leb, lt-leb}
 use Rattle.basics.proofs.laws.Says.{says-t}
+use Rattle.basics.specs.Meaning.Refusals.{Refusal, unless, orElse, firstOf}
 use Rattle.geometry.specs.Meaning.Domain.{aabbInDomain}
 use Rattle.geometry.specs.declared.Aabb.{Aabb}
 use Rattle.slots.specs.declared.Handle.{Handle}
+use Rattle.slots.specs.Meaning.Slot.{handleTest, handleRefusal}
 use Rattle.box_tables.specs.Meaning.Tables.{Tables, sizeOf, usedOf, aabbOn, covers}
 use Rattle.box_tables.specs.Meaning.Holds.{Holds}
 use Rattle.box_tables.specs.Meaning.Decide.{holds, holds-says}
@@ -31,6 +34,14 @@ refuses t h b k c e l q = record { answers = e ∙ q; spans = λ z. absurd (omeg
 pub cells-are : {p q : Span} → p ≡ q → p .cells ≡ q .cells
 cells-are e = ap (λ (x : Span). x .cells) e
 
+-- a test that does not pass gives the answer, whatever comes after it
+first-lost : (r : Refusal) (rs : List Refusal) → (firstOf (r ∷ []) ≡ 0 → ⊥) → firstOf (r ∷ rs) ≡ firstOf (r ∷ [])
+first-lost r rs = go (r .passes)
+  where
+    go : (b : Bool) → (orElse b (r .number) 0 ≡ 0 → ⊥) → orElse b (r .number) (firstOf rs) ≡ orElse b (r .number) 0
+    go true n = absurd (n refl)
+    go false n = refl
+
 module _ (t : Tables) (h : Handle) (b : Aabb) (held : Bool) (eh : held ≡ holds t) where
   by-five : answerBy held (aabbInDomain b) (isGood t h) (fewCells (sizeOf t) b) (hasRoomFor t (h .slot) b) ≡ setAabbAnswer t h b
   unfolding setAabbAnswer
@@ -48,8 +59,11 @@ module _ (t : Tables) (h : Handle) (b : Aabb) (held : Bool) (eh : held ≡ holds
     answer-6 i = rw (e, i) at by-five
 
     module _ (i : aabbInDomain b ≡ true) where
-      pub answer-5 : isGood t h ≡ false → 5 ≡ setAabbAnswer t h b
-      answer-5 g = rw (e, i, g) at by-five
+      pub answer-lost : (a : ℕ) → a ≡ handleRefusal (t .nums) h → (a ≡ 0 → ⊥) → a ≡ setAabbAnswer t h b
+      answer-lost a q n =
+          q
+          ∙ sym (first-lost (handleTest (t .nums) h) (unless (fewCells (sizeOf t) b) 7 ∷ unless (hasRoomFor t (h .slot) b) 8 ∷ []) (λ z. n (q ∙ z)))
+          ∙ (rw (e, i) at by-five)
 
       module _ (g : isGood t h ≡ true) (n : ℕ) (en : n ≡ covers (sizeOf t) b) where
         object : Names t h

@@ -7,10 +7,11 @@ use native.Mathlib.Omega.{arith}
 use lib.Dec.{eqb}
 use lib.ListN.{length, take}
 use borrow.Author.Tests.{ne-eqb}
-use Rattle.basics.specs.Meaning.Refusals.{unless, firstOf, orElse}
+use Rattle.basics.specs.Meaning.Refusals.{unless, firstOf}
 use Rattle.cells.specs.Inner.Numbers.{Near}
 use Rattle.slots.specs.declared.Handle.{Handle}
-use Rattle.slots.specs.Meaning.Slot.{good, emptiedNums, emptiedMap}
+use Rattle.slots.specs.Meaning.Slot.{handleTest, handleRefusal, emptiedNums, emptiedMap}
+use Rattle.slots.proofs.laws.HandleLaws.{not-refused}
 use Rattle.storage.specs.Inner.Keyed.{Sorted}
 use Rattle.storage.specs.Meaning.Keyed.{written}
 use Rattle.storage.specs.Meaning.Entries.{rowKey}
@@ -44,32 +45,20 @@ module _ (t : Tables) (s : ℕ) (o : Object t s) (u : ℕ) (eu : u ≡ usedOf t)
       let rows-are : left (p .low) (p .high) i (take u (t .pool)) ≡ entriesWithout t s = rw (eu, ei, ep) in
       rw (e4, e2, e3, e1 .0, e1 .1, rows-are)
 
--- ---- the answer by its two tests
-module _ (x y : Bool) where
-  pub answer-3 : x ≡ false → 3 ≡ orElse x 3 (orElse y 5 0)
-  answer-3 e = rw e
-
-  pub answer-5 : x ≡ true → y ≡ false → 5 ≡ orElse x 3 (orElse y 5 0)
-  answer-5 e f = rw (e, f)
-
-  pub answer-0 : x ≡ true → y ≡ true → 0 ≡ orElse x 3 (orElse y 5 0)
-  answer-0 e f = rw (e, f)
-
 -- ---- the outcome by the answer
-module _ (t : Tables) (h : Handle) (held : Bool) (eh : held ≡ holds t) (a : ℕ) (ea : a ≡ firstOf (unless held 3 ∷ unless (good (t .nums) (h .slot) (h .version)) 5 ∷ [])) where
+module _ (t : Tables) (h : Handle) (held : Bool) (eh : held ≡ holds t) (a : ℕ) (ea : a ≡ firstOf (unless held 3 ∷ handleTest (t .nums) h ∷ [])) where
   answer-is : a ≡ removeAnswer t h
   unfolding removeAnswer
   answer-is = rw (ea, eh)
 
-  both : (x y : Bool) → orElse x 3 (orElse y 5 0) ≡ 0 → (x ≡ true) × (y ≡ true)
-  both true true e = (refl, refl)
-  both true false e = absurd (omega arith)
-  both false y e = absurd (omega arith)
+  both : (b : Bool) → firstOf (unless b 3 ∷ handleTest (t .nums) h ∷ []) ≡ 0 → (b ≡ true) × (handleRefusal (t .nums) h ≡ 0)
+  both true e = (refl, e)
+  both false e = absurd (omega arith)
 
   pub object : (w : ℕ) → w ≡ h .slot → a ≡ 0 → Object t w
   object w ew z =
-      let k = both held (good (t .nums) (h .slot) (h .version)) (sym ea ∙ z) in
-      let n = names t h (k .1) in
+      let k = both held (sym ea ∙ z) in
+      let n = names t h (not-refused (t .nums) h (k .1)) in
       rw ew (record { held = holds-says t .yes (sym eh ∙ k .0); inside = n .inside; occupied = n .occupied })
 
   pub refused : (a ≡ 0 → ⊥) → outcome (reply a 0) t ≡ removeOf t h

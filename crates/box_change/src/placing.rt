@@ -49,8 +49,9 @@ fn judge(
     if !geometry::aabb_in_domain(b) {
         return refusal(6);
     }
-    if !slots::is_good(nums, h) {
-        return refusal(5);
+    let why = slots::refusal_of(nums, h);
+    if why != 0 {
+        return refusal(why);
     }
     let new = box_tables::span_of(map[0], b);
     let n = new.cells;

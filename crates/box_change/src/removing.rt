@@ -5,7 +5,7 @@ ghost use Prim.Native.Nat.{_+_, _/_, _<_};
 ghost use lib.ListN.{length};
 ghost use Rattle.basics.specs.Meaning.Lent.{was, is};
 ghost use Rattle.basics.specs.Meaning.Refusals.{unless, firstOf};
-ghost use Rattle.slots.specs.Meaning.Slot.{good, emptiedNums, emptiedMap};
+ghost use Rattle.slots.specs.Meaning.Slot.{handleTest, emptiedNums, emptiedMap};
 ghost use Rattle.box_tables.specs.Meaning.Tables.{counting, objOn};
 ghost use Rattle.box_tables.specs.Meaning.Lent.{after, before, lent};
 ghost use Rattle.box_tables.specs.Meaning.Outcome.{outcome};
@@ -17,15 +17,12 @@ use slots::Row;
 
 // The answer: the first refusal that applies, or 0.
 fn answer(nums: &[Row], held: bool, h: Handle) -> u32
-    ensures { λ r. ⌜ r ≡ firstOf (unless held 3 ∷ unless (good (was nums) (h .slot) (h .version)) 5 ∷ []) ⌝ }
+    ensures { λ r. ⌜ r ≡ firstOf (unless held 3 ∷ handleTest (was nums) h ∷ []) ⌝ }
 {
     if !held {
         return 3;
     }
-    if !slots::is_good(nums, h) {
-        return 5;
-    }
-    0
+    slots::refusal_of(nums, h)
 }
 
 // Slot s is emptied, and the head word of the map has the count.

@@ -5,7 +5,7 @@ use lib.ListN.{length}
 use Rattle.basics.specs.Meaning.Refusals.{Refusal, unless, firstOf, byTests}
 use Rattle.geometry.specs.declared.Aabb.{Aabb}
 use Rattle.slots.specs.declared.Handle.{Handle}
-use Rattle.slots.specs.Meaning.Slot.{good, emptiedNums, emptiedMap}
+use Rattle.slots.specs.Meaning.Slot.{handleTest, emptiedNums, emptiedMap}
 use Rattle.storage.specs.Meaning.Keyed.{written}
 use Rattle.box_cover.specs.Meaning.Coverage.{left}
 use Rattle.box_tables.specs.Meaning.Tables.{Tables, tables, sizeOf, counting, entriesIn, aabbOn, objOn, lowCell, highCell, itemFor}
@@ -29,7 +29,7 @@ takenOut t s =
     (written (entriesWithout t s) (t .pool))
 
 abbrev pub removeTests : Tables → Handle → List Refusal
-removeTests t h = unless (holds t) 3 ∷ unless (good (t .nums) (h .slot) (h .version)) 5 ∷ []
+removeTests t h = unless (holds t) 3 ∷ handleTest (t .nums) h ∷ []
 
 unfoldable pub removeAnswer : Tables → Handle → ℕ
 removeAnswer t h = firstOf (removeTests t h)

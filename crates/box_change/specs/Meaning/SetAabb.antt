@@ -13,7 +13,7 @@ use Rattle.geometry.specs.Meaning.Domain.{aabbInDomain}
 use Rattle.geometry.specs.declared.Aabb.{Aabb}
 use Rattle.cells.specs.declared.Cell.{Cell}
 use Rattle.slots.specs.declared.Handle.{Handle}
-use Rattle.slots.specs.Meaning.Slot.{good}
+use Rattle.slots.specs.Meaning.Slot.{handleTest}
 use Rattle.storage.specs.Meaning.Keyed.{written}
 use Rattle.box_tables.specs.Meaning.Tables.{Tables, tables, sizeOf, usedOf, counting, aabbOn, lowCell, highCell, covers, cornersOf}
 use Rattle.box_tables.specs.Meaning.Decide.{holds}
@@ -61,7 +61,7 @@ abbrev pub setAabbTests : Tables → Handle → Aabb → List Refusal
 setAabbTests t h b =
     unless (holds t) 3
     ∷ unless (aabbInDomain b) 6
-    ∷ unless (good (t .nums) (h .slot) (h .version)) 5
+    ∷ handleTest (t .nums) h
     ∷ unless (fewCells (sizeOf t) b) 7
     ∷ unless (hasRoomFor t (h .slot) b) 8
     ∷ []

@@ -1,5 +1,6 @@
 -- `box_change::placing::judge` meets its contract. Assumes nothing.
-use mathlib.Core.Path.{sym, ap, subst, _∙_}
+use mathlib.Core.Path.{_≡_, sym, ap, subst, _∙_}
+use mathlib.Core.Bool.{true}
 use native.Mathlib.Omega.{arith}
 use lib.Dec.{T}
 use borrow.Author.Tests.{not-true, not-false}
@@ -7,9 +8,11 @@ use borrow.Author.Needs.{needs}
 use Rattle.basics.proofs.laws.Says.{says-t}
 use Rattle.geometry.specs.declared.Aabb.{Aabb}
 use Rattle.geometry.specs.Meaning.Domain.{aabbInDomain}
+use Rattle.slots.proofs.laws.HandleLaws.{not-refused}
 use Rattle.box_tables.specs.Meaning.Tables.{Tables, tables, sizeOf, aabbAt}
 use Rattle.box_tables.specs.Inner.Way.{spanOf}
-use Rattle.box_change.proofs.Answers.{holding, answer-3, answer-6, answer-5, slot-inside, old-inside, answer-7, used-small, room-small, answer-8, answer-0, refuses, cells-are}
+use Rattle.box_change.proofs.laws.RemoveLaws.{isGood}
+use Rattle.box_change.proofs.Answers.{holding, answer-3, answer-6, answer-lost, slot-inside, old-inside, answer-7, used-small, room-small, answer-8, answer-0, refuses, cells-are}
 use Rattle.box_change.proofs.placing.judge.Statement.{statement}
 use Rattle.box_change.proofs.placing.judge.Tie as tie
 
@@ -20,6 +23,12 @@ at-entry c = tables (c .args .nums .now) (c .args .reals .now) (c .args .map .no
 -- the check, and what came before it
 abbrev start : tie.After-check → tie.Start
 start k = k .before .before
+
+-- a handle that is not refused is good
+is-good : (c : tie.Else3) → let s = start (c .before .before .before .before .before) in isGood (at-entry s) (s .args .h) ≡ true
+is-good c =
+    let s = start (c .before .before .before .before .before) in
+    not-refused (s .args .nums .now) (s .args .h) (sym (c .before .refusal-of .ensures) ∙ c .if3 .left)
 
 returns : tie.Need-returns
 returns c =
@@ -48,8 +57,8 @@ returns-3 c =
     let i1 = d .before in
     let k = i1 .before in
     let s = start k in
-    refuses (at-entry s) (s .args .h) (s .args .b) 5 (c .refusal3 .result) (c .refusal3 .ensures) (omega arith)
-    (answer-5 (at-entry s) (s .args .h) (s .args .b) (k .check .result) (k .check .ensures) (not-false _ (i1 .if1 .left)) (sym (d .aabb-in-domain .ensures) ∙ not-false _ (i2 .if2 .left)) (sym (g .is-good .ensures) ∙ not-true _ (e .if3 .taken)))
+    refuses (at-entry s) (s .args .h) (s .args .b) (g .refusal-of .result) (c .refusal3 .result) (c .refusal3 .ensures) (omega (arith, e .if3 .taken))
+    (answer-lost (at-entry s) (s .args .h) (s .args .b) (k .check .result) (k .check .ensures) (not-false _ (i1 .if1 .left)) (sym (d .aabb-in-domain .ensures) ∙ not-false _ (i2 .if2 .left)) (g .refusal-of .result) (g .refusal-of .ensures) (e .if3 .taken))
 
 shared-slice-read-span-of : tie.Need-shared-slice-read-span-of
 shared-slice-read-span-of c =
@@ -79,7 +88,7 @@ returns-4 c =
     let k = i1 .before in
     let s = start k in
     refuses (at-entry s) (s .args .h) (s .args .b) 7 (c .refusal4 .result) (c .refusal4 .ensures) (omega arith)
-    (answer-7 (at-entry s) (s .args .h) (s .args .b) (k .check .result) (k .check .ensures) (not-false _ (i1 .if1 .left)) (sym (d .aabb-in-domain .ensures) ∙ not-false _ (i2 .if2 .left)) (sym (g .is-good .ensures) ∙ not-false _ (i3 .if3 .left)) (v .span-of .result .cells) (cells-are (v .span-of .ensures)) (e .if4 .taken))
+    (answer-7 (at-entry s) (s .args .h) (s .args .b) (k .check .result) (k .check .ensures) (not-false _ (i1 .if1 .left)) (sym (d .aabb-in-domain .ensures) ∙ not-false _ (i2 .if2 .left)) (is-good i3) (v .span-of .result .cells) (cells-are (v .span-of .ensures)) (e .if4 .taken))
 
 load-box-requires : tie.Need-load-box-requires
 load-box-requires c κs =
@@ -91,7 +100,7 @@ load-box-requires c κs =
     let i1 = d .before in
     let k = i1 .before in
     let s = start k in
-    omega (arith, c .wide .ensures, slot-inside (at-entry s) (s .args .h) (s .args .b) (k .check .result) (k .check .ensures) (not-false _ (i1 .if1 .left)) (sym (d .aabb-in-domain .ensures) ∙ not-false _ (i2 .if2 .left)) (sym (g .is-good .ensures) ∙ not-false _ (i3 .if3 .left)) (v .span-of .result .cells) (cells-are (v .span-of .ensures)))
+    omega (arith, c .wide .ensures, slot-inside (at-entry s) (s .args .h) (s .args .b) (k .check .result) (k .check .ensures) (not-false _ (i1 .if1 .left)) (sym (d .aabb-in-domain .ensures) ∙ not-false _ (i2 .if2 .left)) (is-good i3) (v .span-of .result .cells) (cells-are (v .span-of .ensures)))
 
 shared-slice-read-span-of-2 : tie.Need-shared-slice-read-span-of-2
 shared-slice-read-span-of-2 c =
@@ -112,7 +121,7 @@ span-of-requires-2 c κs =
     let i1 = d .before in
     let k = i1 .before in
     let s = start k in
-    (holding (at-entry s) (s .args .h) (s .args .b) (k .check .result) (k .check .ensures) (not-false _ (i1 .if1 .left)) .counted .size, subst (λ (x : Aabb). T (aabbInDomain x)) (sym (l .load-box .ensures ∙ ap (aabbAt (s .args .reals .now)) (w .wide .ensures))) (old-inside (at-entry s) (s .args .h) (s .args .b) (k .check .result) (k .check .ensures) (not-false _ (i1 .if1 .left)) (sym (d .aabb-in-domain .ensures) ∙ not-false _ (i2 .if2 .left)) (sym (g .is-good .ensures) ∙ not-false _ (i3 .if3 .left)) (v .span-of .result .cells) (cells-are (v .span-of .ensures))))
+    (holding (at-entry s) (s .args .h) (s .args .b) (k .check .result) (k .check .ensures) (not-false _ (i1 .if1 .left)) .counted .size, subst (λ (x : Aabb). T (aabbInDomain x)) (sym (l .load-box .ensures ∙ ap (aabbAt (s .args .reals .now)) (w .wide .ensures))) (old-inside (at-entry s) (s .args .h) (s .args .b) (k .check .result) (k .check .ensures) (not-false _ (i1 .if1 .left)) (sym (d .aabb-in-domain .ensures) ∙ not-false _ (i2 .if2 .left)) (is-good i3) (v .span-of .result .cells) (cells-are (v .span-of .ensures))))
 
 shared-slice-read-if5 : tie.Need-shared-slice-read-if5
 shared-slice-read-if5 c =
@@ -135,7 +144,7 @@ add-if5 c =
     let i1 = d .before in
     let k = i1 .before in
     let s = start k in
-    omega (arith, used-small (at-entry s) (s .args .h) (s .args .b) (k .check .result) (k .check .ensures) (not-false _ (i1 .if1 .left)) (sym (d .aabb-in-domain .ensures) ∙ not-false _ (i2 .if2 .left)) (sym (g .is-good .ensures) ∙ not-false _ (i3 .if3 .left)) (v .span-of .result .cells) (cells-are (v .span-of .ensures)) (i4 .if4 .left) (o .span-of2 .result .cells) (cells-are (o .span-of2 .ensures ∙ ap (spanOf (sizeOf (at-entry s))) (l .load-box .ensures ∙ ap (aabbAt (s .args .reals .now)) (w .wide .ensures)))))
+    omega (arith, used-small (at-entry s) (s .args .h) (s .args .b) (k .check .result) (k .check .ensures) (not-false _ (i1 .if1 .left)) (sym (d .aabb-in-domain .ensures) ∙ not-false _ (i2 .if2 .left)) (is-good i3) (v .span-of .result .cells) (cells-are (v .span-of .ensures)) (i4 .if4 .left) (o .span-of2 .result .cells) (cells-are (o .span-of2 .ensures ∙ ap (spanOf (sizeOf (at-entry s))) (l .load-box .ensures ∙ ap (aabbAt (s .args .reals .now)) (w .wide .ensures)))))
 
 add-if5-2 : tie.Need-add-if5-2
 add-if5-2 c =
@@ -151,7 +160,7 @@ add-if5-2 c =
     let i1 = d .before in
     let k = i1 .before in
     let s = start k in
-    omega (arith, c .word-of .ensures, room-small (at-entry s) (s .args .h) (s .args .b) (k .check .result) (k .check .ensures) (not-false _ (i1 .if1 .left)) (sym (d .aabb-in-domain .ensures) ∙ not-false _ (i2 .if2 .left)) (sym (g .is-good .ensures) ∙ not-false _ (i3 .if3 .left)) (v .span-of .result .cells) (cells-are (v .span-of .ensures)) (i4 .if4 .left) (o .span-of2 .result .cells) (cells-are (o .span-of2 .ensures ∙ ap (spanOf (sizeOf (at-entry s))) (l .load-box .ensures ∙ ap (aabbAt (s .args .reals .now)) (w .wide .ensures)))))
+    omega (arith, c .word-of .ensures, room-small (at-entry s) (s .args .h) (s .args .b) (k .check .result) (k .check .ensures) (not-false _ (i1 .if1 .left)) (sym (d .aabb-in-domain .ensures) ∙ not-false _ (i2 .if2 .left)) (is-good i3) (v .span-of .result .cells) (cells-are (v .span-of .ensures)) (i4 .if4 .left) (o .span-of2 .result .cells) (cells-are (o .span-of2 .ensures ∙ ap (spanOf (sizeOf (at-entry s))) (l .load-box .ensures ∙ ap (aabbAt (s .args .reals .now)) (w .wide .ensures)))))
 
 returns-5 : tie.Need-returns-5
 returns-5 c =
@@ -170,7 +179,7 @@ returns-5 c =
     let k = i1 .before in
     let s = start k in
     refuses (at-entry s) (s .args .h) (s .args .b) 8 (c .refusal5 .result) (c .refusal5 .ensures) (omega arith)
-    (answer-8 (at-entry s) (s .args .h) (s .args .b) (k .check .result) (k .check .ensures) (not-false _ (i1 .if1 .left)) (sym (d .aabb-in-domain .ensures) ∙ not-false _ (i2 .if2 .left)) (sym (g .is-good .ensures) ∙ not-false _ (i3 .if3 .left)) (v .span-of .result .cells) (cells-are (v .span-of .ensures)) (i4 .if4 .left) (o .span-of2 .result .cells) (cells-are (o .span-of2 .ensures ∙ ap (spanOf (sizeOf (at-entry s))) (l .load-box .ensures ∙ ap (aabbAt (s .args .reals .now)) (w .wide .ensures)))) (omega (arith, z .word-of .ensures, e .if5 .taken)))
+    (answer-8 (at-entry s) (s .args .h) (s .args .b) (k .check .result) (k .check .ensures) (not-false _ (i1 .if1 .left)) (sym (d .aabb-in-domain .ensures) ∙ not-false _ (i2 .if2 .left)) (is-good i3) (v .span-of .result .cells) (cells-are (v .span-of .ensures)) (i4 .if4 .left) (o .span-of2 .result .cells) (cells-are (o .span-of2 .ensures ∙ ap (spanOf (sizeOf (at-entry s))) (l .load-box .ensures ∙ ap (aabbAt (s .args .reals .now)) (w .wide .ensures)))) (omega (arith, z .word-of .ensures, e .if5 .taken)))
 
 returns-6 : tie.Need-returns-6
 returns-6 c =
@@ -189,7 +198,7 @@ returns-6 c =
     let s = start k in
     record {
       answers =
-          answer-0 (at-entry s) (s .args .h) (s .args .b) (k .check .result) (k .check .ensures) (not-false _ (i1 .if1 .left)) (sym (d .aabb-in-domain .ensures) ∙ not-false _ (i2 .if2 .left)) (sym (g .is-good .ensures) ∙ not-false _ (i3 .if3 .left)) (v .span-of .result .cells) (cells-are (v .span-of .ensures)) (i4 .if4 .left) (o .span-of2 .result .cells) (cells-are (o .span-of2 .ensures ∙ ap (spanOf (sizeOf (at-entry s))) (l .load-box .ensures ∙ ap (aabbAt (s .args .reals .now)) (w .wide .ensures)))) (omega (arith, z .word-of .ensures, c .if5 .left));
+          answer-0 (at-entry s) (s .args .h) (s .args .b) (k .check .result) (k .check .ensures) (not-false _ (i1 .if1 .left)) (sym (d .aabb-in-domain .ensures) ∙ not-false _ (i2 .if2 .left)) (is-good i3) (v .span-of .result .cells) (cells-are (v .span-of .ensures)) (i4 .if4 .left) (o .span-of2 .result .cells) (cells-are (o .span-of2 .ensures ∙ ap (spanOf (sizeOf (at-entry s))) (l .load-box .ensures ∙ ap (aabbAt (s .args .reals .now)) (w .wide .ensures)))) (omega (arith, z .word-of .ensures, c .if5 .left));
       spans = λ e. (o .span-of2 .ensures ∙ ap (spanOf (sizeOf (at-entry s))) (l .load-box .ensures ∙ ap (aabbAt (s .args .reals .now)) (w .wide .ensures)), v .span-of .ensures);
     }
 

@@ -1,31 +1,14 @@
 -- `box_change::removing::answer` meets its contract. Assumes nothing.
-use mathlib.Core.Path.{sym, _∙_}
-use mathlib.Core.Bool.{Bool}
-use borrow.Author.Tests.{not-true, not-false}
 use borrow.Author.Needs.{needs}
-use Rattle.slots.specs.Meaning.Slot.{good}
-use Rattle.box_change.proofs.Taken.{answer-3, answer-5, answer-0}
+use borrow.Author.Tests.{not-true, not-false}
 use Rattle.box_change.proofs.removing.answer.Statement.{statement}
 use Rattle.box_change.proofs.removing.answer.Tie as tie
 
--- whether the handle is good
-abbrev test : tie.Start → Bool
-test s = good (s .args .nums .now) (s .args .h .slot) (s .args .h .version)
-
 returns : tie.Need-returns
-returns c = let s = c .before in answer-3 (s .args .held) (test s) (not-true _ (c .if1 .taken))
+returns c = rw (not-true (c .before .args .held) (c .if1 .taken))
 
 returns-2 : tie.Need-returns-2
-returns-2 c =
-    let g = c .before in
-    let s = g .before .before in
-    answer-5 (s .args .held) (test s) (not-false _ (g .before .if1 .left)) (sym (g .is-good .ensures) ∙ not-true _ (c .if2 .taken))
-
-returns-3 : tie.Need-returns-3
-returns-3 c =
-    let g = c .before in
-    let s = g .before .before in
-    answer-0 (s .args .held) (test s) (not-false _ (g .before .if1 .left)) (sym (g .is-good .ensures) ∙ not-false _ (c .if2 .left))
+returns-2 c = rw (not-false (c .before .before .args .held) (c .before .if1 .left)) (c .refusal-of .ensures)
 
 pub answer-spec : {M : Type 1} → statement M
-answer-spec = tie.close (tie.spec returns (λ c κs. search needs) returns-2 returns-3)
+answer-spec = tie.close (tie.spec returns (λ c κs. search needs) returns-2)
