@@ -7,7 +7,7 @@ use Rattle.geometry.specs.Meaning.Domain.{positionInDomain}
 use Rattle.geometry.specs.declared.Position.{Position}
 use Rattle.cells.specs.Meaning.Key.{keyOf}
 use Rattle.slots.specs.declared.Handle.{Handle}
-use Rattle.slots.specs.Meaning.Slot.{good}
+use Rattle.slots.specs.Meaning.Slot.{handleTest}
 use Rattle.storage.specs.Meaning.Keyed.{written}
 use Rattle.storage.specs.Meaning.CellTable.{marked}
 use Rattle.point_records.specs.declared.State.{State}
@@ -27,7 +27,7 @@ pended t s state = stored t s (withState (recordOn t s) state) (written (marked 
 abbrev pub setHeldTests : List (List ℕ) → State → Handle → Position → List Refusal
 setHeldTests nums state h at =
     unless (positionInDomain at) 6
-    ∷ unless (good nums (h .slot) (h .version)) 5
+    ∷ handleTest nums h
     ∷ unless (not (isRemoved state)) 1
     ∷ []
 
@@ -46,7 +46,7 @@ setPositionOf t h at =
 
 -- ---- remove: marks and returns the data; a second one before maintain returns it again
 abbrev pub removeHeldTests : List (List ℕ) → Handle → List Refusal
-removeHeldTests nums h = unless (good nums (h .slot) (h .version)) 5 ∷ []
+removeHeldTests nums h = handleTest nums h ∷ []
 
 abbrev pub removeTests : Tables → Handle → List Refusal
 removeTests t h = unless (holds t) 3 ∷ removeHeldTests (t .nums) h
