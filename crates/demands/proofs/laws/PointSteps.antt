@@ -26,7 +26,7 @@ use Rattle.point_get.specs.Meaning.{got, listing, liveHandles, getOf, lenOf, ha
 use Rattle.geometry.specs.Meaning.Zero.{zero-position}
 use Rattle.point_query.specs.declared.Test.{Test}
 use Rattle.point_query.specs.declared.Test.the-variants.{Any, Circle, Rectangle}
-use Rattle.point_query.specs.Meaning.Queries.{findings, found, roomOf, searchTests, searchOf, queryOf, aroundOf, aabbOf}
+use Rattle.point_query.specs.Meaning.Queries.{found, outputs as columns, room, findings, searchTests, searchOf, queryOf, aroundOf, aabbOf}
 use Rattle.geometry.specs.Meaning.Circle.{cornerBelow, cornerAbove}
 use Rattle.demands.proofs.laws.Tested.{Tested, tested, no-nine, at-nine}
 use Rattle.demands.specs.Meaning.Left.{outputs, none, refused}
@@ -44,7 +44,7 @@ module _ (t : Tables) (ok : Bool) (ll ur : Position) (test : Test) (hs : List (L
   abbrev refusal : ℕ → Leaves
   refusal = refused zero-position finds t (outputs hs ps [])
 
-  search : Tested (searchTests t ok ll ur test (roomOf hs ps)) refusal (ofFindings t (searchOf t ok ll ur test hs ps))
+  search : Tested (searchTests t ok ll ur test (room (columns hs ps))) refusal (ofFindings t (searchOf t ok ll ur test hs ps))
   unfolding searchOf
   search = tested (ofFindings t) _ (λ a. findings (count a (pick (eqb a 9) finds 0)) hs ps) refl (at-nine zero-position t (outputs hs ps []) finds) _ refl
 

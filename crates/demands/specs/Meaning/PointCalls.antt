@@ -94,7 +94,7 @@ abbrev pub ofListing : Tables → Listing → Leaves
 ofListing t l = left (l .returned .answer) (theCount zero-position (l .returned .count)) t (outputs (l .out) [] [])
 
 abbrev pub ofFindings : Tables → Findings → Leaves
-ofFindings t f = left (f .returned .answer) (theCount zero-position (f .returned .count)) t (outputs (f .handles) (f .places) [])
+ofFindings t f = left (f .returned .answer) (theCount zero-position (f .returned .count)) t (outputs (f .outputs .handles) (f .outputs .places) [])
 
 unfoldable pub leaves : Tables → PointCall → Leaves
 leaves t (new size) = ofNumber (newOf t size)

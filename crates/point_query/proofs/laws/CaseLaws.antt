@@ -1,6 +1,6 @@
 -- What `query` makes of document 01's case at cell size 1, whatever the grid holds: a range of 4,096 cells is accepted, and one of 4,160
 -- gets answer 7. Assumes nothing.
-use Prim.Native.Nat.{ℕ, _≤_, min}
+use Prim.Native.Nat.{ℕ, _≤_}
 use mathlib.Core.Path.{_≡_, refl, sym, ap, _∙_}
 use mathlib.Core.Logic.{_⊎_, inl, inr}
 use mathlib.Core.Bool.{true}
@@ -19,7 +19,7 @@ use Rattle.storage.proofs.laws.FilterLaws.{by-test}
 use Rattle.point_tables.specs.Meaning.Tables.{Tables, sizeOf}
 use Rattle.point_tables.specs.Meaning.Decide.{holds}
 use Rattle.point_query.specs.declared.Test.the-variants.{Any}
-use Rattle.point_query.specs.Meaning.Queries.{Findings, findings, found, searchOf, queryOf}
+use Rattle.point_query.specs.Meaning.Queries.{found, outputs, room, Findings, findings, searchOf, queryOf}
 use Rattle.point_query.specs.Inner.Cases.{origin, square, wider}
 use Rattle.point_query.proofs.laws.FindLaws.{search-7, search-9, search-0}
 use Rattle.point_query.proofs.laws.CornerLaws.{query-is}
@@ -53,8 +53,8 @@ module _ (t : Tables) (h : holds t ≡ true) (one : sizeOf t ≡ 1) (handles : L
   abbrev number : ℕ
   number = length (found t origin square Any)
 
-  abbrev room : ℕ
-  room = min (length handles) (length places)
+  abbrev places-there : ℕ
+  places-there = room (outputs handles places)
 
   square-most : cellsTo (sizeOf t) square ≤ mostCells
   square-most = omega (arith, ap (λ (n : ℕ). cellsTo n square) one ∙ square-cells)
@@ -71,9 +71,9 @@ module _ (t : Tables) (h : holds t ≡ true) (one : sizeOf t ≡ 1) (handles : L
   -- neither 3, nor 6, nor 7: done, or an output is too short for what is found
   pub square-accepted : (queryOf t origin square handles places .returned .answer ≡ 0) ⊎ (queryOf t origin square handles places .returned .answer ≡ 9)
   square-accepted =
-      by-test (leb number room)
-      (λ q. inl (answered _ (search-0 t true origin square Any handles places h refl square-most (leb-true number room q))))
-      (λ q. inr (answered _ (search-9 t true origin square Any handles places h refl square-most (leb-false number room q))))
+      by-test (leb number places-there)
+      (λ q. inl (answered _ (search-0 t true origin square Any handles places h refl square-most (leb-true number places-there q))))
+      (λ q. inr (answered _ (search-9 t true origin square Any handles places h refl square-most (leb-false number places-there q))))
 
   pub query-too-wide : findings (count 7 0) handles places ≡ queryOf t origin wider handles places
   query-too-wide =

@@ -1,12 +1,12 @@
 -- What is written of the places that a search collected is what the search finds. Assumes nothing.
-use Prim.Native.Nat.{ℕ, _+_, _<_, _≤_, min}
+use Prim.Native.Nat.{ℕ, _+_, _<_, _≤_}
 use mathlib.Core.Path.{_≡_, sym, ap, _∙_, subst}
 use mathlib.Core.Bool.{Bool, true}
 use mathlib.Core.List.{List, map, map-map}
 use native.Mathlib.Omega.{arith}
 use lib.Dec.{leb}
 use lib.Ieee.{Float}
-use lib.ListN.{length, getD, take, drop, length-map, List·getD-append}
+use lib.ListN.{length, getD, drop, length-map, List·getD-append}
 use borrow.Author.Tests.{leb-true, leb-false, le-leb, lt-leb}
 use Rattle.basics.specs.Meaning.Limits.{mostCells}
 use Rattle.geometry.specs.declared.Position.{Position}
@@ -15,38 +15,43 @@ use Rattle.cells.specs.Meaning.CellRule.{cellAt}
 use Rattle.cells.specs.Inner.CellRule.{Reached}
 use Rattle.cells.specs.Meaning.Range.{cellsIn}
 use Rattle.storage.specs.Meaning.Keyed.{All, written}
+use Rattle.storage.specs.Meaning.Entries.{Entry}
 use Rattle.storage.proofs.laws.FilterLaws.{by-test, all-map, all-at}
 use Rattle.point_tables.specs.Meaning.Tables.{Tables, sizeOf, usedOf}
 use Rattle.point_tables.specs.Meaning.Holds.{Holds}
 use Rattle.point_tables.specs.Meaning.Decide.{holds, holds-says}
+use Rattle.point_query.specs.declared.Finding.{Finding}
 use Rattle.point_query.specs.declared.Test.{Test}
-use Rattle.point_query.specs.Meaning.Queries.{Findings, findings, handleRow, placeRow, found, searchOf}
+use Rattle.point_query.specs.Meaning.Queries.{found, findingOn, handleOf, placeOf, outputs, room, filling, Findings, findings, reportOf, searchOf}
 use Rattle.point_query.specs.Inner.Places.{wantedAt, placesOf}
 use Rattle.point_query.proofs.laws.PlacesLaws.{places-inside}
-use Rattle.point_query.specs.Inner.Fill.{handleAt, placeAt, filled, Stocked, Findable}
+use Rattle.point_query.specs.Inner.Fill.{findingAt, filled, Stocked, Findable}
 use Rattle.point_query.proofs.laws.FoundLaws.{in-pool, in-spots, rows-sorted, found-places}
 use Rattle.point_query.proofs.laws.FindLaws.{search-9, search-0}
 use Rattle.replies.specs.Meaning.Replies.{count}
 use Rattle.point_tables.specs.Inner.Entry.{entryAt}
 
 module _ (nums pool : List (List ℕ)) (spots : List (List Float)) (js : List ℕ) (handles : List (List ℕ)) (places : List (List Float)) where
-  pub filled-0 : length js ≤ min (length handles) (length places)
-      → findings (count 0 (length js)) (written (map (handleAt nums pool spots) js) handles) (written (map (placeAt nums pool spots) js) places) ≡ filled nums pool spots js handles places
+  filled-0 : length js ≤ room (outputs handles places) → reportOf (findingAt nums pool spots) js (outputs handles places) ≡ filled nums pool spots js handles places
   unfolding filled
-  filled-0 l = simp (le-leb (length js) (min (length handles) (length places)) l)
+  filled-0 l = simp (le-leb (length js) (room (outputs handles places)) l)
 
-  pub filled-9 : min (length handles) (length places) < length js → findings (count 9 (length js)) handles places ≡ filled nums pool spots js handles places
+  pub filled-9 : room (outputs handles places) < length js → findings (count 9 (length js)) handles places ≡ filled nums pool spots js handles places
   unfolding filled
-  filled-9 l = simp (lt-leb (length js) (min (length handles) (length places)) l)
+  filled-9 l = simp (lt-leb (length js) (room (outputs handles places)) l)
 
-  -- what was written of the first r places of an array
-  pub filled-put : (fs : List ℕ) (r : ℕ) (h : List (List ℕ)) (p : List (List Float)) → r ≡ length js → take r fs ≡ js
-      → h ≡ written (map (handleAt nums pool spots) (take r fs)) handles → p ≡ written (map (placeAt nums pool spots) (take r fs)) places
-      → r ≤ length handles → r ≤ length places → findings (count 0 r) h p ≡ filled nums pool spots js handles places
-  filled-put fs r h p er ef eh ep rh rp =
-      (λ z. findings (count 0 (er z)) (eh z) (ep z))
-      ∙ ap (λ (l : List ℕ). findings (count 0 (length js)) (written (map (handleAt nums pool spots) l) handles) (written (map (placeAt nums pool spots) l) places)) ef
-      ∙ filled-0 (omega arith)
+  -- what was written of the places
+  pub filled-put : (r : ℕ) (h : List (List ℕ)) (p : List (List Float)) → r ≡ length js → outputs h p ≡ filling (findingAt nums pool spots) js (outputs handles places)
+      → r ≤ room (outputs handles places) → findings (count 0 r) h p ≡ filled nums pool spots js handles places
+  filled-put r h p er eo l =
+      let e : findings (count 0 r) h p ≡ reportOf (findingAt nums pool spots) js (outputs handles places) = λ z. record { returned = count 0 (er z); outputs = eo z } in
+      e ∙ filled-0 (omega arith)
+
+-- what is reported of the images of a list
+reported-map : {A B : Type 0} (report : B → Finding) (g : A → B) (l : List A) (handles : List (List ℕ)) (places : List (List Float))
+    → reportOf report (map g l) (outputs handles places) ≡ reportOf (λ a. report (g a)) l (outputs handles places)
+reported-map report g l handles places =
+    λ z. findings (count 0 (length-map l g z)) (written (map-map (λ b. handleOf (report b)) g l z) handles) (written (map-map (λ b. placeOf (report b)) g l z) places)
 
 module _ (t : Tables) (h : Holds t) where
   pub stocked : Stocked (t .pool) (t .spots) (usedOf t)
@@ -79,24 +84,23 @@ module _ (t : Tables) (ok : Bool) (ll ur : Position) (test : Test) (handles : Li
     number-js : length (found t ll ur test) ≡ length js
     number-js = ap length found-js ∙ length-map js (entryAt (t .pool) (t .spots))
 
-    handles-js : map (handleRow t) (found t ll ur test) ≡ map (handleAt (t .nums) (t .pool) (t .spots)) js
-    handles-js = ap (map (handleRow t)) found-js ∙ map-map (handleRow t) (entryAt (t .pool) (t .spots)) js
-
-    places-js : map placeRow (found t ll ur test) ≡ map (placeAt (t .nums) (t .pool) (t .spots)) js
-    places-js = ap (map placeRow) found-js ∙ map-map placeRow (entryAt (t .pool) (t .spots)) js
+    reported-js : reportOf (findingOn t) (found t ll ur test) (outputs handles places) ≡ reportOf (findingAt (t .nums) (t .pool) (t .spots)) js (outputs handles places)
+    reported-js =
+        ap (λ (es : List Entry). reportOf (findingOn t) es (outputs handles places)) found-js
+        ∙ reported-map (findingOn t) (entryAt (t .pool) (t .spots)) js handles places
 
     search-filled : ok ≡ true → cellsIn (cellAt (sizeOf t) ll) (cellAt (sizeOf t) ur) ≤ mostCells
         → filled (t .nums) (t .pool) (t .spots) js handles places ≡ searchOf t ok ll ur test handles places
     search-filled g l =
-        let room = min (length handles) (length places) in
-        by-test (leb (length js) room)
+        let n = room (outputs handles places) in
+        by-test (leb (length js) n)
         (λ q.
-        let m = leb-true (length js) room q in
+        let m = leb-true (length js) n q in
         sym (filled-0 (t .nums) (t .pool) (t .spots) js handles places m)
-        ∙ sym (λ z. findings (count 0 (number-js z)) (written (handles-js z) handles) (written (places-js z) places))
+        ∙ sym reported-js
         ∙ search-0 t ok ll ur test handles places held g l (omega (arith, number-js, m)))
         (λ q.
-        let m = leb-false (length js) room q in
+        let m = leb-false (length js) n q in
         sym (filled-9 (t .nums) (t .pool) (t .spots) js handles places m)
         ∙ sym (ap (λ (n : ℕ). findings (count 9 n) handles places) number-js)
         ∙ search-9 t ok ll ur test handles places held g l (omega (arith, number-js, m)))

@@ -1,8 +1,8 @@
 -- The search, answer by answer. Assumes nothing.
-use Prim.Native.Nat.{ℕ, _<_, _≤_, min}
+use Prim.Native.Nat.{ℕ, _<_, _≤_}
 use mathlib.Core.Path.{_≡_}
 use mathlib.Core.Bool.{Bool, true, false}
-use mathlib.Core.List.{List, map}
+use mathlib.Core.List.{List}
 use lib.Ieee.{Float}
 use lib.ListN.{length}
 use borrow.Author.Tests.{le-leb, lt-leb}
@@ -10,11 +10,10 @@ use Rattle.basics.specs.Meaning.Limits.{mostCells}
 use Rattle.geometry.specs.declared.Position.{Position}
 use Rattle.cells.specs.Meaning.CellRule.{cellAt}
 use Rattle.cells.specs.Meaning.Range.{cellsIn}
-use Rattle.storage.specs.Meaning.Keyed.{written}
 use Rattle.point_tables.specs.Meaning.Tables.{Tables, sizeOf}
 use Rattle.point_tables.specs.Meaning.Decide.{holds}
 use Rattle.point_query.specs.declared.Test.{Test}
-use Rattle.point_query.specs.Meaning.Queries.{findings, handleRow, placeRow, found, searchAnswer, searchOf}
+use Rattle.point_query.specs.Meaning.Queries.{found, findingOn, outputs, room, findings, reportOf, searchAnswer, searchOf}
 use Rattle.replies.specs.Meaning.Replies.{count}
 
 module _ (t : Tables) (ok : Bool) (ll ur : Position) (test : Test) (handles : List (List ℕ)) (places : List (List Float)) where
@@ -24,8 +23,8 @@ module _ (t : Tables) (ok : Bool) (ll ur : Position) (test : Test) (handles : Li
   abbrev number : ℕ
   number = length (found t ll ur test)
 
-  abbrev room : ℕ
-  room = min (length handles) (length places)
+  abbrev places-there : ℕ
+  places-there = room (outputs handles places)
 
   pub search-3 : holds t ≡ false → findings (count 3 0) handles places ≡ searchOf t ok ll ur test handles places
   unfolding searchOf searchAnswer
@@ -39,11 +38,11 @@ module _ (t : Tables) (ok : Bool) (ll ur : Position) (test : Test) (handles : Li
   unfolding searchOf searchAnswer
   search-7 e f l = simp (e, f, lt-leb cellsOf mostCells l)
 
-  pub search-9 : holds t ≡ true → ok ≡ true → cellsOf ≤ mostCells → room < number → findings (count 9 number) handles places ≡ searchOf t ok ll ur test handles places
+  pub search-9 : holds t ≡ true → ok ≡ true → cellsOf ≤ mostCells → places-there < number → findings (count 9 number) handles places ≡ searchOf t ok ll ur test handles places
   unfolding searchOf searchAnswer
-  search-9 e f l m = simp (e, f, le-leb cellsOf mostCells l, lt-leb number room m)
+  search-9 e f l m = simp (e, f, le-leb cellsOf mostCells l, lt-leb number places-there m)
 
-  pub search-0 : holds t ≡ true → ok ≡ true → cellsOf ≤ mostCells → number ≤ room
-      → findings (count 0 number) (written (map (handleRow t) (found t ll ur test)) handles) (written (map placeRow (found t ll ur test)) places) ≡ searchOf t ok ll ur test handles places
+  pub search-0 : holds t ≡ true → ok ≡ true → cellsOf ≤ mostCells → number ≤ places-there
+      → reportOf (findingOn t) (found t ll ur test) (outputs handles places) ≡ searchOf t ok ll ur test handles places
   unfolding searchOf searchAnswer
-  search-0 e f l m = simp (e, f, le-leb cellsOf mostCells l, le-leb number room m)
+  search-0 e f l m = simp (e, f, le-leb cellsOf mostCells l, le-leb number places-there m)

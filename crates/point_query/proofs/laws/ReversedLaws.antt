@@ -3,7 +3,7 @@ use Prim.Native.Nat.{ℕ}
 use mathlib.Core.Path.{_≡_, refl, sym, ap, _∙_}
 use mathlib.Core.Logic.{_⊎_, ⊎-elim}
 use mathlib.Core.Bool.{true, false}
-use mathlib.Core.List.{List, [], map}
+use mathlib.Core.List.{List, []}
 use native.Mathlib.Omega.{arith}
 use lib.Signed.{leZ}
 use lib.Ieee.{Float}
@@ -13,13 +13,13 @@ use Rattle.cells.specs.declared.Cell.{Cell}
 use Rattle.cells.specs.Meaning.CellRule.{cellAt}
 use Rattle.cells.specs.Meaning.Range.{cellsIn, rangeCells}
 use Rattle.cells.proofs.laws.RangeLaws.{range-length, reversed-x, reversed-y}
-use Rattle.storage.specs.Meaning.Keyed.{filter, written}
+use Rattle.storage.specs.Meaning.Keyed.{filter}
 use Rattle.storage.specs.Meaning.Entries.{Entry, entryKey}
 use Rattle.storage.specs.Meaning.Walk.{listsOf, walked}
 use Rattle.point_tables.specs.Meaning.Tables.{Tables, sizeOf, entriesIn}
 use Rattle.point_tables.specs.Meaning.Decide.{holds}
 use Rattle.point_query.specs.declared.Test.{Test}
-use Rattle.point_query.specs.Meaning.Queries.{findings, passes, positionOf, handleRow, placeRow, found, searchOf}
+use Rattle.point_query.specs.Meaning.Queries.{passes, positionOf, found, findingOn, outputs, findings, reportOf, searchOf}
 use Rattle.point_query.proofs.laws.FindLaws.{search-0}
 use Rattle.replies.specs.Meaning.Replies.{count}
 
@@ -42,5 +42,5 @@ module _ (t : Tables) (ll ur : Position) (r : Reversed (cellAt (sizeOf t) ll) (c
   pub reversed-search : (handles : List (List ℕ)) (places : List (List Float)) → holds t ≡ true → findings (count 0 0) handles places ≡ searchOf t true ll ur test handles places
   reversed-search handles places h =
       let n = reversed-cells (cellAt (sizeOf t) ll) (cellAt (sizeOf t) ur) r in
-      ap (λ (es : List Entry). findings (count 0 (length es)) (written (map (handleRow t) es) handles) (written (map placeRow es) places)) (sym reversed-found)
+      ap (λ (es : List Entry). reportOf (findingOn t) es (outputs handles places)) (sym reversed-found)
       ∙ search-0 t true ll ur test handles places h refl (omega arith) (omega (arith, ap length reversed-found))

@@ -10,9 +10,9 @@ use Rattle.cells.specs.Inner.Numbers.{Near}
 use Rattle.storage.specs.Meaning.Keyed.{written}
 use Rattle.point_query.specs.declared.Part.{Part}
 use Rattle.point_query.specs.declared.Test.{Test}
-use Rattle.point_query.specs.Meaning.Queries.{Findings}
+use Rattle.point_query.specs.Meaning.Queries.{outputs, filling, Findings}
 use Rattle.point_query.specs.Inner.Places.{placesOf, stretchPlaces}
-use Rattle.point_query.specs.Inner.Fill.{handleAt, placeAt, filled, Stocked, Findable}
+use Rattle.point_query.specs.Inner.Fill.{findingAt, handleAt, placeAt, filled, Stocked, Findable}
 use Rattle.point_query.specs.Inner.Begun.{Begun}
 
 -- what a search asks for: sorted columns, corners near enough, and a slot for each entry in use
@@ -39,15 +39,12 @@ Reportable nums pool spots found r = (r ≤ length found) × (length nums ≤ mo
 
 -- the outputs after the findings of the places js are written, from place 0 on
 abbrev pub Reported : List (List ℕ) → List (List ℕ) → List (List Float) → List ℕ → List (List ℕ) → List (List Float) → List (List ℕ) → List (List Float) → Type 0
-Reported nums pool spots js handles places handles′ places′ =
-    (handles′ ≡ written (map (handleAt nums pool spots) js) handles) × (places′ ≡ written (map (placeAt nums pool spots) js) places)
+Reported nums pool spots js handles places handles′ places′ = outputs handles′ places′ ≡ filling (findingAt nums pool spots) js (outputs handles places)
 
 -- the same of all that a search is for, and r is their number
 abbrev pub SearchReported : Cell → Cell → Test → List (List ℕ) → List (List ℕ) → List (List Float) → ℕ → List (List ℕ) → List (List Float) → ℕ → List (List ℕ) → List (List Float) → Type 0
 SearchReported a b test nums pool spots used handles places r handles′ places′ =
-    (r ≡ length (placesOf a b test pool spots used))
-    × (handles′ ≡ written (map (handleAt nums pool spots) (placesOf a b test pool spots used)) handles)
-    × (places′ ≡ written (map (placeAt nums pool spots) (placesOf a b test pool spots used)) places)
+    (r ≡ length (placesOf a b test pool spots used)) × Reported nums pool spots (placesOf a b test pool spots used) handles places handles′ places′
 
 -- the places of a stretch that pass stand behind the first n; r is the place behind them
 abbrev pub StretchGathered : Test → List (List Float) → ℕ → ℕ → ℕ → List ℕ → ℕ → List ℕ → Type 0

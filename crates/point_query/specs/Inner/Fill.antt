@@ -1,33 +1,24 @@
 -- What a search writes of the places that it collected, and what it returns: 9 with the number found if an output is too short.
 -- Assumes nothing.
-use Prim.Native.Nat.{ℕ, _<_, _≤_, min}
-use mathlib.Core.List.{List, [], _∷_, map}
+use Prim.Native.Nat.{ℕ, _<_, _≤_}
+use mathlib.Core.List.{List}
 use lib.Dec.{leb}
 use lib.Ieee.{Float}
 use lib.ListN.{length, take}
 use Rattle.basics.specs.Meaning.Limits.{mostSlots}
 use Rattle.basics.specs.Meaning.Refusals.{pick}
-use Rattle.slots.specs.Meaning.Slot.{versionAt}
 use Rattle.storage.specs.Inner.Keyed.{Sorted}
-use Rattle.storage.specs.Meaning.Keyed.{written}
 use Rattle.storage.specs.Meaning.Entries.{rowKey}
 use Rattle.storage.specs.Meaning.Packed.{second}
 use Rattle.point_records.specs.declared.Entry.{Entry}
 use Rattle.point_records.specs.Inner.Listed.{listedAt}
 use Rattle.point_query.specs.declared.Finding.{Finding}
-use Rattle.point_query.specs.Meaning.Queries.{Findings, findings}
+use Rattle.point_query.specs.Meaning.Queries.{finding, handleOf, placeOf, outputs, room, Findings, findings, reportOf}
 use Rattle.replies.specs.Meaning.Replies.{count}
 
--- what is reported of an entry: the handle of its slot, and its position
+-- what is reported of an entry
 abbrev pub findingOf : List (List ℕ) → Entry → Finding
-findingOf nums e = record { handle = record { slot = e .slot; version = versionAt nums (e .slot) }; position = e .position }
-
--- the rows of a finding in the outputs: slot and version, and the position
-abbrev pub handleOf : Finding → List ℕ
-handleOf f = f .handle .slot ∷ f .handle .version ∷ []
-
-abbrev pub placeOf : Finding → List Float
-placeOf f = f .position .x ∷ f .position .y ∷ []
+findingOf nums e = finding nums (e .slot) (e .position)
 
 -- the same of the entry at a place
 abbrev pub findingAt : List (List ℕ) → List (List ℕ) → List (List Float) → ℕ → Finding
@@ -41,8 +32,8 @@ placeAt nums pool spots j = placeOf (findingAt nums pool spots j)
 
 unfoldable pub filled : List (List ℕ) → List (List ℕ) → List (List Float) → List ℕ → List (List ℕ) → List (List Float) → Findings
 filled nums pool spots js handles places =
-    pick (leb (length js) (min (length handles) (length places)))
-    (findings (count 0 (length js)) (written (map (handleAt nums pool spots) js) handles) (written (map (placeAt nums pool spots) js) places))
+    pick (leb (length js) (room (outputs handles places)))
+    (reportOf (findingAt nums pool spots) js (outputs handles places))
     (findings (count 9 (length js)) handles places)
 
 -- what a search asks of the columns: the first `used` rows of the pool are sorted, with a spot beside each

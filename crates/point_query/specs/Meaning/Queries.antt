@@ -16,11 +16,12 @@ use Rattle.cells.specs.Meaning.CellRule.{cellAt}
 use Rattle.cells.specs.Meaning.Range.{cellsIn}
 use Rattle.slots.specs.Meaning.Slot.{versionAt}
 use Rattle.storage.specs.Meaning.Keyed.{filter, written}
-use Rattle.storage.specs.Meaning.Entries.{Entry, rowItem, entryKey}
+use Rattle.storage.specs.Meaning.Entries.{Entry, entryKey}
 use Rattle.storage.specs.Meaning.Walk.{walked}
 use Rattle.point_records.specs.Meaning.Columns.{positionIn}
-use Rattle.point_tables.specs.Meaning.Tables.{Tables, sizeOf, entriesIn}
+use Rattle.point_tables.specs.Meaning.Tables.{Tables, sizeOf, entriesIn, slotOf}
 use Rattle.point_tables.specs.Meaning.Decide.{holds}
+use Rattle.point_query.specs.declared.Finding.{Finding}
 use Rattle.point_query.specs.declared.Test.{Test}
 use Rattle.point_query.specs.declared.Test.the-variants.{Any, Circle, Rectangle}
 use Rattle.replies.specs.declared.Count.{Count}
@@ -38,21 +39,48 @@ positionOf e = positionIn (e .spot)
 unfoldable pub found : Tables → Position → Position → Test → List Entry
 found t ll ur test = filter (λ e. passes test (positionOf e)) (walked entryKey (cellAt (sizeOf t) ll) (cellAt (sizeOf t) ur) (entriesIn t))
 
--- ---- a finding in the outputs: a row (slot, version) and a row (x, y)
-abbrev pub handleRow : Tables → Entry → List ℕ
-handleRow t e = rowItem (e .row) ∷ versionAt (t .nums) (rowItem (e .row)) ∷ []
+-- ---- a finding: the handle of a slot, and a position
+abbrev pub finding : List (List ℕ) → ℕ → Position → Finding
+finding nums s p = record { handle = record { slot = s; version = versionAt nums s }; position = p }
 
-abbrev pub placeRow : Entry → List Float
-placeRow e = positionOf e .x ∷ positionOf e .y ∷ []
+-- what is reported of an entry
+abbrev pub findingOn : Tables → Entry → Finding
+findingOn t e = finding (t .nums) (slotOf e) (positionOf e)
 
--- what a query returns, and its outputs after it
-pub record Findings : Type 0 where
-  pub returned : Count
+-- its rows: (slot, version) and (x, y)
+abbrev pub handleOf : Finding → List ℕ
+handleOf f = f .handle .slot ∷ f .handle .version ∷ []
+
+abbrev pub placeOf : Finding → List Float
+placeOf f = f .position .x ∷ f .position .y ∷ []
+
+-- ---- the outputs of a query: a column for each row of a finding
+pub record Outputs : Type 0 where
   pub handles : List (List ℕ)
   pub places : List (List Float)
 
+abbrev pub outputs : List (List ℕ) → List (List Float) → Outputs
+outputs h p = record { handles = h; places = p }
+
+-- the places that every column has
+abbrev pub room : Outputs → ℕ
+room o = min (length (o .handles)) (length (o .places))
+
+-- what is reported of each of a list, from place 0 of every column on
+abbrev pub filling : {A : Type 0} → (A → Finding) → List A → Outputs → Outputs
+filling report l o = outputs (written (map (λ a. handleOf (report a)) l) (o .handles)) (written (map (λ a. placeOf (report a)) l) (o .places))
+
+-- ---- what a query returns, and its outputs after it
+pub record Findings : Type 0 where
+  pub returned : Count
+  pub outputs : Outputs
+
 abbrev pub findings : Count → List (List ℕ) → List (List Float) → Findings
-findings c h p = record { returned = c; handles = h; places = p }
+findings c h p = record { returned = c; outputs = outputs h p }
+
+-- done: the number found, and the findings in the outputs
+abbrev pub reportOf : {A : Type 0} → (A → Finding) → List A → Outputs → Findings
+reportOf report l o = record { returned = count 0 (length l); outputs = filling report l o }
 
 -- ---- the search that the three queries are. `ok` says whether their numbers are in the domain
 abbrev pub searchTests : Tables → Bool → Position → Position → Test → ℕ → List Refusal
@@ -67,17 +95,13 @@ unfoldable pub searchAnswer : Tables → Bool → Position → Position → Test
 unfolding found
 searchAnswer t ok ll ur test room = firstOf (searchTests t ok ll ur test room)
 
--- the places that both outputs have
-abbrev pub roomOf : List (List ℕ) → List (List Float) → ℕ
-roomOf handles places = min (length handles) (length places)
-
 -- 9 returns the number found
 unfoldable pub searchOf : Tables → Bool → Position → Position → Test → List (List ℕ) → List (List Float) → Findings
 unfolding searchAnswer found
 searchOf t ok ll ur test handles places =
     let es = found t ll ur test in
-    byTests (searchTests t ok ll ur test (roomOf handles places))
-    (findings (count 0 (length es)) (written (map (handleRow t) es) handles) (written (map placeRow es) places))
+    byTests (searchTests t ok ll ur test (room (outputs handles places)))
+    (reportOf (findingOn t) es (outputs handles places))
     (λ a. findings (count a (pick (eqb a 9) (length es) 0)) handles places)
 
 -- ---- query: corners not swapped, a reversed range is empty
@@ -85,7 +109,7 @@ abbrev pub queryFinds : Tables → Position → Position → List Entry
 queryFinds t ll ur = found t ll ur Any
 
 abbrev pub queryTests : Tables → Position → Position → List (List ℕ) → List (List Float) → List Refusal
-queryTests t ll ur hs ps = searchTests t (positionInDomain ll && positionInDomain ur) ll ur Any (roomOf hs ps)
+queryTests t ll ur hs ps = searchTests t (positionInDomain ll && positionInDomain ur) ll ur Any (room (outputs hs ps))
 
 unfoldable pub queryOf : Tables → Position → Position → List (List ℕ) → List (List Float) → Findings
 unfolding searchOf
@@ -96,7 +120,7 @@ abbrev pub aroundFinds : Tables → Position → Float → List Entry
 aroundFinds t c r = found t (cornerBelow c r) (cornerAbove c r) (Circle c r)
 
 abbrev pub aroundTests : Tables → Position → Float → List (List ℕ) → List (List Float) → List Refusal
-aroundTests t c r hs ps = searchTests t (positionInDomain c && radiusInDomain r) (cornerBelow c r) (cornerAbove c r) (Circle c r) (roomOf hs ps)
+aroundTests t c r hs ps = searchTests t (positionInDomain c && radiusInDomain r) (cornerBelow c r) (cornerAbove c r) (Circle c r) (room (outputs hs ps))
 
 unfoldable pub aroundOf : Tables → Position → Float → List (List ℕ) → List (List Float) → Findings
 unfolding searchOf
@@ -108,7 +132,7 @@ aabbFinds t a b = found t (lowerCorner a b) (upperCorner a b) (Rectangle (lowerC
 
 abbrev pub aabbTests : Tables → Position → Position → List (List ℕ) → List (List Float) → List Refusal
 aabbTests t a b hs ps =
-    searchTests t (positionInDomain a && positionInDomain b) (lowerCorner a b) (upperCorner a b) (Rectangle (lowerCorner a b) (upperCorner a b)) (roomOf hs ps)
+    searchTests t (positionInDomain a && positionInDomain b) (lowerCorner a b) (upperCorner a b) (Rectangle (lowerCorner a b) (upperCorner a b)) (room (outputs hs ps))
 
 unfoldable pub aabbOf : Tables → Position → Position → List (List ℕ) → List (List Float) → Findings
 unfolding searchOf

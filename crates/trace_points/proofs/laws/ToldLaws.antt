@@ -70,10 +70,10 @@ module _ (boxes : ℕ) (handles : List (List ℕ)) (places : List (List Float)) 
     told-search = go (eqb a 0) refl
       where
         a : ℕ
-        a = query.searchAnswer t ok ll ur test (min (length handles) (length places))
+        a = query.searchAnswer t ok ll ur test (query.room (query.outputs handles places))
 
-        go : (x : Bool) → eqb a 0 ≡ x → IsTold boxes (said (pick x (query.findings (count 0 (length (query.found t ll ur test))) (written (map (query.handleRow t) (query.found t ll ur test)) handles) (written (map query.placeRow (query.found t ll ur test)) places)) (query.findings (count a (pick (eqb a 9) (length (query.found t ll ur test)) 0)) handles places)))
-        go true h = told-found (query.found t ll ur test) (query.handleRow t) query.placeRow (room-of t ok ll ur test (min (length handles) (length places)) (eqb-true a 0 h))
+        go : (x : Bool) → eqb a 0 ≡ x → IsTold boxes (said (pick x (query.reportOf (query.findingOn t) (query.found t ll ur test) (query.outputs handles places)) (query.findings (count a (pick (eqb a 9) (length (query.found t ll ur test)) 0)) handles places)))
+        go true h = told-found (query.found t ll ur test) (λ e. query.handleOf (query.findingOn t e)) (λ e. query.placeOf (query.findingOn t e)) (room-of t ok ll ur test (query.room (query.outputs handles places)) (eqb-true a 0 h))
         go false h = subst (λ (x : Bool). Told (pick x (Points (pick (eqb a 9) (length (query.found t ll ur test)) 0)) (Refused a)) (length handles) (length places) boxes) (sym h) tt
 
   pub told : (t : Tables) (s : PointSearch) (p q : Spot) (far : ℤ) → IsTold boxes (searchOf t s p q far handles places)

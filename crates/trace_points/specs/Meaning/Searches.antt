@@ -24,7 +24,7 @@ abbrev pub searched : Said → List (List ℕ) → List (List Float) → Searche
 searched s h p = record { tells = s; handles = h; places = p }
 
 abbrev pub said : Findings → Searched
-said f = searched (pointsOr (f .returned .answer) (f .returned .count)) (f .handles) (f .places)
+said f = searched (pointsOr (f .returned .answer) (f .returned .count)) (f .outputs .handles) (f .outputs .places)
 
 -- `cir`: centre and radius. `rec`: two corners, in any order. `cel`: all of the cells from the lower left to the upper right
 unfoldable pub findingsOf : Tables → PointSearch → Position → Position → Float → List (List ℕ) → List (List Float) → Findings

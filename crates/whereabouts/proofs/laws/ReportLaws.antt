@@ -1,5 +1,5 @@
 -- Right after the next maintain a circle that is not refused reports, once each, exactly the points that are due. Assumes nothing.
-use Prim.Native.Nat.{ℕ, zero, suc, _<_, min}
+use Prim.Native.Nat.{ℕ, zero, suc, _<_}
 use mathlib.Core.Path.{_≡_, refl, sym, ap, _∙_, subst}
 use mathlib.Core.Bool.{Bool, true, false, _&&_}
 use mathlib.Core.List.{List, [], _∷_, _++_, map, List·Memᴰ, List·Memᴰ·cases-cons, List·Memᴰ·not-nil}
@@ -26,7 +26,7 @@ use Rattle.cells.proofs.laws.ReachLaws.{low-reached, high-reached}
 use Rattle.cells.proofs.laws.Cover.{circle-cover}
 use Rattle.slots.specs.declared.Handle.{Handle}
 use Rattle.slots.specs.Meaning.Slot.{versionAt, good}
-use Rattle.storage.specs.Meaning.Keyed.{All, written}
+use Rattle.storage.specs.Meaning.Keyed.{All}
 use Rattle.storage.specs.Meaning.Entries.{Entry, entry}
 use Rattle.storage.proofs.laws.FilterLaws.{all-at, filter-passes}
 use Rattle.point_tables.specs.Meaning.Tables.{Tables, sizeOf, recordOn, entriesIn, slotOf}
@@ -36,14 +36,13 @@ use Rattle.point_deferred.specs.Meaning.Batch.{Call}
 use Rattle.point_deferred.proofs.laws.MovesLaws.{Named, named}
 use Rattle.point_query.specs.declared.Test.{Test}
 use Rattle.point_query.specs.declared.Test.the-variants.{Circle}
-use Rattle.point_query.specs.Meaning.Queries.{Findings, findings, positionOf, found, handleRow, placeRow, searchAnswer, searchOf, aroundOf}
+use Rattle.point_query.specs.Meaning.Queries.{positionOf, found, findingOn, handleOf, placeOf, outputs, room, Findings, reportOf, searchAnswer, searchOf, aroundOf}
 use Rattle.point_query.proofs.laws.FoundLaws.{Standing}
 use Rattle.point_query.proofs.laws.OnceLaws.{Once, standing-good, found-once, found-standing, finds}
 use Rattle.point_query.proofs.laws.ScanLaws.{circle-scan}
 use Rattle.whereabouts.proofs.laws.StandsLaws.{Settled, next-holds, stands, stands-at}
 use Rattle.whereabouts.specs.Meaning.Stands.{nextMaintain}
 use Rattle.whereabouts.specs.Meaning.Report.{ReportedAt, Reports, Due}
-use Rattle.replies.specs.Meaning.Replies.{count}
 
 -- ---- places of a list
 module _ {A B : Type 0} where
@@ -74,7 +73,7 @@ four false b c d e = absurd (omega arith)
 
 module _ (t : Tables) (ok : Bool) (ll ur : Position) (test : Test) (handles : List (List ℕ)) (places : List (List Float)) where
   abbrev answer : ℕ
-  answer = searchAnswer t ok ll ur test (min (length handles) (length places))
+  answer = searchAnswer t ok ll ur test (room (outputs handles places))
 
   answer-is : searchOf t ok ll ur test handles places .returned .answer ≡ 0 → answer ≡ 0
   unfolding searchOf
@@ -82,10 +81,9 @@ module _ (t : Tables) (ok : Bool) (ll ur : Position) (test : Test) (handles : Li
 
   search-ok : answer ≡ 0 → ok ≡ true
   unfolding searchAnswer
-  search-ok e = four (holds t) ok (leb (cellsIn (cellAt (sizeOf t) ll) (cellAt (sizeOf t) ur)) mostCells) (leb (length (found t ll ur test)) (min (length handles) (length places))) e
+  search-ok e = four (holds t) ok (leb (cellsIn (cellAt (sizeOf t) ll) (cellAt (sizeOf t) ur)) mostCells) (leb (length (found t ll ur test)) (room (outputs handles places))) e
 
-  search-done : answer ≡ 0
-      → searchOf t ok ll ur test handles places ≡ findings (count 0 (length (found t ll ur test))) (written (map (handleRow t) (found t ll ur test)) handles) (written (map placeRow (found t ll ur test)) places)
+  search-done : answer ≡ 0 → searchOf t ok ll ur test handles places ≡ reportOf (findingOn t) (found t ll ur test) (outputs handles places)
   unfolding searchOf
   search-done e = rw (eq-eqb answer 0 e)
 
@@ -106,7 +104,7 @@ module _ (m : Tables) (h : Holds m) (c : Position) (r : Float) (handles : List (
   abbrev at : ℕ → Entry
   at j = getD es j noEntry
 
-  passed : searchAnswer m (positionInDomain c && radiusInDomain r) low high (Circle c r) (min (length handles) (length places)) ≡ 0
+  passed : searchAnswer m (positionInDomain c && radiusInDomain r) low high (Circle c r) (room (outputs handles places)) ≡ 0
   unfolding aroundOf
   passed = answer-is m (positionInDomain c && radiusInDomain r) low high (Circle c r) handles places a
 
@@ -125,7 +123,7 @@ module _ (m : Tables) (h : Holds m) (c : Position) (r : Float) (handles : List (
   ru : Reached high
   ru = high-reached c r dc dr
 
-  is-done : aroundOf m c r handles places ≡ findings (count 0 (length es)) (written (map (handleRow m) es) handles) (written (map placeRow es) places)
+  is-done : aroundOf m c r handles places ≡ reportOf (findingOn m) es (outputs handles places)
   unfolding aroundOf
   is-done = search-done m (positionInDomain c && radiusInDomain r) low high (Circle c r) handles places passed
 
@@ -141,9 +139,9 @@ module _ (m : Tables) (h : Holds m) (c : Position) (r : Float) (handles : List (
 
   shown : (j : ℕ) (g : Handle) (p : Position) → ReportedAt (aroundOf m c r handles places) j g p → Shown j g p
   shown j g p w =
-      let v : ReportedAt (findings (count 0 (length es)) (written (map (handleRow m) es) handles) (written (map placeRow es) places)) j g p = rw is-done at w in
-      let x = sym (mapped-at (handleRow m) es _ noEntry [] j (v .filled)) ∙ v .handle in
-      let y = sym (mapped-at placeRow es _ noEntry [] j (v .filled)) ∙ v .place in
+      let v : ReportedAt (reportOf (findingOn m) es (outputs handles places)) j g p = rw is-done at w in
+      let x = sym (mapped-at (λ e. handleOf (findingOn m e)) es _ noEntry [] j (v .filled)) ∙ v .handle in
+      let y = sym (mapped-at (λ e. placeOf (findingOn m e)) es _ noEntry [] j (v .filled)) ∙ v .place in
       record {
         filled = v .filled;
         slot = ap (λ (l : List ℕ). getD l 0 0) x;
@@ -155,8 +153,8 @@ module _ (m : Tables) (h : Holds m) (c : Position) (r : Float) (handles : List (
   reported j g p w =
       rw is-done (record {
         filled = w .filled;
-        handle = mapped-at (handleRow m) es _ noEntry [] j (w .filled) ∙ (λ i. w .slot i ∷ w .version i ∷ []);
-        place = mapped-at placeRow es _ noEntry [] j (w .filled) ∙ ap (λ (q : Position). q .x ∷ q .y ∷ []) (w .place);
+        handle = mapped-at (λ e. handleOf (findingOn m e)) es _ noEntry [] j (w .filled) ∙ (λ i. w .slot i ∷ w .version i ∷ []);
+        place = mapped-at (λ e. placeOf (findingOn m e)) es _ noEntry [] j (w .filled) ∙ ap (λ (q : Position). q .x ∷ q .y ∷ []) (w .place);
       })
 
   -- what is shown is a good handle at its recorded position, in the circle

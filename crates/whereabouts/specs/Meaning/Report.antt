@@ -18,8 +18,8 @@ use Rattle.whereabouts.specs.Meaning.Whereabouts.{removedBy, lastAt}
 -- place j of the outputs is one of those that were filled, and has the handle g and the position p
 pub record ReportedAt (o : Findings) (j : ℕ) (g : Handle) (p : Position) : Type 0 where
   pub filled : j < o .returned .count
-  pub handle : getD (o .handles) j [] ≡ g .slot ∷ g .version ∷ []
-  pub place : getD (o .places) j [] ≡ p .x ∷ p .y ∷ []
+  pub handle : getD (o .outputs .handles) j [] ≡ g .slot ∷ g .version ∷ []
+  pub place : getD (o .outputs .places) j [] ≡ p .x ∷ p .y ∷ []
 
 abbrev pub Reports : Findings → Handle → Position → Type 0
 Reports o g p = (j : ℕ) × ReportedAt o j g p

@@ -1,17 +1,14 @@
 -- `point_query::fill::fill` meets its contract. Assumes nothing.
 use Prim.Native.Nat.{ℕ, _≤_}
-use mathlib.Core.Path.{_∙_}
 use mathlib.Core.List.{List}
 use native.Mathlib.Omega.{arith}
 use lib.ListN.{length}
 use borrow.Author.Needs.{needs}
-use Rattle.point_query.specs.Meaning.Queries.{findings}
 use Rattle.point_query.specs.Inner.Places.{placesOf}
 use Rattle.point_query.proofs.laws.StretchLaws.{places-most}
-use Rattle.point_query.proofs.laws.FillLaws.{filled-0}
+use Rattle.point_query.proofs.laws.FillLaws.{filled-put}
 use Rattle.point_query.proofs.fill.fill.Statement.{statement}
 use Rattle.point_query.proofs.fill.fill.Tie as tie
-use Rattle.replies.specs.Meaning.Replies.{count}
 
 -- what was met, where the outputs have room for all entries in use
 module _ (p : tie.After-put-range) where
@@ -36,8 +33,8 @@ returns-2 c =
     let e = p .before .before .before in
     let a = start p .args in
     let g = p .put-range .ensures in
-    (λ z. findings (count 0 (g .0 z)) (g .1 z) (g .2 z))
-    ∙ filled-0 (a .nums .now) (a .pool .now) (a .spots .now) (js p) (a .handles .now) (a .places .now) (omega (arith, few p, e .before .lesser .ensures, e .if1 .left))
+    filled-put (a .nums .now) (a .pool .now) (a .spots .now) (js p) (a .handles .now) (a .places .now) (p .put-range .result) _ _ (g .0) (g .1)
+    (omega (arith, g .0, few p, e .before .lesser .ensures, e .if1 .left))
 
 pub fill-spec : {M : Type 1} → statement M
 fill-spec =

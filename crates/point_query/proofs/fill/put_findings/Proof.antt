@@ -8,7 +8,8 @@ use lib.ListN.{length, getD, take}
 use borrow.Author.Needs.{needs}
 use Rattle.storage.specs.Meaning.Keyed.{written}
 use Rattle.point_records.specs.declared.Entry.{Entry}
-use Rattle.point_query.specs.Inner.Fill.{findingOf, findingAt, handleOf, placeOf, handleAt, placeAt, Findable}
+use Rattle.point_query.specs.Meaning.Queries.{handleOf, placeOf, outputs, filling}
+use Rattle.point_query.specs.Inner.Fill.{findingOf, findingAt, handleAt, placeAt, Findable}
 use Rattle.storage.proofs.laws.PutLaws.{put-length, put-next}
 use Rattle.point_query.proofs.fill.put_findings.Statement.{statement}
 use Rattle.point_query.proofs.fill.put_findings.Tie as tie
@@ -113,10 +114,9 @@ returns : tie.Need-returns Inv-loop μ-loop
 returns c =
     let l = c .before in
     let a = start l .args in
-    let e : l .loop .k ≡ a .r = omega arith in (
-      l .loop .inv .1 ∙ ap (λ k. written (map (handle l) (take k (a .found .now))) (a .handles .now)) e,
-      l .loop .inv .2 ∙ ap (λ k. written (map (place l) (take k (a .found .now))) (a .places .now)) e,
-    )
+    let e : l .loop .k ≡ a .r = omega arith in
+    (λ z. outputs (l .loop .inv .1 z) (l .loop .inv .2 z))
+    ∙ ap (λ k. filling (findingAt (a .nums .now) (a .pool .now) (a .spots .now)) (take k (a .found .now)) (outputs (a .handles .now) (a .places .now))) e
 
 pub put-findings-spec : {M : Type 1} → statement M
 put-findings-spec =

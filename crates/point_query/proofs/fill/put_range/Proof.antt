@@ -12,8 +12,9 @@ use Rattle.cells.specs.Meaning.Key.{keyOf}
 use Rattle.storage.specs.Meaning.Keyed.{written}
 use Rattle.storage.proofs.laws.WrittenLaws.{length-written}
 use Rattle.storage.proofs.laws.RunLaws.{run-onward}
+use Rattle.point_query.specs.Meaning.Queries.{outputs, filling}
 use Rattle.point_query.specs.Inner.Places.{placesIn, spotPasses, placesOf}
-use Rattle.point_query.specs.Inner.Fill.{handleAt, placeAt}
+use Rattle.point_query.specs.Inner.Fill.{findingAt, handleAt, placeAt}
 use Rattle.point_query.proofs.laws.StretchLaws.{places-most, places-run}
 use Rattle.point_query.proofs.laws.RowLaws.{rows-behind}
 use Rattle.point_query.proofs.fill.put_range.Statement.{statement}
@@ -120,8 +121,8 @@ returns c =
     let e : l .loop .i ≡ a .used = omega arith in
     let js = placesOf (a .a) (a .b) (a .test) (a .pool .now) (a .spots .now) in (
       met l .0 ∙ ap (λ n. length (js n)) e,
-      met l .1 ∙ ap (λ n. written (map (handle l) (js n)) (a .handles .now)) e,
-      met l .2 ∙ ap (λ n. written (map (place l) (js n)) (a .places .now)) e,
+      (λ z. outputs (met l .1 z) (met l .2 z))
+          ∙ ap (λ n. filling (findingAt (a .nums .now) (a .pool .now) (a .spots .now)) (js n) (outputs (a .handles .now) (a .places .now))) e,
     )
 
 pub put-range-spec : {M : Type 1} → statement M

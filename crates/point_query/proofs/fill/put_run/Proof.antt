@@ -10,9 +10,9 @@ use lib.ListN.{length, take, length-append}
 use borrow.Author.Needs.{needs}
 use Rattle.storage.specs.Meaning.Keyed.{written}
 use Rattle.point_records.specs.declared.Entry.{Entry}
-use Rattle.point_query.specs.Meaning.Queries.{passes}
+use Rattle.point_query.specs.Meaning.Queries.{passes, handleOf, placeOf}
 use Rattle.point_query.specs.Inner.Places.{spotPasses}
-use Rattle.point_query.specs.Inner.Fill.{findingOf, handleOf, placeOf, handleAt, placeAt}
+use Rattle.point_query.specs.Inner.Fill.{findingOf, handleAt, placeAt}
 use Rattle.point_query.proofs.laws.PlacesLaws.{passed, passed-more, passed-same, places-length}
 use Rattle.point_query.proofs.laws.RowLaws.{rowsTo, rows-none, rows-kept, rows-taken, rows-passed}
 use Rattle.point_query.proofs.fill.put_run.Statement.{statement}

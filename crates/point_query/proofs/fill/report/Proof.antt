@@ -1,12 +1,12 @@
 -- `point_query::fill::report` meets its contract. Assumes nothing.
-use Prim.Native.Nat.{ℕ, _<_, min}
-use mathlib.Core.Path.{_≡_, refl, sym, ap, _∙_}
+use Prim.Native.Nat.{ℕ, _<_}
+use mathlib.Core.Path.{_≡_, sym, ap, _∙_}
 use mathlib.Core.List.{List}
 use native.Mathlib.Omega.{arith}
 use lib.ListN.{length, take}
 use lib.Seq.{length-take-le}
 use borrow.Author.Needs.{needs}
-use Rattle.point_query.specs.Meaning.Queries.{findings}
+use Rattle.point_query.specs.Meaning.Queries.{outputs, room, findings}
 use Rattle.point_query.specs.Inner.Fill.{filled}
 use Rattle.point_query.proofs.laws.FillLaws.{filled-9, filled-put}
 use Rattle.point_query.proofs.fill.report.Statement.{statement}
@@ -22,7 +22,7 @@ module _ (s : tie.Start) where
   number = sym (length-take-le (s .args .r) (s .args .found .now) (s .pre .0 .0))
 
   -- an output that is too short
-  short : min (length (s .args .handles .now)) (length (s .args .places .now)) < s .args .r
+  short : room (outputs (s .args .handles .now) (s .args .places .now)) < s .args .r
       → let a = s .args in findings (count 9 (a .r)) (a .handles .now) (a .places .now) ≡ filled (a .nums .now) (a .pool .now) (a .spots .now) js (a .handles .now) (a .places .now)
   short l =
       let a = s .args in
@@ -40,8 +40,8 @@ returns-3 c =
     let e = p .before .before .before in
     let s = e .before .before .before in
     let a = s .args in
-    filled-put (a .nums .now) (a .pool .now) (a .spots .now) (js s) (a .handles .now) (a .places .now) (a .found .now) (a .r) (p .put-findings .last .1 .1 .1 .1 .1 .0) (p .put-findings .last .1 .1 .1 .1 .1 .1 .0)
-    (number s) refl (p .put-findings .ensures .0) (p .put-findings .ensures .1) (e .before .if1 .left) (e .if2 .left)
+    filled-put (a .nums .now) (a .pool .now) (a .spots .now) (js s) (a .handles .now) (a .places .now) (a .r) (p .put-findings .last .1 .1 .1 .1 .1 .0) (p .put-findings .last .1 .1 .1 .1 .1 .1 .0)
+    (number s) (p .put-findings .ensures) (omega (arith, e .before .if1 .left, e .if2 .left))
 
 pub report-spec : {M : Type 1} → statement M
 report-spec =
