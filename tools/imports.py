@@ -1,15 +1,17 @@
 #!/usr/bin/env python3
-"""imports.py [ROOT] [--unused] [--same OTHER]: holds every import of crates/ to the tree, without a prover, in seconds.
+"""imports.py [ROOT] [--unused] [--same OTHER [--renamed LIST]]: holds every import of crates/ to the tree, without a prover, in seconds.
 
 Every module path is there (a file, what a crate declares, or what a function's proof has), every name is declared there and `pub`, none is brought twice
 or declared beside it, the crate stands in crates.txt among what the other stands on, no file of specs/ imports its own proofs/, no imports go round,
 every file is listed by its node and every `pub mod` has its file, each must-fail edit finds its text once. --unused also tells names that a file brings
-and does not use; --same that each declaration cites the same as in the tree OTHER, as after a move. Prints what is not so, and ends in 1 then."""
+and does not use; --same that each declaration cites the same as in the tree OTHER, as after a move, or after the renames of LIST (rename_name.py). Prints
+what is not so, and ends in 1 then."""
 import glob
 import os
 import re
 import sys
 from collections import Counter
+from rename_name import listed
 from tree import Decl, Source, Tree, Words, read
 
 
@@ -122,20 +124,24 @@ def wrong_edits(root):
                 yield f'{path}: its text is not once in {file}'
 
 
-def meanings(root):
-    """What each declaration says, by the names of what it cites: the same before and after a move."""
-    tree, found = Tree(root), Counter()
+def meanings(root, renames=()):
+    """What each declaration says, by the names of what it cites: the same before and after a move. What has a new name is called by it."""
+    tree, found, new = Tree(root), Counter(), {(key, old): name for key, old, name in renames}
+
+    def called(decl):
+        return new.get((decl.file.key, decl.name), decl.name)
+
     for (crate, part, module), file in tree.files.items():
         for decl in file.decls.values():
             cited = {tree.meaning(file, w) for w in tree.cited(decl)[1]}
-            names = sorted({(d.file.key[0], d.name) if isinstance(d, Decl) else ('', d.path) for d in cited if d})
-            found[crate, decl.name, decl.kind if decl.kind in ('record', 'data') else '', *(n for pair in names for n in pair)] += 1
+            names = sorted({(d.file.key[0], called(d)) if isinstance(d, Decl) else ('', d.path) for d in cited if d})
+            found[crate, called(decl), decl.kind if decl.kind in ('record', 'data') else '', *(n for pair in names for n in pair)] += 1
     return found
 
 
-def parted(root, other):
+def parted(root, other, renames):
     """Declarations that cite something else in the other tree."""
-    a, b = meanings(root), meanings(other)
+    a, b = meanings(root), meanings(other, renames)
     for key in sorted((a - b).keys() | (b - a).keys()):
         yield f'{key[0]}: {key[1]} cites something else, or is in one tree only'
 
@@ -157,8 +163,9 @@ def wrong(root, unused):
 if __name__ == '__main__':
     args = [a for a in sys.argv[1:] if not a.startswith('--')]
     sys.setrecursionlimit(10000)
+    renames = list(listed([args.pop()])) if '--renamed' in sys.argv else []
     other = args.pop() if '--same' in sys.argv else None
     found = list(wrong(args[0] if args else '.', '--unused' in sys.argv))
-    found += list(parted(args[0] if args else '.', other)) if other else []
+    found += list(parted(args[0] if args else '.', other, renames)) if other else []
     print('\n'.join(found) if found else 'every import is of something that is there')
     sys.exit(bool(found))

@@ -1,6 +1,6 @@
 """The tree as the other tools read it: every .antt file of crates/ as a header of `use` lines and a row of declarations, what each declaration cites,
 and the contracts of the .rt files. Names are read exactly: imports with braces, `as`, `module _` blocks with their parameters, constructors, names with
-operators; what a pattern, a λ or a signature binds is no citation. Used by believe.py, imports.py, move_names.py."""
+operators; what a pattern, a λ or a signature binds is no citation. Used by believe.py, imports.py, move_names.py, rename_name.py."""
 import os
 import re
 
@@ -11,11 +11,17 @@ USE = re.compile(r'((?:unfoldable |pub |ghost )*)use ([^{\s]+?)(?:\.\{(.*)\})?(?
 PATH = re.compile(r'Rattle·(\w+?)(?:·(?:specs|proofs))?\.(specs|proofs)\.(.+)')
 FN = re.compile(r'(pub )?(?:extern "C" )?fn (\w+)')
 GROUP = re.compile(r'[({]([^(){}:.,;"]+?) :(?=\s)')
+MARK = re.compile('[\ue000-\uf8ff]')
 
 
 def read(path):
     with open(path, encoding='utf-8') as f:
         return f.read().split('\n')
+
+
+def plain(text):
+    """A text without the marks that rename_name.py puts behind words."""
+    return MARK.sub('', text)
 
 
 def exactly(word):
@@ -55,7 +61,7 @@ class Block:
 
     def __init__(self, head, parent, blank, comments, base):
         self.head, self.parent, self.blank, self.comments, self.items, self.base, self.heads = head, parent, blank, comments, [], base, {}
-        text = ' '.join(head)
+        text = plain(' '.join(head))
         self.bound = set(' '.join(GROUP.findall(text)).split())
         self.explicit = ' '.join(re.findall(r'(?:(?<=[\s(])|^)\(([^(){}:.,;"]+?) :(?=\s)', outer(text))).split()
 
@@ -110,9 +116,9 @@ class Decl:
 
 
 class File:
-    def __init__(self, path, key):
+    def __init__(self, path, key, raw=None):
         self.path, self.key, self.decls, self.uses, self.mods, self.items, self.head, self.made = path, key, {}, [], [], [], [], {}
-        self.raw = read(path)
+        self.raw = raw or read(path)
         i = self.header()
         self.body(i, 0, None, self.items)
         self.names = {here: (u, there) for u in self.uses for there, here in u.names}
@@ -163,7 +169,7 @@ class File:
                 i = self.body(inner, indent(self.raw[inner]), new, new.items)
                 cur, blank, comments = None, self.raw[i - 1].strip() == '', []
                 continue
-            if m and not (cur and cur.name == (m[3] or m[4]) and not m[1]):
+            if m and not (cur and plain(cur.name) == plain(m[3] or m[4]) and not m[1]):
                 cur = Decl(m, self, block, i + 1, blank, comments)
                 cur.base, comments = base, []
                 items.append(cur)
@@ -273,7 +279,7 @@ class Words:
 
     def signature(self, text, bound, kind):
         if kind in ('record', 'data'):
-            fields = re.findall(rf'^\s+(?:pub )?((?:{NAME} )+):(?=\s|$)', text, re.M)
+            fields = re.findall(rf'^\s+(?:pub )?((?:{NAME} )+):(?=\s|$)', plain(text), re.M)
             bound = bound | set(' '.join(fields).split())
         self.text(text, bound)
 
@@ -294,7 +300,7 @@ class Words:
             if not groups or indent(line) <= indent(rest[0]) and not line.strip().startswith(')'):
                 groups.append([])
             groups[-1].append(line)
-        signed = [DECL.match(g[0].strip()) for g in groups]
+        signed = [DECL.match(plain(g[0].strip())) for g in groups]
         bound |= {m[4] for m in signed if m and m[4]}
         self.text(right, bound)
         for group, m in zip(groups, signed):
@@ -346,6 +352,7 @@ def pattern(text):
 
 
 def binders(text):
+    text = plain(text)
     bound, text = set(' '.join(GROUP.findall(text)).split()), without_fields(text)
     for m in re.finditer(r'λ\s+(.*?)\.(?=\s)', text, re.S):
         bound |= pattern(m[1])
