@@ -11,7 +11,7 @@ ghost use Rattle.cells.specs.Inner.Span.{Spans};
 ghost use Rattle.cells.specs.Meaning.Key.{keyOf};
 ghost use Rattle.point_records.specs.Meaning.Occupied.{InDomain, Agrees};
 ghost use Rattle.point_records.specs.Inner.Occupied.{InCell};
-ghost use Rattle.point_records.specs.Meaning.Columns.{tagOf, pendingOf, targetOf, stateOf, recordAt, numsOf, realsOf, intsOf, recordOf, pendingIn};
+ghost use Rattle.point_records.specs.Meaning.Columns.{tagIn, tagOf, pendingOf, targetOf, stateOf, recordAt, numsOf, realsOf, intsOf, recordOf, pendingIn};
 ghost use Rattle.point_records.specs.Inner.Kept.{Kept};
 
 mod entries;
@@ -99,6 +99,13 @@ pub fn target_of(s: State, c: Cell) -> Cell
     }
 }
 
+// The tag of the state in a slot's row: no other code reads it.
+pub fn tag_in(row: Row) -> u32
+    ensures { λ r. ⌜ r ≡ tagIn row ⌝ }
+{
+    row[3]
+}
+
 pub fn load(nums: &[Row], reals: &[[f32; 4]], ints: &[[i32; 4]], i: usize) -> Record
     requires { ⌜ (i < length (now nums)) × (i < length (now reals)) × (i < length (now ints)) ⌝ }
     ensures { λ r. ⌜ r ≡ recordAt (was nums) (was reals) (was ints) i ⌝ }
@@ -106,8 +113,9 @@ pub fn load(nums: &[Row], reals: &[[f32; 4]], ints: &[[i32; 4]], i: usize) -> Re
     let n = nums[i];
     let q = reals[i];
     let z = ints[i];
+    let tag = tag_in(n);
     let state = state_of(
-        n[3],
+        tag,
         Position { x: q[2], y: q[3] },
         Cell { x: z[2], y: z[3] },
     );

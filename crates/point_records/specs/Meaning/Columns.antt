@@ -18,6 +18,10 @@ abbrev pub pickState : Bool → State → State → State
 pickState true a b = a
 pickState false a b = b
 
+-- the tag of the state: the fourth number of a slot's row
+abbrev pub tagIn : List ℕ → ℕ
+tagIn n = getD n 3 0
+
 -- the state that a tag says, with the pending position and cell
 abbrev pub stateOf : ℕ → Position → Cell → State
 stateOf tag p c = pickState (eqb tag 0) Unchanged (pickState (eqb tag 1) (NewPos p) (pickState (eqb tag 2) (Relocate p c) Removed))
@@ -39,7 +43,7 @@ recordOf n q z =
       obj = getD n 2 0;
       position = positionIn q;
       cell = record { x = getD z 0 (pos 0); y = getD z 1 (pos 0) };
-      state = pendingIn (getD n 3 0) q z;
+      state = pendingIn (tagIn n) q z;
     }
 
 -- the record at index i of the columns
