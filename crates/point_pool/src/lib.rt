@@ -56,7 +56,8 @@ fn entry_ok(
     if !point_records::in_cell(size, c, x, y, q, z) {
         return false;
     }
-    let tag = n[3];
+    let row = nums[s];
+    let tag = point_records::tag_in(row);
     if tag == 0 {
         return true;
     }

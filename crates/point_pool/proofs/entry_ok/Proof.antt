@@ -66,10 +66,16 @@ built c l m g =
     }
 
 returns-6 : tie.Need-returns-6
-returns-6 c = let t = c .if6 .taken in let s = start (c .before) in (says-yes (built (c .before) (omega (arith, t)) (λ n. absurd (n t)) (subst (Agreeing s) (sym t) tt)), s .pre .5)
+returns-6 c =
+    let d = c .before .before .before in
+    let s = start d in
+    let t : tagAt (s .args .nums .now) (s .args .e .slot) ≡ 0 = sym (c .before .tag-in .ensures) ∙ c .if6 .taken in
+    (says-yes (built d (omega (arith, t)) (λ n. absurd (n t)) (subst (Agreeing s) (sym t) tt)), s .pre .5)
 
 returns-7 : tie.Need-returns-7
-returns-7 c = (says-no (λ h. c .if7 .taken (h .marked (c .before .if6 .left))), start (c .before .before) .pre .5)
+returns-7 c =
+    let k = c .before .before in
+    (says-no (λ h. c .if7 .taken (h .marked (λ z. c .before .if6 .left (k .tag-in .ensures ∙ z)))), start (k .before .before) .pre .5)
 
 -- the cell of the slot's rows is that of the list, once it is asked
 same : (c : tie.Else5) → let a = start c .args in recordAt (a .nums .now) (a .reals .now) (a .ints .now) (a .e .slot) .cell ≡ a .c
@@ -78,18 +84,22 @@ same c = c .before .in-cell .ensures .yes (not-false _ (c .if5 .left)) .is-cell
 pending-ok-requires : tie.Need-pending-ok-requires
 pending-ok-requires c κs =
     let d = c .before .before .before in
-    let s = start (d .before) in
+    let o = d .before .before .before in
+    let s = start o in
     let a = s .args in
     let p = s .pre in
-    (p .2, subst (λ (k : Cell). Spans (a .size) (k .x) (a .x .lo) (a .x .hi)) (sym (same (d .before))) (p .3), subst (λ (k : Cell). Spans (a .size) (k .y) (a .y .lo) (a .y .hi)) (sym (same (d .before))) (p .4), d .if6 .left, p .5)
+    (p .2, subst (λ (k : Cell). Spans (a .size) (k .x) (a .x .lo) (a .x .hi)) (sym (same o)) (p .3), subst (λ (k : Cell). Spans (a .size) (k .y) (a .y .lo) (a .y .hi)) (sym (same o)) (p .4), d .if6 .left, p .5)
 
 returns-8 : tie.Need-returns-8
 returns-8 c =
     let m = c .before .before .before in
-    let d = m .before .before in
+    let k = m .before .before in
+    let d = k .before .before in
     let a = start d .args in
     let t = tagAt (a .nums .now) (a .e .slot) in
-    let w : Says (c .pending-ok .result) ((t ≤ 3) × Agreeing (start d) t) = subst (λ (k : Cell). Says (c .pending-ok .result) ((t ≤ 3) × Agrees (a .size) k (pendingIn t (getD (a .reals .now) (a .e .slot) []) (getD (a .ints .now) (a .e .slot) [])))) (same d) (c .pending-ok .ensures .0) in
+    let u = k .tag-in .result in
+    let v : Says (c .pending-ok .result) ((u ≤ 3) × Agreeing (start d) u) = subst (λ (k : Cell). Says (c .pending-ok .result) ((u ≤ 3) × Agrees (a .size) k (pendingIn u (getD (a .reals .now) (a .e .slot) []) (getD (a .ints .now) (a .e .slot) [])))) (same d) (c .pending-ok .ensures .0) in
+    let w : Says (c .pending-ok .result) ((t ≤ 3) × Agreeing (start d) t) = subst (λ (n : ℕ). Says (c .pending-ok .result) ((n ≤ 3) × Agreeing (start d) n)) (k .tag-in .ensures) v in
     (record { yes = λ e. let v = w .yes e in built d (v .0) (λ n. m .if7 .left) (v .1); no = λ h. w .no (h .whole .tagged, parts (start d) h .1) }, c .pending-ok .ensures .1)
 
 pub entry-ok-spec : {M : Type 1} → statement M
@@ -114,6 +124,8 @@ entry-ok-spec =
     (λ c κs. search needs)
     returns-5
     (λ c. search needs)
+    (λ c. search needs)
+    (λ c κs. search needs)
     returns-6
     returns-7
     pending-ok-requires
