@@ -1,7 +1,7 @@
 -- What the code of a deferred call makes, from what each of its steps gives. Assumes nothing.
 use Prim.Native.Nat.{ℕ, zero, suc, _^_, _<_, _≤_}
 use mathlib.Core.Path.{_≡_, refl, ap, sym, _∙_, subst}
-use mathlib.Core.Bool.{true, false}
+use mathlib.Core.Bool.{Bool, true, false}
 use mathlib.Core.List.{List, [], _∷_}
 use native.Mathlib.Omega.{arith}
 use borrow.Author.Tests.{eq-eqb, ne-eqb}
@@ -24,6 +24,8 @@ use Rattle.point_records.specs.Meaning.States.{isRemoved, aimed}
 use Rattle.point_tables.specs.Meaning.Tables.{Tables, tables}
 use Rattle.point_tables.specs.Meaning.Outcome.{Outcome, outcome}
 use Rattle.slots.specs.declared.Handle.{Handle}
+use Rattle.slots.specs.Meaning.Slot.{good, handleRefusal}
+use Rattle.basics.specs.Meaning.Refusals.{orElse}
 use Rattle.point_tables.specs.Meaning.Tables.{rowsOf}
 use Rattle.point_tables.specs.Meaning.Decide.{holds, holds-says}
 use Rattle.basics.proofs.laws.Says.{d-eq, said-says}
@@ -47,6 +49,14 @@ use Rattle.replies.specs.Meaning.Replies.{reply}
 -- a signed number that was read is what it was
 pub back : {z : ℤ} → mag z < 2 ^ hbits w32 → toZ w32 (ofZ w32 z) ≡ z
 back p = toZ-ofZ (sfits-of p)
+
+-- a handle that is refused is not good
+pub not-good : (nums : List (List ℕ)) (h : Handle) (a : ℕ) → a ≡ handleRefusal nums h → (a ≡ 0 → ⊥) → good nums (h .slot) (h .version) ≡ false
+not-good nums h a e n = go (good nums (h .slot) (h .version)) e
+  where
+    go : (b : Bool) → a ≡ orElse b 5 0 → b ≡ false
+    go true q = absurd (n q)
+    go false q = refl
 
 -- ---- tags
 pub tag-same : (d c : Cell) → d ≡ c → 1 ≡ tagTo d c

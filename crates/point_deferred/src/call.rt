@@ -9,7 +9,7 @@ ghost use Rattle.point_records.specs.Meaning.Occupied.{InDomain};
 ghost use Rattle.point_tables.specs.Meaning.Outcome.{outcome};
 ghost use Rattle.point_deferred.specs.Inner.Ready.{Ready, Workable};
 ghost use Rattle.point_deferred.specs.Inner.Held;
-ghost use Rattle.point_deferred.specs.Inner.Held.{lentPoolless, poollessBefore, poollessAfter, recordsBefore, recordsAfter, setRefusal, removeRefusal};
+ghost use Rattle.point_deferred.specs.Inner.Held.{lentPoolless, poollessBefore, poollessAfter, recordsBefore, recordsAfter, setRefusal};
 ghost use Rattle.point_deferred.specs.Inner.Held.{refusalOf, tagTo, PendedRows, worked, heldOf, unmarkedOf};
 use cells::Cell;
 use geometry::Position;
@@ -24,22 +24,15 @@ fn set_refusal(nums: &[Row], reals: &[[f32; 4]], ints: &[[i32; 4]], h: Handle, a
     if !geometry::position_in_domain(at) {
         return 6;
     }
-    if !slots::is_good(nums, h) {
-        return 5;
+    let why = slots::refusal_of(nums, h);
+    if why != 0 {
+        return why;
     }
     let s = basics::wide(h.slot);
-    let tag = nums[s][3];
+    let n = nums[s];
+    let tag = point_records::tag_in(n);
     if 2 < tag {
         return 1;
-    }
-    0
-}
-
-fn remove_refusal(nums: &[Row], h: Handle) -> u32
-    ensures { λ r. ⌜ r ≡ removeRefusal (was nums) h ⌝ }
-{
-    if !slots::is_good(nums, h) {
-        return 5;
     }
     0
 }
@@ -59,7 +52,7 @@ fn refusal(
     if kind == 0 {
         return set_refusal(nums, reals, ints, h, at);
     }
-    remove_refusal(nums, h)
+    slots::refusal_of(nums, h)
 }
 
 // The tag of what becomes pending for an object of cell c that moves to cell d.

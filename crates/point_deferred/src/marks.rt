@@ -25,7 +25,9 @@ pub fn mark_all(nums: &[Row], pool: &[[u64; 2]], used: usize, cells: &mut [[u64;
         let row = cells[c];
         if row[0] == e[0] {
             let s = basics::index_of(e[1]);
-            if nums[s][3] != 0 {
+            let n = nums[s];
+            let tag = point_records::tag_in(n);
+            if tag != 0 {
                 cells[c] = set_mark(row);
             }
             j += 1;

@@ -2,6 +2,7 @@
 use mathlib.Core.Path.{_∙_}
 use borrow.Author.Tests.{eq-eqb, ne-eqb}
 use borrow.Author.Needs.{needs}
+use Rattle.point_deferred.specs.Inner.Held.{removeRefusal}
 use Rattle.point_deferred.proofs.call.refusal.Statement.{statement}
 use Rattle.point_deferred.proofs.call.refusal.Tie as tie
 
@@ -9,7 +10,8 @@ returns : tie.Need-returns
 returns c = c .set-refusal .ensures ∙ simp (eq-eqb _ _ (c .before .if1 .taken))
 
 returns-2 : tie.Need-returns-2
-returns-2 c = c .remove-refusal .ensures ∙ simp (ne-eqb _ _ (c .before .if1 .left))
+unfolding removeRefusal
+returns-2 c = c .refusal-of .ensures ∙ simp (ne-eqb _ _ (c .before .if1 .left))
 
 pub refusal-spec : {M : Type 1} → statement M
 refusal-spec = tie.close (tie.spec (λ c κs. c .before .pre) returns (λ c κs. search needs) returns-2)

@@ -1,19 +1,20 @@
 -- `point_deferred::call::set_refusal` meets its contract. Assumes nothing.
 use Prim.Native.Nat.{ℕ, _<_}
 use mathlib.Core.Path.{_≡_, ap, sym, _∙_}
-use mathlib.Core.Bool.{true, false}
+use mathlib.Core.Bool.{Bool, true, false}
 use mathlib.Core.List.{[]}
 use lib.ListN.{length, getD}
 use borrow.Author.Tests.{not-true, not-false}
 use borrow.Author.Needs.{needs}
 use native.Mathlib.Omega.{arith}
+use Rattle.basics.specs.Meaning.Refusals.{orElse}
 use Rattle.geometry.specs.Meaning.Domain.{positionInDomain}
 use Rattle.slots.specs.Meaning.Slot.{good}
-use Rattle.slots.proofs.laws.HandleLaws.{good-says}
-use Rattle.point_records.specs.Meaning.Columns.{recordAt}
+use Rattle.slots.proofs.laws.HandleLaws.{good-says, not-refused}
+use Rattle.point_records.specs.Meaning.Columns.{tagIn, recordAt}
 use Rattle.point_records.specs.Meaning.States.{isRemoved}
 use Rattle.point_deferred.specs.Inner.Held.{setRefusal}
-use Rattle.point_deferred.proofs.Shared.{above-two, up-to-two}
+use Rattle.point_deferred.proofs.Shared.{above-two, up-to-two, not-good}
 use Rattle.point_deferred.proofs.call.set_refusal.Statement.{statement}
 use Rattle.point_deferred.proofs.call.set_refusal.Tie as tie
 
@@ -22,11 +23,11 @@ near : (c : tie.Else1) → positionInDomain (c .before .before .args .at) ≡ tr
 near c = sym (c .before .position-in-domain .ensures) ∙ not-false _ (c .if1 .left)
 
 fine : (c : tie.Else2) → good (c .before .before .before .before .args .nums .now) (c .before .before .before .before .args .h .slot) (c .before .before .before .before .args .h .version) ≡ true
-fine c = sym (c .before .is-good .ensures) ∙ not-false _ (c .if2 .left)
+fine c = let a = c .before .before .before .before .args in not-refused (a .nums .now) (a .h) (sym (c .before .refusal-of .ensures) ∙ c .if2 .left)
 
 -- the tag that was read is that of the handle's slot
-tag-is : (c : tie.After-tag) → getD (getD (c .before .before .before .before .before .before .args .nums .now) (c .before .wide .result) []) 3 0 ≡ getD (getD (c .before .before .before .before .before .before .args .nums .now) (c .before .before .before .before .before .before .args .h .slot) []) 3 0
-tag-is c = ap (λ (s : ℕ). getD (getD (c .before .before .before .before .before .before .args .nums .now) s []) 3 0) (c .before .wide .ensures)
+tag-is : (c : tie.After-tag-in) → let a = c .before .before .before .before .before .before .before .args in c .tag-in .result ≡ tagIn (getD (a .nums .now) (a .h .slot) [])
+tag-is c = c .tag-in .ensures ∙ ap (λ (s : ℕ). tagIn (getD (c .before .before .before .before .before .before .before .args .nums .now) s [])) (c .before .before .wide .ensures)
 
 inside : (c : tie.After-wide) → c .wide .result < length (c .before .before .before .before .before .args .nums .now)
 inside c =
@@ -39,23 +40,27 @@ returns c = simp (sym (c .before .position-in-domain .ensures) ∙ not-true _ (c
 
 returns-2 : tie.Need-returns-2
 unfolding setRefusal
-returns-2 c = simp (near (c .before .before), sym (c .before .is-good .ensures) ∙ not-true _ (c .if2 .taken))
+returns-2 c =
+    let q = c .before .refusal-of .ensures in
+    let a = c .before .before .before .before .args in
+    let f : good (a .nums .now) (a .h .slot) (a .h .version) ≡ false = not-good (a .nums .now) (a .h) _ q (c .if2 .taken) in
+    rw (near (c .before .before), f) (q ∙ ap (λ (b : Bool). orElse b 5 0) f)
 
 returns-3 : tie.Need-returns-3
 unfolding setRefusal
 returns-3 c =
-    let a = c .before .before .before .before .before .before .before .args in
+    let a = c .before .before .before .before .before .before .before .before .args in
     let r = isRemoved (recordAt (a .nums .now) (a .reals .now) (a .ints .now) (a .h .slot) .state) in
-    let e : r ≡ true = above-two (getD (getD (a .nums .now) (a .h .slot) []) 3 0) _ _ (omega (arith, tag-is (c .before), c .if3 .taken)) in
-    simp (near (c .before .before .before .before .before), fine (c .before .before .before), e)
+    let e : r ≡ true = above-two (tagIn (getD (a .nums .now) (a .h .slot) [])) _ _ (omega (arith, tag-is (c .before), c .if3 .taken)) in
+    simp (near (c .before .before .before .before .before .before), fine (c .before .before .before .before), e)
 
 returns-4 : tie.Need-returns-4
 unfolding setRefusal
 returns-4 c =
-    let a = c .before .before .before .before .before .before .before .args in
+    let a = c .before .before .before .before .before .before .before .before .args in
     let r = isRemoved (recordAt (a .nums .now) (a .reals .now) (a .ints .now) (a .h .slot) .state) in
-    let e : r ≡ false = up-to-two (getD (getD (a .nums .now) (a .h .slot) []) 3 0) _ _ (omega (arith, tag-is (c .before), c .if3 .left)) in
-    simp (near (c .before .before .before .before .before), fine (c .before .before .before), e)
+    let e : r ≡ false = up-to-two (tagIn (getD (a .nums .now) (a .h .slot) [])) _ _ (omega (arith, tag-is (c .before), c .if3 .left)) in
+    simp (near (c .before .before .before .before .before .before), fine (c .before .before .before .before), e)
 
 pub set-refusal-spec : {M : Type 1} → statement M
 set-refusal-spec =
@@ -68,6 +73,6 @@ set-refusal-spec =
     (λ c κs. search needs)
     (λ c. omega (arith, inside c))
     (λ c. inside c)
-    (λ c. search needs)
+    (λ c κs. search needs)
     returns-3
     returns-4)

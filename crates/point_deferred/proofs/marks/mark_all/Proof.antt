@@ -42,22 +42,24 @@ slot-in c = omega (arith, entry-in (c .before .before .before .before) .1, c .in
 
 loop-again : tie.Need-loop-again Inv-loop μ-loop
 loop-again c =
-    let a = c .before .before .before .before .before .before .before .before .args in
-    let l = c .before .before .before .before .before .before .before .loop in
-    let t = c .before .before .before .before .before .before .loop-test .taken in
+    let k = c .before in
+    let i = k .before .before in
+    let g = i .before .before .before .before in
+    let a = g .before .before .args in
+    let l = g .before .loop in
+    let t = g .loop-test .taken in
     let n : List (List ℕ) = a .nums .now in
     let p : List (List ℕ) = a .pool .now in
     let o : List (List ℕ) = a .cells .now in
     let w = l .inv .0 in
-    let e = c .before .before .index-of .ensures in
-    let q : first (l .cells) (l .c) ≡ first p (l .j) = c .before .before .before .if1 .taken in
-    let tag : tagAt n (c .before .before .index-of .result) ≡ tagAt n (second p (l .j)) = ap (tagAt n) e in (
+    let q : first (l .cells) (l .c) ≡ first p (l .j) = i .before .if1 .taken in
+    let tag : k .tag-in .result ≡ tagAt n (second p (l .j)) = k .tag-in .ensures ∙ ap (tagAt n) (i .index-of .ensures) in (
       w,
       ⊎-elim
           (λ v.
           let x : c .if2 .cells ≡ set (l .cells) (l .c) (first (l .cells) (l .c) ∷ 1 ∷ []) = v .2 ∙ ap (λ (y : List ℕ). set (l .cells) (l .c) y) (v .1 .ensures .0) in
           subst (λ (y : List (List ℕ)). MarkedTo n p (a .used) o (a .rows) y (l .j + 1)) (sym x)
-          (set-row n p (a .used) o (a .rows) w (l .cells) (l .j) (l .inv .1) (l .j + 1) (l .c) (first (l .cells) (l .c)) (omega arith) t (row-in (c .before .before .before .before .before .before) .0) refl q (λ z. v .0 .taken (tag ∙ z)) (v .1 .ensures .1)))
+          (set-row n p (a .used) o (a .rows) w (l .cells) (l .j) (l .inv .1) (l .j + 1) (l .c) (first (l .cells) (l .c)) (omega arith) t (row-in g .0) refl q (λ z. v .0 .taken (tag ∙ z)) (v .1 .ensures .1)))
           (λ v.
           subst (λ (y : List (List ℕ)). MarkedTo n p (a .used) o (a .rows) y (l .j + 1)) (sym (v .1))
           (passed-by n p (a .used) o (a .rows) w (l .cells) (l .j) (l .inv .1) (l .j + 1) (omega arith) (sym tag ∙ v .0 .left)))
@@ -101,12 +103,12 @@ mark-all-spec =
     (λ c κs. search needs)
     (λ c. omega (arith, slot-in c))
     (λ c. slot-in c)
-    (λ c. search needs)
     (λ c κs. search needs)
-    (λ c. let r = row-in (c .before .before .before .before .before .before .before) in omega (arith, r .0, r .1, r .2))
-    (λ c. let r = row-in (c .before .before .before .before .before .before .before) in omega (arith, r .0, r .1, r .2))
-    (λ c. omega (arith, c .before .before .before .before .before .before .loop-test .taken))
-    (λ c. omega (arith, c .before .before .before .before .before .before .loop-test .taken))
+    (λ c κs. search needs)
+    (λ c. let r = row-in (c .before .before .before .before .before .before .before .before) in omega (arith, r .0, r .1, r .2))
+    (λ c. let r = row-in (c .before .before .before .before .before .before .before .before) in omega (arith, r .0, r .1, r .2))
+    (λ c. omega (arith, c .before .before .before .before .before .before .before .loop-test .taken))
+    (λ c. omega (arith, c .before .before .before .before .before .before .before .loop-test .taken))
     loop-again
     (λ c. let r = row-in (c .before .before .before) in omega (arith, r .0, r .1, r .2))
     (λ c. let r = row-in (c .before .before .before) in omega (arith, r .0, r .1, r .2))
