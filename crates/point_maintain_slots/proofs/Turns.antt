@@ -15,7 +15,7 @@ use Rattle.slots.specs.Meaning.Slot.{live, phaseAt, emptiedNums, emptiedMap}
 use Rattle.storage.specs.Meaning.Entries.{rowOf}
 use Rattle.point_records.specs.declared.State.{State}
 use Rattle.point_records.specs.declared.State.the-variants.{Unchanged, NewPos, Relocate, Removed}
-use Rattle.point_records.specs.Meaning.Columns.{recordAt}
+use Rattle.point_records.specs.Meaning.Columns.{tagIn, recordAt}
 use Rattle.point_tables.specs.Meaning.Tables.{Tables, slotsOf, recordOn}
 use Rattle.point_tables.specs.Inner.Count.{isLive}
 use Rattle.point_maintain.specs.Meaning.Walk.{settled, settledBy}
@@ -41,7 +41,7 @@ module _ (ns : List (List ℕ)) (qs : List (List Float)) (zs : List (List ℤ)) 
   t = recordsIn ns qs zs m
 
   abbrev tag : ℕ
-  tag = getD (getD ns s []) 3 0
+  tag = tagIn (getD ns s [])
 
   abbrev cell : Cell
   cell = recordAt ns qs zs s .cell

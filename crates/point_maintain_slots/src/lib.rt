@@ -59,7 +59,7 @@ fn turn(
     if n[1] != slots::LIVE {
         return 0;
     }
-    let tag = n[3];
+    let tag = point_records::tag_in(n);
     let z = ints[s];
     if tag == 1 {
         place(nums, reals, ints, s, Cell { x: z[0], y: z[1] });
@@ -100,30 +100,30 @@ pub fn settle_slots(
     k
 }
 
-// 1 for a live row with either new-position state, else 0.
-fn one_moved(row: Row) -> u32
-    ensures { λ r. ⌜ r ≡ oneMoved row ⌝ }
+// 1 for a live slot with either new-position state, else 0.
+fn one_moved(phase: u32, tag: u32) -> u32
+    ensures { λ r. ⌜ r ≡ oneMoved phase tag ⌝ }
 {
-    if row[1] != slots::LIVE {
+    if phase != slots::LIVE {
         return 0;
     }
-    if row[3] == 1 {
+    if tag == 1 {
         return 1;
     }
-    if row[3] == 2 {
+    if tag == 2 {
         return 1;
     }
     0
 }
 
-// 1 for a live row whose object is removed, else 0.
-fn one_removed(row: Row) -> u32
-    ensures { λ r. ⌜ r ≡ oneRemoved row ⌝ }
+// 1 for a live slot whose object is removed, else 0.
+fn one_removed(phase: u32, tag: u32) -> u32
+    ensures { λ r. ⌜ r ≡ oneRemoved phase tag ⌝ }
 {
-    if row[1] != slots::LIVE {
+    if phase != slots::LIVE {
         return 0;
     }
-    if row[3] < 3 {
+    if tag < 3 {
         return 0;
     }
     1
@@ -138,9 +138,11 @@ pub fn count_moves(nums: &[Row]) -> Counts
     let mut removed: u32 = 0;
     let mut i = 0;
     while i < nums.len() {
+        let phase = nums[i][1];
         let row = nums[i];
-        moved += one_moved(row);
-        removed += one_removed(row);
+        let tag = point_records::tag_in(row);
+        moved += one_moved(phase, tag);
+        removed += one_removed(phase, tag);
         i += 1;
     }
     Counts { moved, removed }

@@ -15,25 +15,25 @@ Inv-loop nums moved₀ removed₀ i₀ moved removed i = (i ≤ length nums) × 
 abbrev μ-loop : tie.MeasureT-loop
 μ-loop nums moved₀ removed₀ i₀ moved removed i = length nums - i
 
-moved-after : (c : tie.After-one-moved Inv-loop μ-loop) → let l = c .before .before .before in l .loop .moved + c .one-moved .result ≡ movedIn (numbered (l .before .args .nums .now)) (l .loop .i + 1)
+moved-after : (c : tie.After-one-moved Inv-loop μ-loop) → let l = c .before .before .before .before .before in l .loop .moved + c .one-moved .result ≡ movedIn (numbered (l .before .args .nums .now)) (l .loop .i + 1)
 moved-after c =
-    let l = c .before .before .before in
-    moved-next (l .before .args .nums .now) (l .loop .i) (l .loop .moved) _ (l .loop .inv .1) (c .one-moved .ensures)
+    let l = c .before .before .before .before .before in
+    moved-next (l .before .args .nums .now) (l .loop .i) (l .loop .moved) _ _ (c .before .tag-in .ensures) (l .loop .inv .1) (c .one-moved .ensures)
 
-removed-after : (c : tie.After-one-removed Inv-loop μ-loop) → let l = c .before .before .before .before in l .loop .removed + c .one-removed .result ≡ removedIn (numbered (l .before .args .nums .now)) (l .loop .i + 1)
+removed-after : (c : tie.After-one-removed Inv-loop μ-loop) → let l = c .before .before .before .before .before .before in l .loop .removed + c .one-removed .result ≡ removedIn (numbered (l .before .args .nums .now)) (l .loop .i + 1)
 removed-after c =
-    let l = c .before .before .before .before in
-    removed-next (l .before .args .nums .now) (l .loop .i) (l .loop .removed) _ (l .loop .inv .2) (c .one-removed .ensures)
+    let l = c .before .before .before .before .before .before in
+    removed-next (l .before .args .nums .now) (l .loop .i) (l .loop .removed) _ _ (c .before .before .tag-in .ensures) (l .loop .inv .2) (c .one-removed .ensures)
 
 add-moved : tie.Need-add-moved Inv-loop μ-loop
 add-moved c =
-    let l = c .before .before .before in
-    omega (arith, moved-after c, moved-most (l .before .args .nums .now) (l .loop .i + 1), c .before .before .loop-test .taken, l .before .pre)
+    let l = c .before .before .before .before .before in
+    omega (arith, moved-after c, moved-most (l .before .args .nums .now) (l .loop .i + 1), c .before .before .before .before .loop-test .taken, l .before .pre)
 
 add-removed : tie.Need-add-removed Inv-loop μ-loop
 add-removed c =
-    let l = c .before .before .before .before in
-    omega (arith, removed-after c, removed-most (l .before .args .nums .now) (l .loop .i + 1), c .before .before .before .loop-test .taken, l .before .pre)
+    let l = c .before .before .before .before .before .before in
+    omega (arith, removed-after c, removed-most (l .before .args .nums .now) (l .loop .i + 1), c .before .before .before .before .before .loop-test .taken, l .before .pre)
 
 loop-again : tie.Need-loop-again Inv-loop μ-loop
 loop-again c = (omega arith, moved-after (c .before), removed-after c)
@@ -53,6 +53,10 @@ count-moves-spec =
     (λ c. (omega arith, refl, refl))
     (λ c. search needs)
     (λ c. search needs)
+    (λ c. search needs)
+    (λ c. search needs)
+    (λ c. search needs)
+    (λ c κs. tt)
     (λ c κs. tt)
     add-moved
     (λ c κs. tt)

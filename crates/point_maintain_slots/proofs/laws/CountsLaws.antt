@@ -14,7 +14,7 @@ use Rattle.cells.specs.declared.Cell.{Cell}
 use Rattle.slots.specs.Meaning.Slot.{live, phaseAt}
 use Rattle.point_records.specs.declared.State.{State}
 use Rattle.point_records.specs.declared.State.the-variants.{Unchanged, NewPos, Relocate, Removed}
-use Rattle.point_records.specs.Meaning.Columns.{pickState, stateOf, recordOf}
+use Rattle.point_records.specs.Meaning.Columns.{tagIn, pickState, stateOf, recordOf}
 use Rattle.point_records.specs.Meaning.States.{isRemoved}
 use Rattle.point_tables.specs.Meaning.Tables.{Tables, recordOn}
 use Rattle.point_maintain.specs.Meaning.Maintain.{isMoving, countStates}
@@ -32,7 +32,7 @@ module _ (test : State → Bool) (moves : (p q : Position) → test (NewPos p) �
       go false false false = refl
 
   by-row : (row : List ℕ) (q r : List Float) (z y : List ℤ) → test (recordOf row q z .state) ≡ test (recordOf row r y .state)
-  by-row row q r z y = by-tag (getD row 3 0) _ _ _ _
+  by-row row q r z y = by-tag (tagIn row) _ _ _ _
 
   counts-numbered : (t : Tables) (n : ℕ) → countStates test (numbered (t .nums)) n ≡ countStates test t n
   counts-numbered t zero = refl

@@ -1,4 +1,5 @@
 -- `point_maintain_slots::turn` meets its contract, by the phase and the tag of the slot. Assumes nothing.
+use mathlib.Core.Path.{sym, _∙_}
 use borrow.Author.Needs.{needs}
 use Rattle.point_records.proofs.Shared.{back}
 use Rattle.cells.proofs.laws.Numbers.{cell-ext}
@@ -20,10 +21,11 @@ returns-2 c =
     let y = p .before in
     let x = y .before in
     let b = x .before .before .before .before in
-    let l = b .before .before in
+    let k = b .before .before in
+    let l = k .before in
     let a = start (l .before) .args in
-    turn-moved (a .nums .now) (a .reals .now) (a .ints .now) (a .map .now) (a .s) (a .at) (a .pool .now) (l .if1 .left) (b .if2 .taken)
-    _ (cell-ext (back (x .t32 .given)) (back (y .t35 .given))) _ _ _ (p .place .ensures)
+    turn-moved (a .nums .now) (a .reals .now) (a .ints .now) (a .map .now) (a .s) (a .at) (a .pool .now) (l .if1 .left) (sym (k .tag-in .ensures) ∙ b .if2 .taken)
+    _ (cell-ext (back (x .t30 .given)) (back (y .t33 .given))) _ _ _ (p .place .ensures)
 
 put-row-requires : tie.Need-put-row-requires
 put-row-requires c κs =
@@ -31,11 +33,12 @@ put-row-requires c κs =
     let y = p .before .before .before .before in
     let x = y .before in
     let b = x .before in
-    let l = b .before .before .before in
+    let k = b .before .before .before in
+    let l = k .before in
     let s = start (l .before) in
     let a = s .args in
-    target-room (a .nums .now) (a .reals .now) (a .ints .now) (a .map .now) (a .s) (a .at) (a .pool .now) (l .if1 .left) (b .if3 .taken)
-    _ (cell-ext (back (x .t39 .given)) (back (y .t42 .given))) (s .pre .1)
+    target-room (a .nums .now) (a .reals .now) (a .ints .now) (a .map .now) (a .s) (a .at) (a .pool .now) (l .if1 .left) (sym (k .tag-in .ensures) ∙ b .if3 .taken)
+    _ (cell-ext (back (x .t37 .given)) (back (y .t40 .given))) (s .pre .1)
 
 returns-3 : tie.Need-returns-3
 returns-3 c =
@@ -44,17 +47,19 @@ returns-3 c =
     let y = p .before .before .before .before in
     let x = y .before in
     let b = x .before in
-    let l = b .before .before .before in
+    let k = b .before .before .before in
+    let l = k .before in
     let s = start (l .before) in
     let a = s .args in
-    turn-relocated (a .nums .now) (a .reals .now) (a .ints .now) (a .map .now) (a .s) (a .at) (a .pool .now) (l .if1 .left) (b .if3 .taken)
-    _ (cell-ext (back (x .t39 .given)) (back (y .t42 .given))) (s .pre .1) _ _ _ (p .place2 .ensures) _ _ (o .put-row .ensures)
+    turn-relocated (a .nums .now) (a .reals .now) (a .ints .now) (a .map .now) (a .s) (a .at) (a .pool .now) (l .if1 .left) (sym (k .tag-in .ensures) ∙ b .if3 .taken)
+    _ (cell-ext (back (x .t37 .given)) (back (y .t40 .given))) (s .pre .1) _ _ _ (p .place2 .ensures) _ _ (o .put-row .ensures)
 
 returns-4 : tie.Need-returns-4
 returns-4 c =
-    let l = c .before .before .before .before in
+    let k = c .before .before .before .before in
+    let l = k .before in
     let a = start (l .before) .args in
-    turn-unchanged (a .nums .now) (a .reals .now) (a .ints .now) (a .map .now) (a .s) (a .at) (a .pool .now) (l .if1 .left) (c .if4 .taken)
+    turn-unchanged (a .nums .now) (a .reals .now) (a .ints .now) (a .map .now) (a .s) (a .at) (a .pool .now) (l .if1 .left) (sym (k .tag-in .ensures) ∙ c .if4 .taken)
 
 returns-5 : tie.Need-returns-5
 returns-5 c =
@@ -62,10 +67,11 @@ returns-5 c =
     let e = o .before .before .before in
     let t = e .before in
     let u = t .before in
-    let l = u .before .before in
+    let k = u .before .before in
+    let l = k .before in
     let a = start (l .before) .args in
     turn-removed (a .nums .now) (a .reals .now) (a .ints .now) (a .map .now) (a .s) (a .at) (a .pool .now) (l .if1 .left)
-    (e .if4 .left) (u .if2 .left) (t .if3 .left) _ _ (o .empty .ensures .0) (o .empty .ensures .1)
+    (λ z. e .if4 .left (k .tag-in .ensures ∙ z)) (λ z. u .if2 .left (k .tag-in .ensures ∙ z)) (λ z. t .if3 .left (k .tag-in .ensures ∙ z)) _ _ (o .empty .ensures .0) (o .empty .ensures .1)
 
 pub turn-spec : {M : Type 1} → statement M
 turn-spec =
@@ -75,7 +81,7 @@ turn-spec =
     (λ c. search needs)
     (λ c. search needs)
     returns
-    (λ c. search needs)
+    (λ c κs. search needs)
     (λ c. search needs)
     (λ c. search needs)
     (λ c. search needs)

@@ -2,11 +2,10 @@
 use Prim.Native.Nat.{ℕ}
 use mathlib.Core.List.{List, []}
 use lib.Dec.{eqb}
-use lib.ListN.{getD}
 use Rattle.basics.specs.Meaning.Refusals.{pick}
 use Rattle.slots.specs.Meaning.Slot.{live}
 use Rattle.point_records.specs.declared.State.{State}
-use Rattle.point_records.specs.Meaning.Columns.{recordOf}
+use Rattle.point_records.specs.Meaning.Columns.{pendingIn}
 use Rattle.point_records.specs.Meaning.States.{isRemoved}
 use Rattle.point_tables.specs.Meaning.Tables.{Tables, tables}
 use Rattle.point_maintain.specs.Meaning.Maintain.{isMoving, countStates}
@@ -25,12 +24,12 @@ movedIn t n = countStates isMoving t n
 abbrev pub removedIn : Tables → ℕ → ℕ
 removedIn t n = countStates isRemoved t n
 
--- what one row adds
-abbrev pub stateIn : List ℕ → State
-stateIn row = recordOf row [] [] .state
+-- what one slot adds, by its phase and its tag
+abbrev pub stateBy : ℕ → State
+stateBy tag = pendingIn tag [] []
 
-abbrev pub oneMoved : List ℕ → ℕ
-oneMoved row = pick (eqb (getD row 1 0) live) (pick (isMoving (stateIn row)) 1 0) 0
+abbrev pub oneMoved : ℕ → ℕ → ℕ
+oneMoved phase tag = pick (eqb phase live) (pick (isMoving (stateBy tag)) 1 0) 0
 
-abbrev pub oneRemoved : List ℕ → ℕ
-oneRemoved row = pick (eqb (getD row 1 0) live) (pick (isRemoved (stateIn row)) 1 0) 0
+abbrev pub oneRemoved : ℕ → ℕ → ℕ
+oneRemoved phase tag = pick (eqb phase live) (pick (isRemoved (stateBy tag)) 1 0) 0
