@@ -8,6 +8,7 @@ use lib.ListN.{length, getD, set}
 use Rattle.storage.specs.Meaning.Entries.{Entry}
 use Rattle.storage.specs.Meaning.Packed.{second}
 use Rattle.storage.proofs.laws.FilterLaws.{all-any}
+use Rattle.point_records.specs.Meaning.Columns.{tagIn}
 use Rattle.point_tables.specs.Inner.Entry.{entryAt}
 use Rattle.point_maintain.specs.Meaning.Walk.{Fate, stays}
 use Rattle.point_maintain.proofs.laws.KeptLaws.{kept-calm}
@@ -46,24 +47,27 @@ module _ (nums : List (List ℕ)) (reals : List (List Float)) (P : List (List �
       rw (ap (λ (e : Entry). getD (e .row) 1 0) (walking-entry (fateIn nums reals) P S from to w₀ room p i end w pool spots k))
       (s .inside p (omega (arith, k)) (k .inside h))
 
-  module _ (s : ℕ) (q : s ≡ second pool p) where
-    fate-at : fateIn nums reals (entryAt pool spots p) ≡ fateOfTag (getD (getD nums s []) 3 0) (getD reals s []) (entryAt pool spots p)
-    fate-at = ap (λ (x : ℕ). fateOfTag (getD (getD nums x []) 3 0) (getD reals x []) (entryAt pool spots p)) (sym q)
+  -- the tag that was read is that of the entry's slot
+  module _ (s tag : ℕ) (q : s ≡ second pool p) (t : tag ≡ tagIn (getD nums s [])) where
+    fate-at : fateIn nums reals (entryAt pool spots p) ≡ fateOfTag tag (getD reals s []) (entryAt pool spots p)
+    fate-at =
+        ap (λ (x : ℕ). fateOfTag (tagIn (getD nums x [])) (getD reals x []) (entryAt pool spots p)) (sym q)
+        ∙ ap (λ (x : ℕ). fateOfTag x (getD reals s []) (entryAt pool spots p)) (sym t)
 
     abbrev laid : List Float
-    laid = spotBy (getD (getD nums s []) 3 0) (getD reals s []) (getD spots p [])
+    laid = spotBy tag (getD reals s []) (getD spots p [])
 
-    pub walk-stays : getD (getD nums s []) 3 0 < 2 → (spots′ : List (List Float)) → spots′ ≡ set spots w laid
+    pub walk-stays : tag < 2 → (spots′ : List (List Float)) → spots′ ≡ set spots w laid
         → Walking (fateIn nums reals) P S from to w₀ (i + 1) (i + 1) end (w + 1) (set pool w (getD pool p [])) spots′
     walk-stays g spots′ e =
         rw e
         (walking-stays (fateIn nums reals) P S from to w₀ room p i end w pool spots k h (getD pool p []) laid
-        (fate-at ∙ tag-stays (getD (getD nums s []) 3 0) (getD reals s []) (entryAt pool spots p) g))
+        (fate-at ∙ tag-stays tag (getD reals s []) (entryAt pool spots p) g))
 
-    pub walk-leaves : 2 ≤ getD (getD nums s []) 3 0 → Walking (fateIn nums reals) P S from to w₀ (end - 1) i (end - 1) w pool spots
+    pub walk-leaves : 2 ≤ tag → Walking (fateIn nums reals) P S from to w₀ (end - 1) i (end - 1) w pool spots
     walk-leaves g =
         walking-leaves (fateIn nums reals) P S from to w₀ room p i end w pool spots k h []
-        (fate-at ∙ tag-leaves (getD (getD nums s []) 3 0) (getD reals s []) (entryAt pool spots p) g)
+        (fate-at ∙ tag-leaves tag (getD reals s []) (entryAt pool spots p) g)
 
 -- ---- a list of which all stay
 pub move-done : (P : List (List ℕ)) (S : List (List Float)) (from to w₀ : ℕ) → Room P S from to w₀

@@ -49,7 +49,7 @@ pub fn walk_run(
         let row = pool[at];
         let s = basics::index_of(row[1]);
         let n = nums[s];
-        let tag = n[3];
+        let tag = point_records::tag_in(n);
         if tag < 2 {
             lay_spot(reals, spots, tag, s, at, w);
             pool[w] = row;

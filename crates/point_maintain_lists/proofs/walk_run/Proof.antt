@@ -39,34 +39,36 @@ slot c =
 
 lay-spot-requires : tie.Need-lay-spot-requires Inv-loop μ-loop
 lay-spot-requires c κs =
-    let n = c .before .before in
+    let n = c .before .before .before in
     let h = slot (n .before) in
     let g = within (n .before .before .before) in
     (omega arith, omega arith, omega arith)
 
 -- the entry at hand, seen from where it is laid
 abbrev at-hand : tie.After-spots Inv-loop μ-loop → tie.In-loop Inv-loop μ-loop
-at-hand c = c .before .before .before .before .before .before .before
+at-hand c = c .before .before .before .before .before .before .before .before
 
 loop-again : tie.Need-loop-again Inv-loop μ-loop
 loop-again c =
-    let d = c .before .before .before .before .before in
+    let k = c .before .before .before .before in
+    let d = k .before .before in
     let t = d .before .before in
     let l = t .before .loop in
     let s = t .before .before in
     let a = s .args in
     walk-stays (a .nums .now) (a .reals .now) (a .pool .now) (a .spots .now) (a .from) (a .to) (a .start) (s .pre .0) (l .at) (l .i) (l .end) (l .w) (l .pool) (l .spots) (l .inv) (t .loop-test .taken)
-    (d .index-of .result) (d .index-of .ensures) (c .before .before .before .if1 .taken) (c .before .lay-spot .last .1 .0) (c .before .lay-spot .ensures)
+    (d .index-of .result) (k .tag-in .result) (d .index-of .ensures) (k .tag-in .ensures) (c .before .before .before .if1 .taken) (c .before .lay-spot .last .1 .0) (c .before .lay-spot .ensures)
 
 loop-again-2 : tie.Need-loop-again-2 Inv-loop μ-loop
 loop-again-2 c =
-    let d = c .before .before in
+    let k = c .before in
+    let d = k .before .before in
     let t = d .before .before in
     let l = t .before .loop in
     let s = t .before .before in
     let a = s .args in
     walk-leaves (a .nums .now) (a .reals .now) (a .pool .now) (a .spots .now) (a .from) (a .to) (a .start) (s .pre .0) (l .at) (l .i) (l .end) (l .w) (l .pool) (l .spots) (l .inv) (t .loop-test .taken)
-    (d .index-of .result) (d .index-of .ensures) (c .if1 .left)
+    (d .index-of .result) (k .tag-in .result) (d .index-of .ensures) (k .tag-in .ensures) (c .if1 .left)
 
 same-length : tie.Need-same-length Inv-loop μ-loop
 same-length c =
@@ -102,7 +104,7 @@ walk-run-spec =
     (λ c κs. search needs)
     (λ c. let h = slot c in omega arith)
     slot
-    (λ c. search needs)
+    (λ c κs. search needs)
     lay-spot-requires
     (λ c. let h = within (at-hand c) in omega arith)
     (λ c. let h = within (at-hand c) in omega arith)

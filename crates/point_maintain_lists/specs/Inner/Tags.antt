@@ -7,6 +7,7 @@ use lib.Ieee.{Float, nan}
 use lib.ListN.{getD}
 use Rattle.basics.specs.Meaning.Refusals.{pick}
 use Rattle.storage.specs.Meaning.Entries.{Entry, entry}
+use Rattle.point_records.specs.Meaning.Columns.{tagIn}
 use Rattle.point_tables.specs.Meaning.Tables.{slotOf}
 use Rattle.point_maintain.specs.Meaning.Walk.{Fate, stays, leaves}
 
@@ -18,7 +19,7 @@ abbrev pub fateOfTag : ℕ → List Float → Entry → Fate
 fateOfTag tag q e = pick (eqb tag 0) (stays e) (pick (eqb tag 1) (stays (entry (e .row) (getD q 2 nan ∷ getD q 3 nan ∷ []))) (leaves []))
 
 abbrev pub tagOn : List (List ℕ) → Entry → ℕ
-tagOn nums e = getD (getD nums (slotOf e) []) 3 0
+tagOn nums e = tagIn (getD nums (slotOf e) [])
 
 abbrev pub fateIn : List (List ℕ) → List (List Float) → Entry → Fate
 fateIn nums reals e = fateOfTag (tagOn nums e) (getD reals (slotOf e) []) e
