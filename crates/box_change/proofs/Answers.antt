@@ -20,7 +20,7 @@ use Rattle.box_tables.specs.Meaning.Outcome.{outcome}
 use Rattle.box_tables.specs.declared.Span.{Span}
 use Rattle.box_insert.specs.Meaning.Insert.{fewCells}
 use Rattle.box_insert.proofs.laws.InsertLaws.{few-says}
-use Rattle.box_change.specs.Meaning.SetAabb.{placed, hasRoomFor, setAabbAnswer, setAabbOf}
+use Rattle.box_change.specs.Meaning.SetAabb.{withOtherBox, hasRoomFor, setAabbAnswer, setAabbOf}
 use Rattle.box_change.proofs.laws.RemoveLaws.{isGood, Names, names}
 use Rattle.box_change.proofs.laws.SetAabbLaws.{answerBy, room-for-says}
 use Rattle.box_change.specs.declared.placing.Change.{Change}
@@ -128,6 +128,6 @@ module _ (t : Tables) (h : Handle) (b : Aabb) (a : ℕ) (ea : a ≡ setAabbAnswe
   unfolding setAabbOf
   refused n = rw (← ea, ne-eqb a 0 n)
 
-  pub done : (w : ℕ) → w ≡ h .slot → a ≡ 0 → (u : Tables) → u ≡ placed t w b → outcome 0 u ≡ setAabbOf t h b
+  pub done : (w : ℕ) → w ≡ h .slot → a ≡ 0 → (u : Tables) → u ≡ withOtherBox t w b → outcome 0 u ≡ setAabbOf t h b
   unfolding setAabbOf
   done w ew z u q = rw (← ea, z, q, ew)

@@ -26,7 +26,7 @@ use Rattle.box_tables.specs.Meaning.Tables.{Tables, tables, sizeOf, counting, a
 use Rattle.box_tables.proofs.laws.BoxLaws as Box
 use Rattle.box_tables.proofs.laws.HoldsLaws.{entries-sorted, low-near, high-near}
 use Rattle.box_tables.specs.declared.Span.{Span}
-use Rattle.box_change.specs.Meaning.SetAabb.{Same, d-stay, cellsStay, recorded, moved, placed}
+use Rattle.box_change.specs.Meaning.SetAabb.{Same, d-stay, cellsStay, boxRecorded, boxMoved, withOtherBox}
 use Rattle.box_change.proofs.laws.Steps.{Movable}
 use Rattle.box_change.specs.Inner.Steps.{itemIn, leftIn, shiftedRows, shiftedMap, shiftedPool, stayIn, relistedMap, relistedPool, oldSpan}
 use Rattle.box_change.specs.Inner.Steps.{newSpan, Shifting}
@@ -132,15 +132,15 @@ module _ (t : Tables) (s : ℕ) (b : Aabb) (f : Movable t s b) where
     pub place-asks : (s < length (t .reals)) × Shifting (t .map) (t .pool) s p q
     place-asks = (rw (f .object .held .sized .of-reals) (f .object .inside), rw (ep, eq) shifting)
 
-    pub placed-is :
+    pub other-box-is :
         (qs : List (List Float)) (m : List ℕ) (pool : List (List ℕ))
         → qs ≡ set (t .reals) s (cornersOf b)
         → m ≡ relistedMap s p q (t .map) (t .pool)
         → pool ≡ relistedPool s p q (t .map) (t .pool)
-        → tables (t .nums) qs m pool ≡ placed t s b
-    unfolding placed recorded moved
-    placed-is qs m pool e1 e2 e3 = rw (e1, e2, e3, ep, eq) (go (cellsStay (sizeOf t) (aabbOn t s) b))
+        → tables (t .nums) qs m pool ≡ withOtherBox t s b
+    unfolding withOtherBox boxRecorded boxMoved
+    other-box-is qs m pool e1 e2 e3 = rw (e1, e2, e3, ep, eq) (go (cellsStay (sizeOf t) (aabbOn t s) b))
       where
-        go : (c : Bool) → tables (t .nums) (set (t .reals) s (cornersOf b)) (pick c (t .map) (shiftedMap s (oldSpan (t .reals) (t .map) s) (newSpan (t .map) b) (t .map) (t .pool))) (pick c (t .pool) (shiftedPool s (oldSpan (t .reals) (t .map) s) (newSpan (t .map) b) (t .map) (t .pool))) ≡ pick c (recorded t s b) (moved t s b)
+        go : (c : Bool) → tables (t .nums) (set (t .reals) s (cornersOf b)) (pick c (t .map) (shiftedMap s (oldSpan (t .reals) (t .map) s) (newSpan (t .map) b) (t .map) (t .pool))) (pick c (t .pool) (shiftedPool s (oldSpan (t .reals) (t .map) s) (newSpan (t .map) b) (t .map) (t .pool))) ≡ pick c (boxRecorded t s b) (boxMoved t s b)
         go true = refl
         go false = refl

@@ -9,7 +9,7 @@ ghost use Rattle.basics.specs.Meaning.Lent.{was, is};
 ghost use Rattle.trace_decimals.specs.Meaning.Text.{decimal, signedText};
 ghost use Rattle.trace_decimals.specs.Meaning.Fields.{digitsFrom, upTo, numberOf, countOf, plain as Fields·plain, negative as Fields·negative};
 ghost use Rattle.trace_decimals.specs.Inner.Fields.{Short};
-ghost use Rattle.trace_decimals.specs.Meaning.Written.{written, put};
+ghost use Rattle.trace_decimals.specs.Meaning.Written.{buffer, putText};
 
 // What a field reads as.
 pub enum Number {
@@ -124,7 +124,7 @@ pub fn read_count(b: &[u8], from: usize, to: usize) -> Count
 // One byte at `at`, as all that is written here: answers where the next one goes.
 pub fn put_byte(out: &mut [u8], at: usize, c: u8) -> usize
     requires { ⌜ at < length (now out) ⌝ }
-    ensures { λ r. ⌜ written (is out) r ≡ put (written (was out) at) (c ∷ []) ⌝ }
+    ensures { λ r. ⌜ buffer (is out) r ≡ putText (buffer (was out) at) (c ∷ []) ⌝ }
 {
     out[at] = c;
     at + 1
@@ -140,7 +140,7 @@ fn digit_of(d: u32) -> u8
 // The digits of n.
 fn put_digits(out: &mut [u8], at: usize, n: u32) -> usize
     requires { ⌜ at + length (decimal n) ≤ length (now out) ⌝ }
-    ensures { λ r. ⌜ written (is out) r ≡ put (written (was out) at) (decimal n) ⌝ }
+    ensures { λ r. ⌜ buffer (is out) r ≡ putText (buffer (was out) at) (decimal n) ⌝ }
 {
     let last = digit_of(n % 10);
     if n < 10 {
@@ -153,7 +153,7 @@ fn put_digits(out: &mut [u8], at: usize, n: u32) -> usize
 // n in decimal. The longest text has 10 digits.
 pub fn put_number(out: &mut [u8], at: usize, n: u32) -> usize
     requires { ⌜ at + 10 ≤ length (now out) ⌝ }
-    ensures { λ r. ⌜ written (is out) r ≡ put (written (was out) at) (decimal n) ⌝ }
+    ensures { λ r. ⌜ buffer (is out) r ≡ putText (buffer (was out) at) (decimal n) ⌝ }
 {
     put_digits(out, at, n)
 }
@@ -170,7 +170,7 @@ fn magnitude(k: i32) -> u32
 // k in decimal. The longest text has a minus and 10 digits.
 pub fn put_count(out: &mut [u8], at: usize, k: i32) -> usize
     requires { ⌜ at + 11 ≤ length (now out) ⌝ }
-    ensures { λ r. ⌜ written (is out) r ≡ put (written (was out) at) (signedText k) ⌝ }
+    ensures { λ r. ⌜ buffer (is out) r ≡ putText (buffer (was out) at) (signedText k) ⌝ }
 {
     if k < 0 {
         let next = put_byte(out, at, 45);

@@ -2,7 +2,7 @@
 ghost use Prim.Native.Nat.{_+_, _≤_};
 ghost use lib.ListN.{length, take};
 ghost use Rattle.basics.specs.Meaning.Lent.{was, is};
-ghost use Rattle.trace_decimals.specs.Meaning.Written.{written};
+ghost use Rattle.trace_decimals.specs.Meaning.Written.{buffer};
 ghost use Rattle.trace_printing.specs.Meaning.Said.{longest};
 ghost use Rattle.trace_replay.specs.Meaning.Replay.{Replays};
 ghost use Rattle.trace_answers.specs.Meaning.Cell.{Builds};
@@ -60,7 +60,7 @@ pub fn answer_record(
     at: usize,
 ) -> usize
     requires { ⌜ at + longest ≤ length (now out) ⌝ }
-    ensures { λ r. ⌜ Replays (take len (was line)) (written (was out) at) (written (is out) r) nums reals ints map pool spots cells bnums breals bmap bpool ⌝ }
+    ensures { λ r. ⌜ Replays (take len (was line)) (buffer (was out) at) (buffer (is out) r) nums reals ints map pool spots cells bnums breals bmap bpool ⌝ }
     ensures { λ r. ⌜ r ≤ at + longest ⌝ }
 {
     let mut handles = [[0u32; 2]; 256];

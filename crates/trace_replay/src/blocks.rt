@@ -3,13 +3,13 @@ ghost use mathlib.Core.Path.{_≡_};
 ghost use lib.ListN.{length, drop};
 ghost use Rattle.basics.specs.Meaning.Lent.{was, is};
 ghost use Rattle.trace_splits.specs.Meaning.Sofar.{sofar};
-ghost use Rattle.trace_replay.specs.Meaning.Next.{found, nextOf};
+ghost use Rattle.trace_replay.specs.Meaning.Next.{nextFound, nextOf};
 use crate::Found;
 use trace_splits::Splitter;
 
 // From place `from` of the block up to the end of a record, or of the block.
 pub fn next_record(line: &mut [u8], state: Splitter, block: &[u8], from: usize) -> Found
-    ensures { λ r. ⌜ found (is line) r ≡ nextOf (length (was line)) (sofar (was line) state) from (drop from (was block)) ⌝ }
+    ensures { λ r. ⌜ nextFound (is line) r ≡ nextOf (length (was line)) (sofar (was line) state) from (drop from (was block)) ⌝ }
 {
     let mut so_far = state;
     let mut at = from;

@@ -36,22 +36,22 @@ abbrev pub cellsStay : ℕ → Aabb → Aabb → Bool
 cellsStay size old new = said (d-stay (lowCell size old) (highCell size old) (lowCell size new) (highCell size new))
 
 -- only the record changes
-unfoldable pub recorded : Tables → ℕ → Aabb → Tables
-recorded t s b = tables (t .nums) (set (t .reals) s (cornersOf b)) (t .map) (t .pool)
+unfoldable pub boxRecorded : Tables → ℕ → Aabb → Tables
+boxRecorded t s b = tables (t .nums) (set (t .reals) s (cornersOf b)) (t .map) (t .pool)
 
 -- the entries after it has left its old cells and entered its new ones: its mark is that of the new box
 abbrev pub entriesMoved : Tables → ℕ → Aabb → List (List ℕ)
 entriesMoved t s b = enteredBy (sizeOf t) s b (entriesWithout t s)
 
 -- leaving writes the rows in use after it, then entering does: what stands behind them stays
-unfoldable pub moved : Tables → ℕ → Aabb → Tables
-moved t s b =
+unfoldable pub boxMoved : Tables → ℕ → Aabb → Tables
+boxMoved t s b =
     tables (t .nums) (set (t .reals) s (cornersOf b)) (counting (t .map) (length (entriesMoved t s b)))
     (written (entriesMoved t s b) (written (entriesWithout t s) (t .pool)))
 
-unfoldable pub placed : Tables → ℕ → Aabb → Tables
-unfolding recorded moved
-placed t s b = pick (cellsStay (sizeOf t) (aabbOn t s) b) (recorded t s b) (moved t s b)
+unfoldable pub withOtherBox : Tables → ℕ → Aabb → Tables
+unfolding boxRecorded boxMoved
+withOtherBox t s b = pick (cellsStay (sizeOf t) (aabbOn t s) b) (boxRecorded t s b) (boxMoved t s b)
 
 -- entries in use, less the box's old ones, plus its new ones, are within the pool
 abbrev pub hasRoomFor : Tables → ℕ → Aabb → Bool
@@ -70,5 +70,5 @@ unfoldable pub setAabbAnswer : Tables → Handle → Aabb → ℕ
 setAabbAnswer t h b = firstOf (setAabbTests t h b)
 
 unfoldable pub setAabbOf : Tables → Handle → Aabb → Outcome ℕ
-unfolding setAabbAnswer placed
-setAabbOf t h b = byTests (setAabbTests t h b) (outcome 0 (placed t (h .slot) b)) (λ a. outcome a t)
+unfolding setAabbAnswer withOtherBox
+setAabbOf t h b = byTests (setAabbTests t h b) (outcome 0 (withOtherBox t (h .slot) b)) (λ a. outcome a t)

@@ -16,8 +16,8 @@ takenFrom (k ∷ ks) item rows = takenFrom ks item (onList rowKey k (takeOut (is
 abbrev pub keysWith : ℕ → List (List ℕ) → List ℕ
 keysWith item rows = map rowKey (filter (isItem item) rows)
 
-abbrev pub taken : ℕ → List (List ℕ) → List (List ℕ)
-taken item rows = takenFrom (keysWith item rows) item rows
+abbrev pub takenFromAll : ℕ → List (List ℕ) → List (List ℕ)
+takenFromAll item rows = takenFrom (keysWith item rows) item rows
 
 -- no row from a place up to another has it
 abbrev pub Without : ℕ → List (List ℕ) → ℕ → ℕ → Type 0

@@ -27,7 +27,7 @@ use Rattle.box_get.specs.Meaning.Reads.{lenOf}
 use Rattle.box_get.proofs.laws.ReadsLaws.{len-counts}
 use Rattle.box_get.specs.Meaning.Clear.{clearOf}
 use Rattle.box_get.proofs.laws.ClearLaws.{clear-refused, clear-none, clear-holds, clear-counts}
-use Rattle.box_histories.specs.Inner.History.{Op, insert, setAabb, remove, clear, after, afterAll, accepted, putIn, takenOut, allIn, allOut}
+use Rattle.box_histories.specs.Inner.History.{Op, insert, setAabb, remove, clear, after, afterAll, accepted, putIn, objectsTakenOut, allIn, allOut}
 
 -- ---- every call keeps the tables holding a grid
 pub after-holds : (t : Tables) (o : Op) → Holds t → Holds (after t o)
@@ -60,8 +60,8 @@ module _ (t : Tables) (h : Holds t) where
       go false e = rw e (omega (arith, ap (λ w. liveCount (w .after)) (clear-refused t bs os (eqb-false _ _ e))))
 
   -- ---- one call
-  pub one-length : (o : Op) → liveCount (after t o) + takenOut t o ≡ liveCount t + putIn t o
-  unfolding after takenOut putIn
+  pub one-length : (o : Op) → liveCount (after t o) + objectsTakenOut t o ≡ liveCount t + putIn t o
+  unfolding after objectsTakenOut putIn
   one-length (insert b d) = omega (arith, insert-count t b d h)
   one-length (setAabb g b) = omega (arith, set-live t g b)
   one-length (remove g) = omega (arith, remove-live t g)

@@ -43,11 +43,11 @@ putIn t (setAabb h b) = 0
 putIn t (remove h) = 0
 putIn t (clear boxes objs) = 0
 
-unfoldable pub takenOut : Tables → Op → ℕ
-takenOut t (insert b d) = 0
-takenOut t (setAabb h b) = 0
-takenOut t (remove h) = accepted (removeOf t h .result .answer) 1
-takenOut t (clear boxes objs) = accepted (clearOf t boxes objs .result .returned .answer) (clearOf t boxes objs .result .returned .count)
+unfoldable pub objectsTakenOut : Tables → Op → ℕ
+objectsTakenOut t (insert b d) = 0
+objectsTakenOut t (setAabb h b) = 0
+objectsTakenOut t (remove h) = accepted (removeOf t h .result .answer) 1
+objectsTakenOut t (clear boxes objs) = accepted (clearOf t boxes objs .result .returned .answer) (clearOf t boxes objs .result .returned .count)
 
 unfoldable pub allIn : Tables → List Op → ℕ
 unfolding putIn after
@@ -55,6 +55,6 @@ allIn t [] = 0
 allIn t (o ∷ os) = putIn t o + allIn (after t o) os
 
 unfoldable pub allOut : Tables → List Op → ℕ
-unfolding takenOut after
+unfolding objectsTakenOut after
 allOut t [] = 0
-allOut t (o ∷ os) = takenOut t o + allOut (after t o) os
+allOut t (o ∷ os) = objectsTakenOut t o + allOut (after t o) os

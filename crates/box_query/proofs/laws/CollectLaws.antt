@@ -19,8 +19,8 @@ use Rattle.storage.proofs.laws.PackedLaws.{all-first}
 use Rattle.storage.proofs.laws.FilterLaws.{all-back, all-over, filter-all}
 use Rattle.box_tables.specs.Meaning.Tables.{slotOf}
 use Rattle.box_query.specs.Meaning.Firsts.{firsts}
-use Rattle.box_query.specs.Inner.Marks.{marked, fresh, unmarked}
-use Rattle.box_query.proofs.laws.MarksLaws.{length-marked, marked-append, fresh-append, fresh-firsts, fresh-room, unmarked-none, unmarked-some}
+use Rattle.box_query.specs.Inner.Marks.{marksAfter, fresh, unmarked}
+use Rattle.box_query.proofs.laws.MarksLaws.{length-marks-after, marks-after-append, fresh-append, fresh-firsts, fresh-room, unmarked-none, unmarked-some}
 use Rattle.box_query.specs.Inner.Gather.{Slots, slotsIn, inside}
 use Rattle.box_query.specs.Inner.Collected.{Collected}
 
@@ -46,11 +46,11 @@ module _ (pool : List (List ℕ)) (from : ℕ) where
 -- ---- slot after slot
 module _ (m : List Bool) (fs : List ℕ) (n : ℕ) where
   pub collected-none : (l : List ℕ) → l ≡ [] → Collected m fs n l m fs n
-  unfolding marked fresh
+  unfolding marksAfter fresh
   collected-none l e =
       record {
         number = omega (arith, ap (λ (l : List ℕ). length (fresh m l)) e);
-        marks-after = ap (marked m) (sym e);
+        marks-after = ap (marksAfter m) (sym e);
         first = sym (ap (λ (l : List ℕ). take n fs ++ fresh m l) e ∙ append-nil (take n fs));
         size = refl;
       }
@@ -64,14 +64,14 @@ module _ (m : List Bool) (fs : List ℕ) (n : ℕ) where
         ∙ ap (λ (w : List Bool). fresh m l ++ pick (getD w s false) [] (s ∷ [])) (sym (c .marks-after))
         ∙ ap (λ (w : Bool). fresh m l ++ pick w [] (s ∷ [])) e
 
-    one-marked : set marks s true ≡ marked m (l ++ (s ∷ []))
-    unfolding marked
-    one-marked = ap (λ (w : List Bool). set w s true) (c .marks-after) ∙ sym (marked-append m l (s ∷ []))
+    one-marked : set marks s true ≡ marksAfter m (l ++ (s ∷ []))
+    unfolding marksAfter
+    one-marked = ap (λ (w : List Bool). set w s true) (c .marks-after) ∙ sym (marks-after-append m l (s ∷ []))
 
     pub collected-room : length m ≡ 256 → All (λ s. s < 256) l → n + unmarked m ≤ 256 → s < 256 → getD marks s false ≡ false → k < 256
     collected-room lm a u h e =
         let w : All (λ s. s < length m) l = subst (λ (b : ℕ). All (λ s. s < b) l) (sym lm) a in
-        let g : s < length marks = omega (arith, ap length (c .marks-after) ∙ length-marked m l) in
+        let g : s < length marks = omega (arith, ap length (c .marks-after) ∙ length-marks-after m l) in
         omega (arith, c .number, fresh-room m l w, ap unmarked (c .marks-after), unmarked-some marks s g e)
 
     pub collected-taken : getD marks s false ≡ false → k < length fs → Collected m fs n (l ++ (s ∷ [])) (set marks s true) (set found k s) (k + 1)
@@ -145,11 +145,11 @@ module _ (low high : ℕ) (pool : List (List ℕ)) (used : ℕ) (room : used ≤
         let a′ : All (λ s. s < length marks) l = subst (λ (b : ℕ). All (λ s. s < b) l) (sym (g .marks-size)) a in
         record {
           few = omega (arith, g .few, c .number, fresh-room marks l a′, ap unmarked (c .marks-after));
-          marks-size = ap length (c .marks-after) ∙ length-marked marks l ∙ g .marks-size;
+          marks-size = ap length (c .marks-after) ∙ length-marks-after marks l ∙ g .marks-size;
           size = c .size ∙ g .size;
           whole =
               (λ z. c .first z ++ fresh (c .marks-after z) (slotsFrom (r .to)))
-              ∙ append-assoc (take n found) (fresh marks l) (fresh (marked marks l) (slotsFrom (r .to)))
+              ∙ append-assoc (take n found) (fresh marks l) (fresh (marksAfter marks l) (slotsFrom (r .to)))
               ∙ ap (λ (x : List ℕ). take n found ++ x) (sym (fresh-append marks l (slotsFrom (r .to))))
               ∙ ap (λ (x : List ℕ). take n found ++ fresh marks x) (sym stretch)
               ∙ g .whole;

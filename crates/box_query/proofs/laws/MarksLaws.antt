@@ -14,21 +14,21 @@ use Rattle.storage.specs.Meaning.Keyed.{All, filter}
 use Rattle.storage.proofs.laws.FilterLaws.{by-test, all-map, all-any, filter-whole, filter-same, filter-both}
 use Rattle.box_query.specs.Meaning.Firsts.{isOther, firsts}
 use Rattle.box_query.proofs.laws.FirstsLaws.{other-yes, all-firsts}
-use Rattle.box_query.specs.Inner.Marks.{marked, fresh, unmarked}
+use Rattle.box_query.specs.Inner.Marks.{marksAfter, fresh, unmarked}
 
 -- ---- list after list
-pub length-marked : (m : List Bool) (l : List ℕ) → length (marked m l) ≡ length m
-unfolding marked
-length-marked m [] = refl
-length-marked m (s ∷ l) = length-marked (set m s true) l ∙ length-set m s true
+pub length-marks-after : (m : List Bool) (l : List ℕ) → length (marksAfter m l) ≡ length m
+unfolding marksAfter
+length-marks-after m [] = refl
+length-marks-after m (s ∷ l) = length-marks-after (set m s true) l ∙ length-set m s true
 
-pub marked-append : (m : List Bool) (a b : List ℕ) → marked m (a ++ b) ≡ marked (marked m a) b
-unfolding marked
-marked-append m [] b = refl
-marked-append m (s ∷ a) b = marked-append (set m s true) a b
+pub marks-after-append : (m : List Bool) (a b : List ℕ) → marksAfter m (a ++ b) ≡ marksAfter (marksAfter m a) b
+unfolding marksAfter
+marks-after-append m [] b = refl
+marks-after-append m (s ∷ a) b = marks-after-append (set m s true) a b
 
-pub fresh-append : (m : List Bool) (a b : List ℕ) → fresh m (a ++ b) ≡ fresh m a ++ fresh (marked m a) b
-unfolding fresh marked
+pub fresh-append : (m : List Bool) (a b : List ℕ) → fresh m (a ++ b) ≡ fresh m a ++ fresh (marksAfter m a) b
+unfolding fresh marksAfter
 fresh-append m [] b = refl
 fresh-append m (s ∷ a) b =
     by-test (getD m s false)
@@ -73,8 +73,8 @@ unmarked-set [] s h = absurd (omega arith)
 unmarked-set (b ∷ m) zero h = omega arith
 unmarked-set (b ∷ m) (suc s) h = omega (arith, unmarked-set m s (omega arith))
 
-pub fresh-room : (m : List Bool) (l : List ℕ) → All (λ s. s < length m) l → length (fresh m l) + unmarked (marked m l) ≡ unmarked m
-unfolding fresh marked
+pub fresh-room : (m : List Bool) (l : List ℕ) → All (λ s. s < length m) l → length (fresh m l) + unmarked (marksAfter m l) ≡ unmarked m
+unfolding fresh marksAfter
 fresh-room m [] a = omega arith
 fresh-room m (s ∷ l) a =
     let rest = fresh-room (set m s true) l (rw (length-set m s true) (a .1)) in

@@ -6,9 +6,9 @@ use lib.ListN.{getD, set}
 use Rattle.basics.specs.Meaning.Refusals.{pick}
 
 -- the marks after the slots of a list
-unfoldable pub marked : List Bool → List ℕ → List Bool
-marked marks [] = marks
-marked marks (s ∷ l) = marked (set marks s true) l
+unfoldable pub marksAfter : List Bool → List ℕ → List Bool
+marksAfter marks [] = marks
+marksAfter marks (s ∷ l) = marksAfter (set marks s true) l
 
 -- the slots of a list that have no mark, each once
 unfoldable pub fresh : List Bool → List ℕ → List ℕ

@@ -18,7 +18,7 @@ use Rattle.storage.specs.Meaning.Packed.{first, second, Packed}
 use Rattle.point_records.specs.declared.State.{State}
 use Rattle.point_records.specs.declared.State.the-variants.{Unchanged, NewPos, Relocate, Removed}
 use Rattle.point_records.specs.declared.Record.{Record}
-use Rattle.point_records.specs.Meaning.Columns.{tagOf, numsOf}
+use Rattle.point_records.specs.Meaning.Columns.{tagIn, tagOf, numsOf}
 use Rattle.point_records.specs.Meaning.Occupied.{Agrees, Occupied}
 use Rattle.point_records.proofs.laws.OccupiedLaws.{aimed-agrees}
 use Rattle.point_records.specs.Meaning.States.{aimed, withState}
@@ -63,10 +63,10 @@ module _ (t : Tables) (s : ℕ) (state : State) (h : Holds t) (l : s < slotsOf t
       let o = h .records s l p .occupied in
       rw (record-same t s state ready l) (record { in-domain = o .in-domain; in-cell = o .in-cell; agrees = a })
 
-  record-after : (j : ℕ) → j < slotsOf t → phaseAt (u .nums) j ≡ live → (getD (getD (u .nums) j []) 3 0 ≤ 3) × Occupied (sizeOf t) (recordOn u j)
+  record-after : (j : ℕ) → j < slotsOf t → phaseAt (u .nums) j ≡ live → (tagIn (getD (u .nums) j []) ≤ 3) × Occupied (sizeOf t) (recordOn u j)
   record-after j m q =
       ⊎-elim
-      (λ e. subst (λ (k : ℕ). (getD (getD (u .nums) k []) 3 0 ≤ 3) × Occupied (sizeOf t) (recordOn u k)) (sym e) (rw (tag-same t s state ready l) (tag-most state), occupied-after))
+      (λ e. subst (λ (k : ℕ). (tagIn (getD (u .nums) k []) ≤ 3) × Occupied (sizeOf t) (recordOn u k)) (sym e) (rw (tag-same t s state ready l) (tag-most state), occupied-after))
       (λ n.
       let w = h .records j m (sym (phase-kept j) ∙ q) in
       (rw (tag-other t s state ready l j n) (w .tagged), rw (record-other t s state ready l j n) (w .occupied)))

@@ -12,7 +12,7 @@ use Rattle.slots.specs.Meaning.Slot.{live, phaseAt}
 use Rattle.storage.specs.Meaning.Packed.{first, second}
 use Rattle.point_records.specs.declared.State.{State}
 use Rattle.point_records.specs.declared.Record.{Record}
-use Rattle.point_records.specs.Meaning.Columns.{numsOf, tagOf}
+use Rattle.point_records.specs.Meaning.Columns.{tagIn, numsOf, tagOf}
 use Rattle.point_records.proofs.laws.ColumnLaws.{stored-same, stored-other}
 use Rattle.point_records.specs.Meaning.States.{withState}
 use Rattle.point_tables.specs.Meaning.Tables.{Tables, slotsOf, recordOn}
@@ -56,11 +56,11 @@ module _ (t : Tables) (s : ℕ) (state : State) where
         (λ n. ap f (record-other j n))
         (d-eq j s)
 
-    pub tag-same : getD (getD (pended t s state .nums) s []) 3 0 ≡ tagOf state
+    pub tag-same : tagIn (getD (pended t s state .nums) s []) ≡ tagOf state
     unfolding pended
     tag-same = rw (getD-set-same (t .nums) s (numsOf (withState (recordOn t s) state)) [] l)
 
-    pub tag-other : (j : ℕ) → (j ≡ s → ⊥) → getD (getD (pended t s state .nums) j []) 3 0 ≡ getD (getD (t .nums) j []) 3 0
+    pub tag-other : (j : ℕ) → (j ≡ s → ⊥) → tagIn (getD (pended t s state .nums) j []) ≡ tagIn (getD (t .nums) j [])
     unfolding pended
     tag-other j n = rw (getD-set-other (t .nums) s j (numsOf (withState (recordOn t s) state)) [] n)
 

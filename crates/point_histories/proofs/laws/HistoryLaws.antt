@@ -41,7 +41,7 @@ use Rattle.point_get.specs.Meaning.{lenOf}
 use Rattle.point_get.proofs.laws.ReadsLaws.{len-0}
 use Rattle.point_get.proofs.laws.LenLaws.{len-used}
 use Rattle.point_histories.specs.Inner.History.{Op, insert, setPosition, remove, batch, maintain, removeMaintain, clear, after, afterAll, accepted}
-use Rattle.point_histories.specs.Inner.History.{putIn, takenOut, allIn, allOut}
+use Rattle.point_histories.specs.Inner.History.{putIn, objectsTakenOut, allIn, allOut}
 use Rattle.replies.specs.Meaning.Replies.{reply}
 
 -- ---- every call keeps the tables holding a grid
@@ -129,8 +129,8 @@ module _ (t : Tables) (h : Holds t) where
       go false e = rw e (omega (arith, ap (λ w. usedOf (w .after)) (clear-refused t ps os (eqb-false _ _ e))))
 
   -- ---- one call
-  pub one-length : (o : Op) → usedOf (after t o) + takenOut t o ≡ usedOf t + putIn t o
-  unfolding after takenOut putIn
+  pub one-length : (o : Op) → usedOf (after t o) + objectsTakenOut t o ≡ usedOf t + putIn t o
+  unfolding after objectsTakenOut putIn
   one-length (insert p d) = omega (arith, insert-used p d)
   one-length (setPosition g p) = omega (arith, set-used t g p)
   one-length (remove g) = omega (arith, remove-used t g)

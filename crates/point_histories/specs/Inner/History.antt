@@ -54,14 +54,14 @@ putIn t maintain = 0
 putIn t (removeMaintain h) = 0
 putIn t (clear places objs) = 0
 
-unfoldable pub takenOut : Tables → Op → ℕ
-takenOut t (insert p d) = 0
-takenOut t (setPosition h p) = 0
-takenOut t (remove h) = 0
-takenOut t (batch kinds handles positions out) = 0
-takenOut t maintain = maintainOf t .result .removed
-takenOut t (removeMaintain h) = accepted (removeMaintainOf t h .result .answer) 1
-takenOut t (clear places objs) = accepted (clearOf t places objs .result .returned .answer) (clearOf t places objs .result .returned .count)
+unfoldable pub objectsTakenOut : Tables → Op → ℕ
+objectsTakenOut t (insert p d) = 0
+objectsTakenOut t (setPosition h p) = 0
+objectsTakenOut t (remove h) = 0
+objectsTakenOut t (batch kinds handles positions out) = 0
+objectsTakenOut t maintain = maintainOf t .result .removed
+objectsTakenOut t (removeMaintain h) = accepted (removeMaintainOf t h .result .answer) 1
+objectsTakenOut t (clear places objs) = accepted (clearOf t places objs .result .returned .answer) (clearOf t places objs .result .returned .count)
 
 unfoldable pub allIn : Tables → List Op → ℕ
 unfolding putIn after
@@ -69,6 +69,6 @@ allIn t [] = 0
 allIn t (o ∷ os) = putIn t o + allIn (after t o) os
 
 unfoldable pub allOut : Tables → List Op → ℕ
-unfolding takenOut after
+unfolding objectsTakenOut after
 allOut t [] = 0
-allOut t (o ∷ os) = takenOut t o + allOut (after t o) os
+allOut t (o ∷ os) = objectsTakenOut t o + allOut (after t o) os

@@ -29,7 +29,7 @@ use Rattle.point_records.specs.Meaning.States.{isRemoved}
 use Rattle.point_tables.specs.Meaning.Tables.{Tables, sizeOf, slotsOf, recordOn, entriesIn, slotOf}
 use Rattle.point_tables.specs.Meaning.Holds.{Holds}
 use Rattle.point_tables.specs.Inner.Count.{isLive}
-use Rattle.point_maintain.specs.Meaning.Walk.{moved, entryAt, fateBy, fate, staying}
+use Rattle.point_maintain.specs.Meaning.Walk.{entryTaking, entryAt, fateBy, fate, staying}
 use Rattle.point_maintain.specs.Meaning.Maintain.{cellKeys}
 use Rattle.point_maintain.proofs.laws.SettleForm.{settledAs}
 use Rattle.point_maintain.proofs.laws.Settle.{among}
@@ -157,7 +157,7 @@ module _ (t : Tables) (h : Holds t) where
     where
       go : (st : State) → recordOn t (slotOf e) .state ≡ st → All (Named (settledAll t)) (staying (fateBy (sizeOf t) e st))
       go Unchanged q = (named-as e (n .inside) (recordOn t (slotOf e)) (after-as (slotOf e) (n .inside) (n .occupied) Unchanged q) (n .occupied) (n .key) (n .at-x) (n .at-y), tt)
-      go (NewPos p) q = (named-as (moved e p) (n .inside) _ (after-as (slotOf e) (n .inside) (n .occupied) (NewPos p) q) (n .occupied) (n .key) refl refl, tt)
+      go (NewPos p) q = (named-as (entryTaking e p) (n .inside) _ (after-as (slotOf e) (n .inside) (n .occupied) (NewPos p) q) (n .occupied) (n .key) refl refl, tt)
       go (Relocate p c) q = tt
       go Removed q = tt
 

@@ -16,7 +16,7 @@ use Rattle.point_records.specs.Meaning.States.{isRemoved}
 use Rattle.point_tables.specs.Meaning.Tables.{Tables, rowsOf, slotsOf, recordOn}
 use Rattle.point_tables.specs.Meaning.Holds.{Holds}
 use Rattle.point_tables.specs.Inner.Count.{isLive}
-use Rattle.point_maintain.specs.Meaning.Walk.{placed}
+use Rattle.point_maintain.specs.Meaning.Walk.{recordTaking}
 use Rattle.point_maintain.specs.Meaning.Maintain.{maintained}
 use Rattle.point_maintain.proofs.laws.SettleForm.{settledAs, settledRecord}
 use Rattle.point_maintain.proofs.laws.SettledForm.{maintained-is}
@@ -24,10 +24,10 @@ use Rattle.point_maintain.proofs.laws.RecordsAfterLaws.{all-records, al
 use Rattle.point_maintain.proofs.laws.MaintainKeeps.{after-slots, after-record, after-calm, after-marks}
 
 -- an object that is not removed: at its pending position if it had one, else where it was, and nothing is pending any more
-pub settled-is : (r : Record) → isRemoved (r .state) ≡ false → settledRecord r ≡ placed r (pendingOf (r .state) (r .position)) (targetOf (r .state) (r .cell))
+pub settled-is : (r : Record) → isRemoved (r .state) ≡ false → settledRecord r ≡ recordTaking r (pendingOf (r .state) (r .position)) (targetOf (r .state) (r .cell))
 settled-is r n = go (r .state) refl n
   where
-    go : (st : State) → r .state ≡ st → isRemoved st ≡ false → settledAs r st ≡ placed r (pendingOf st (r .position)) (targetOf st (r .cell))
+    go : (st : State) → r .state ≡ st → isRemoved st ≡ false → settledAs r st ≡ recordTaking r (pendingOf st (r .position)) (targetOf st (r .cell))
     go Unchanged e n = ap (λ (st : State). let w : Record = record { version = r .version; phase = r .phase; obj = r .obj; position = r .position; cell = r .cell; state = st } in w) e
     go (NewPos p) e n = refl
     go (Relocate p c) e n = refl
@@ -48,7 +48,7 @@ module _ (t : Tables) (h : Holds t) where
 
     -- each at its pending position, if it had one
     pub maintained-object : phaseAt (t .nums) i ≡ live → isRemoved (recordOn t i .state) ≡ false
-        → recordOn (maintained t) i ≡ placed (recordOn t i) (pendingOf (recordOn t i .state) (recordOn t i .position)) (targetOf (recordOn t i .state) (recordOn t i .cell))
+        → recordOn (maintained t) i ≡ recordTaking (recordOn t i) (pendingOf (recordOn t i .state) (recordOn t i .position)) (targetOf (recordOn t i .state) (recordOn t i .cell))
     maintained-object p n = maintained-record ∙ rw (eq-eqb (phaseAt (t .nums) i) live p) (settled-is (recordOn t i) n)
 
   -- nothing is left to be done

@@ -21,7 +21,7 @@ use Rattle.point_records.specs.Meaning.States.{isRemoved}
 use Rattle.point_tables.specs.Meaning.Tables.{Tables, sizeOf, slotsOf, recordOn}
 use Rattle.point_tables.specs.Meaning.Holds.{RecordHolds, Holds}
 use Rattle.point_tables.specs.Inner.Count.{isLive}
-use Rattle.point_maintain.specs.Meaning.Walk.{placed, settledBy, settled}
+use Rattle.point_maintain.specs.Meaning.Walk.{recordTaking, settledBy, settled}
 use Rattle.point_maintain.proofs.laws.SettleForm.{Rows, rowsAt, recordIn, rowsBy, rowsAfter, settledAs, settledRecord, rows-record}
 use Rattle.point_maintain.specs.Inner.SettleLaws.{Shaped}
 use Rattle.point_maintain.proofs.laws.SettleLaws.{sized-shaped}
@@ -69,8 +69,8 @@ settled-holds t s shape h l p = go (recordOn t s .state)
   where
     go : (st : State) → SlotsHold (settledBy t s st .nums) (settledBy t s st .map)
     go Unchanged = h
-    go (NewPos q) = row-holds (t .nums) (t .map) h s l (numsOf (placed (recordOn t s) q (recordOn t s .cell))) refl refl
-    go (Relocate q c) = row-holds (t .nums) (t .map) h s l (numsOf (placed (recordOn t s) q c)) refl refl
+    go (NewPos q) = row-holds (t .nums) (t .map) h s l (numsOf (recordTaking (recordOn t s) q (recordOn t s .cell))) refl refl
+    go (Relocate q c) = row-holds (t .nums) (t .map) h s l (numsOf (recordTaking (recordOn t s) q c)) refl refl
     go Removed = emptied-holds (t .nums) (t .map) h s l (shape .of-map) p
 
 all-hold : (t : Tables) → Shaped t → SlotsHold (t .nums) (t .map) → (n : ℕ) → n ≤ slotsOf t → SlotsHold (settledIn (isLive t) n t .nums) (settledIn (isLive t) n t .map)

@@ -16,14 +16,14 @@ use Rattle.point_records.specs.declared.State.the-variants.{Unchanged, NewPos, 
 use Rattle.point_records.specs.declared.Record.{Record}
 use Rattle.point_records.specs.Meaning.Columns.{recordOf, numsOf, realsOf, intsOf}
 use Rattle.point_tables.specs.Meaning.Tables.{Tables, tables, recordOn}
-use Rattle.point_maintain.specs.Meaning.Walk.{placed, settledBy, settled}
+use Rattle.point_maintain.specs.Meaning.Walk.{recordTaking, settledBy, settled}
 
 -- ---- the record of an object once what is pending is done
 -- a removed object's slot is emptied: the version rises, and the rest of the record stays
 abbrev pub settledAs : Record → State → Record
 settledAs r Unchanged = r
-settledAs r (NewPos p) = placed r p (r .cell)
-settledAs r (Relocate p c) = placed r p c
+settledAs r (NewPos p) = recordTaking r p (r .cell)
+settledAs r (Relocate p c) = recordTaking r p c
 settledAs r Removed =
     record { version = nextVersion (r .version); phase = nextPhase (r .version); obj = r .obj; position = r .position; cell = r .cell; state = r .state }
 
@@ -45,10 +45,10 @@ recordIn w = recordOf (w .nums) (w .reals) (w .ints)
 abbrev pub rowsBy : Rows → State → Rows
 rowsBy w Unchanged = w
 rowsBy w (NewPos p) =
-    let r = placed (recordIn w) p (recordIn w .cell) in
+    let r = recordTaking (recordIn w) p (recordIn w .cell) in
     record { nums = numsOf r; reals = realsOf r; ints = intsOf r }
 rowsBy w (Relocate p c) =
-    let r = placed (recordIn w) p c in
+    let r = recordTaking (recordIn w) p c in
     record { nums = numsOf r; reals = realsOf r; ints = intsOf r }
 rowsBy w Removed = record { nums = emptiedRow (w .nums); reals = w .reals; ints = w .ints }
 

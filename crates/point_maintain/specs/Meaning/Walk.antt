@@ -16,24 +16,24 @@ use Rattle.point_tables.specs.Meaning.Tables.{Tables, tables, sizeOf, recordOn,
 use Rattle.point_tables.specs.Meaning.Outcome.{stored}
 
 -- an entry's row stays, and it takes a position
-abbrev pub moved : Entry → Position → Entry
-moved e p = entry (e .row) (p .x ∷ p .y ∷ [])
+abbrev pub entryTaking : Entry → Position → Entry
+entryTaking e p = entry (e .row) (p .x ∷ p .y ∷ [])
 
 -- the entry of slot s at p, in the list of p's cell
 abbrev pub entryAt : ℕ → ℕ → Position → Entry
 entryAt size s p = entry (keyOf (cellAt size p) ∷ s ∷ []) (p .x ∷ p .y ∷ [])
 
 -- ---- the record of an object once what is pending is done
-abbrev pub placed : Record → Position → Cell → Record
-placed r p c = record { version = r .version; phase = r .phase; obj = r .obj; position = p; cell = c; state = Unchanged }
+abbrev pub recordTaking : Record → Position → Cell → Record
+recordTaking r p c = record { version = r .version; phase = r .phase; obj = r .obj; position = p; cell = c; state = Unchanged }
 
 abbrev pub emptied : Tables → ℕ → Tables
 emptied t s = tables (emptiedNums (t .nums) s) (t .reals) (t .ints) (emptiedMap (t .nums) (t .map) s) (t .pool) (t .spots) (t .cells)
 
 abbrev pub settledBy : Tables → ℕ → State → Tables
 settledBy t s Unchanged = t
-settledBy t s (NewPos p) = stored t s (placed (recordOn t s) p (recordOn t s .cell)) (t .cells)
-settledBy t s (Relocate p c) = stored t s (placed (recordOn t s) p c) (t .cells)
+settledBy t s (NewPos p) = stored t s (recordTaking (recordOn t s) p (recordOn t s .cell)) (t .cells)
+settledBy t s (Relocate p c) = stored t s (recordTaking (recordOn t s) p c) (t .cells)
 settledBy t s Removed = emptied t s
 
 unfoldable pub settled : Tables → ℕ → Tables
@@ -52,7 +52,7 @@ pub data Fate : Type 0 where
 
 abbrev pub fateBy : ℕ → Entry → State → Fate
 fateBy size e Unchanged = stays e
-fateBy size e (NewPos p) = stays (moved e p)
+fateBy size e (NewPos p) = stays (entryTaking e p)
 fateBy size e (Relocate p c) = leaves (entryAt size (slotOf e) p ∷ [])
 fateBy size e Removed = leaves []
 
@@ -72,11 +72,11 @@ abbrev pub rest : Fate → List Entry → List Entry
 rest (stays e) es = es
 rest (leaves m) es = close es
 
-abbrev pub after : Fate → Walked → Walked
-after f w = record { records = w .records; kept = staying f ++ w .kept; moving = leaving f ++ w .moving }
+abbrev pub walkedAfter : Fate → Walked → Walked
+walkedAfter f w = record { records = w .records; kept = staying f ++ w .kept; moving = leaving f ++ w .moving }
 
 -- the first number is at least the length of the list
 unfoldable pub walk : ℕ → Tables → List Entry → Walked
 walk zero t es = record { records = t; kept = es; moving = [] }
 walk (suc n) t [] = record { records = t; kept = []; moving = [] }
-walk (suc n) t (e ∷ es) = after (fate t e) (walk n (settled t (slotOf e)) (rest (fate t e) es))
+walk (suc n) t (e ∷ es) = walkedAfter (fate t e) (walk n (settled t (slotOf e)) (rest (fate t e) es))

@@ -10,7 +10,7 @@ use Rattle.storage.specs.Meaning.Keyed.{close, last, front}
 use Rattle.storage.specs.Meaning.Entries.{entriesOf}
 use Rattle.storage.proofs.laws.FilterLaws.{by-order}
 use Rattle.point_maintain_lists.specs.Inner.Runs.{run}
-use Rattle.point_maintain_lists.proofs.laws.Runs.{held}
+use Rattle.point_maintain_lists.proofs.laws.Runs.{runLedBy}
 use Rattle.storage.specs.Inner.Run.{ListEnd}
 use Rattle.point_tables.proofs.laws.EntryLaws.{noEntry, entries-length, entries-at}
 use Rattle.point_tables.specs.Inner.Entry.{entryAt}
@@ -20,7 +20,7 @@ module _ {A : Type 0} (at : ℕ → A) where
   run-length i zero = refl
   run-length i (suc n) = ap suc (run-length (suc i) n)
 
-  pub run-held : (i n : ℕ) → held at i i n ≡ run at i n
+  pub run-held : (i n : ℕ) → runLedBy at i i n ≡ run at i n
   run-held i zero = refl
   run-held i (suc n) = refl
 
@@ -43,7 +43,7 @@ module _ {A : Type 0} (at : ℕ → A) where
   run-front i zero = refl
   run-front i (suc n) = ap (λ (l : List A). at i ∷ l) (run-front (suc i) n)
 
-  pub run-close : (i n : ℕ) → close (run at (suc i) n) ≡ held at (i + n) i n
+  pub run-close : (i n : ℕ) → close (run at (suc i) n) ≡ runLedBy at (i + n) i n
   run-close i zero = refl
   run-close i (suc n) = (λ z. run-last (suc i) n z ∷ run-front (suc i) n z) ∙ ap (λ (j : ℕ). at j ∷ run at (suc i) n) (omega arith)
 

@@ -6,6 +6,6 @@ use Rattle.point_maintain_lists.specs.Inner.Runs.{run}
 
 module _ {A : Type 0} (at : ℕ → A) where
   -- the same with what stands at p in front, in the place of what stands at i
-  abbrev pub held : ℕ → ℕ → ℕ → List A
-  held p i zero = []
-  held p i (suc n) = at p ∷ run at (suc i) n
+  abbrev pub runLedBy : ℕ → ℕ → ℕ → List A
+  runLedBy p i zero = []
+  runLedBy p i (suc n) = at p ∷ run at (suc i) n

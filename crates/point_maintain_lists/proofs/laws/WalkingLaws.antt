@@ -13,20 +13,20 @@ use Rattle.point_maintain.specs.Meaning.Walk.{Fate, stays, leaves, staying, res
 use Rattle.point_maintain.specs.Inner.Kept.{kept}
 use Rattle.point_maintain.proofs.laws.KeptLaws.{kept-step}
 use Rattle.point_maintain_lists.specs.Inner.Runs.{run}
-use Rattle.point_maintain_lists.proofs.laws.Runs.{held}
+use Rattle.point_maintain_lists.proofs.laws.Runs.{runLedBy}
 use Rattle.point_maintain_lists.proofs.laws.RunLaws.{run-held, run-close}
 use Rattle.point_maintain_lists.specs.Inner.Laid.{Room, Laid, listAt}
 use Rattle.point_maintain_lists.proofs.laws.LaidLaws.{laid-next, laid-rows, laid-spots, laid-entry, laid-start}
 
 -- one entry more, or the last into the gap: n entries are left, the first of them stands at p, the others behind place i
 module _ (f : Entry → Fate) (at : ℕ → Entry) (p i : ℕ) where
-  pub held-stays : (n : ℕ) (x : Entry) → f (at p) ≡ stays x → kept f (held at p i (suc n)) ≡ x ∷ kept f (held at (suc i) (suc i) n)
+  pub held-stays : (n : ℕ) (x : Entry) → f (at p) ≡ stays x → kept f (runLedBy at p i (suc n)) ≡ x ∷ kept f (runLedBy at (suc i) (suc i) n)
   held-stays n x e =
       kept-step f (at p) (run at (suc i) n)
       ∙ ap (λ (g : Fate). staying g ++ kept f (rest g (run at (suc i) n))) e
       ∙ ap (λ (l : List Entry). x ∷ kept f l) (sym (run-held at (suc i) n))
 
-  pub held-leaves : (n : ℕ) (m : List Entry) → f (at p) ≡ leaves m → kept f (held at p i (suc n)) ≡ kept f (held at (i + n) i n)
+  pub held-leaves : (n : ℕ) (m : List Entry) → f (at p) ≡ leaves m → kept f (runLedBy at p i (suc n)) ≡ kept f (runLedBy at (i + n) i n)
   held-leaves n m e =
       kept-step f (at p) (run at (suc i) n)
       ∙ ap (λ (g : Fate). staying g ++ kept f (rest g (run at (suc i) n))) e
@@ -36,7 +36,7 @@ module _ (f : Entry → Fate) (at : ℕ → Entry) (p i : ℕ) where
 module _ (f : Entry → Fate) (P : List (List ℕ)) (S : List (List Float)) (from to w₀ : ℕ) where
   pub record Walking (p i end w : ℕ) (pool : List (List ℕ)) (spots : List (List Float)) : Type 0 where
     pub so-far : List Entry
-    pub goes-on : so-far ++ kept f (held (entryAt P S) p i (end - i)) ≡ kept f (listAt P S from to)
+    pub goes-on : so-far ++ kept f (runLedBy (entryAt P S) p i (end - i)) ≡ kept f (listAt P S from to)
     pub columns : Columns (entriesOf P S w₀ ++ so-far) P S pool spots
     pub count : w ≡ w₀ + length so-far
     pub low : w ≤ i
@@ -90,7 +90,7 @@ module _ (f : Entry → Fate) (P : List (List ℕ)) (S : List (List Float)) (fro
               so-far = k .so-far ++ (x ∷ []);
               goes-on = append-assoc (k .so-far) (x ∷ []) _
                   ∙ ap (λ (l : List Entry). k .so-far ++ l)
-                  (sym (ap (λ (n : ℕ). kept f (held (entryAt P S) p i n)) more ∙ held-stays f (entryAt P S) p i (end - i - 1) x q ∙ (λ z. x ∷ kept f (held (entryAt P S) (s z) (s z) (one z)))))
+                  (sym (ap (λ (n : ℕ). kept f (runLedBy (entryAt P S) p i n)) more ∙ held-stays f (entryAt P S) p i (end - i - 1) x q ∙ (λ z. x ∷ kept f (runLedBy (entryAt P S) (s z) (s z) (one z)))))
                   ∙ k .goes-on;
               columns = rw (append-assoc (entriesOf P S w₀) (k .so-far) (x ∷ [])) at
                   (laid-next (entriesOf P S w₀ ++ (k .so-far)) P S pool spots (k .columns) row spot w (sym laid-length) (omega (arith, room, k)) (omega (arith, room, k)));
@@ -111,7 +111,7 @@ module _ (f : Entry → Fate) (P : List (List ℕ)) (S : List (List Float)) (fro
             record {
               so-far = k .so-far;
               goes-on = ap (λ (l : List Entry). k .so-far ++ l)
-                  (sym (ap (λ (n : ℕ). kept f (held (entryAt P S) p i n)) more ∙ held-leaves f (entryAt P S) p i (end - i - 1) m q ∙ (λ z. kept f (held (entryAt P S) (s z) i (one z)))))
+                  (sym (ap (λ (n : ℕ). kept f (runLedBy (entryAt P S) p i n)) more ∙ held-leaves f (entryAt P S) p i (end - i - 1) m q ∙ (λ z. kept f (runLedBy (entryAt P S) (s z) i (one z)))))
                   ∙ k .goes-on;
               columns = k .columns;
               count = k .count;
@@ -128,7 +128,7 @@ module _ (f : Entry → Fate) (P : List (List ℕ)) (S : List (List Float)) (fro
       unfolding kept
       walking-done h =
           let none : end - i ≡ 0 = omega arith in
-          let all : k .so-far ≡ kept f (listAt P S from to) = sym (append-nil (k .so-far)) ∙ ap (λ (n : ℕ). k .so-far ++ kept f (held (entryAt P S) p i n)) (sym none) ∙ k .goes-on in
+          let all : k .so-far ≡ kept f (listAt P S from to) = sym (append-nil (k .so-far)) ∙ ap (λ (n : ℕ). k .so-far ++ kept f (runLedBy (entryAt P S) p i n)) (sym none) ∙ k .goes-on in
           record {
             count = k .count ∙ ap (λ (l : List Entry). w₀ + length l) all;
             low = omega (arith, k);

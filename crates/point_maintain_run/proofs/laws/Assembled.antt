@@ -18,7 +18,7 @@ use Rattle.storage.proofs.laws.ColumnLaws.{zipped-whole}
 use Rattle.storage.proofs.laws.AppendLaws.{length-appendAll}
 use Rattle.storage.proofs.laws.FilterLaws.{all-map, all-append}
 use Rattle.storage.proofs.laws.KeepsLaws.{sorted-map}
-use Rattle.storage_merge.specs.Inner.Grown.{placed, grown}
+use Rattle.storage_merge.specs.Inner.Grown.{recordedEntry, grown}
 use Rattle.point_records.specs.declared.State.{State}
 use Rattle.point_records.specs.declared.State.the-variants.{Unchanged, NewPos, Relocate, Removed}
 use Rattle.point_tables.specs.Meaning.Tables.{Tables, tables, counting, sizeOf, slotsOf, recordOn}
@@ -168,8 +168,8 @@ module _ (t : Tables) (h : Holds t) where
           ∙ ap (zipped (map rowOf kept-ones)) (take-at (map spotOf kept-ones) (drop (length (map spotOf kept-ones)) (t .spots)) (length kept-ones) (length-map kept-ones spotOf))
           ∙ zipped-whole kept-ones
 
-      tail-entries : map (placed (after .reals)) (slice w (w + k) pool₂) ≡ moved-ones
-      tail-entries = (λ z. map (placed (reals-are z)) (back z)) ∙ spotted-below t (shaped t h) (slotsOf t) (omega arith)
+      tail-entries : map (recordedEntry (after .reals)) (slice w (w + k) pool₂) ≡ moved-ones
+      tail-entries = (λ z. map (recordedEntry (reals-are z)) (back z)) ∙ spotted-below t (shaped t h) (slotsOf t) (omega arith)
 
       grown-is : grown pool₂ spots₁ (after .reals) w k ≡ settledEntries t
       unfolding settledEntries

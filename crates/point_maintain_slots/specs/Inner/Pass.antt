@@ -21,7 +21,7 @@ use Rattle.point_records.specs.Meaning.Columns.{recordAt, numsOf, realsOf, ints
 use Rattle.point_records.specs.Meaning.Occupied.{Agrees}
 use Rattle.point_tables.specs.Meaning.Tables.{Tables, tables, sizeOf, slotsOf, recordOn}
 use Rattle.point_tables.specs.Inner.Count.{isLive}
-use Rattle.point_maintain.specs.Meaning.Walk.{placed, settled}
+use Rattle.point_maintain.specs.Meaning.Walk.{recordTaking, settled}
 use Rattle.point_maintain.specs.Inner.Settle.{settledAll}
 use Rattle.point_maintain.specs.Inner.SettleLaws.{Shaped}
 use Rattle.point_maintain.specs.Inner.Closed.{relocatedBelow}
@@ -70,7 +70,7 @@ pendingAt qs s = record { x = getD (getD qs s []) 2 nan; y = getD (getD qs s [])
 -- the three columns once the object of slot s stands at its pending position in cell c
 abbrev pub Placed : List (List ℕ) → List (List Float) → List (List ℤ) → ℕ → Cell → List (List ℕ) → List (List Float) → List (List ℤ) → Type 0
 Placed ns qs zs s c ns′ qs′ zs′ =
-    let r = placed (recordAt ns qs zs s) (pendingAt qs s) c in
+    let r = recordTaking (recordAt ns qs zs s) (pendingAt qs s) c in
     (ns′ ≡ set ns s (numsOf r)) × (qs′ ≡ set qs s (realsOf r)) × (zs′ ≡ set zs s (intsOf r))
 
 abbrev pub turned : Tables → ℕ → Tables

@@ -22,7 +22,7 @@ use Rattle.point_records.specs.declared.Record.{Record}
 use Rattle.point_records.specs.Meaning.States.{isRemoved}
 use Rattle.point_tables.specs.Meaning.Tables.{Tables, tables, sizeOf, slotsOf, recordOn, entriesIn, cellRows, counting, slotOf}
 use Rattle.point_tables.specs.Meaning.Holds.{Holds}
-use Rattle.point_maintain.specs.Meaning.Walk.{settled, Fate, fateBy, fate, staying, leaving, rest, after, Walked, walk}
+use Rattle.point_maintain.specs.Meaning.Walk.{settled, Fate, fateBy, fate, staying, leaving, rest, walkedAfter, Walked, walk}
 use Rattle.point_maintain.specs.Meaning.Maintain.{Sweep, isDirty, visit, sweep, swept, bySlot, entriesAfter, cellKeys, maintainedBy, maintained, isMoving}
 use Rattle.point_maintain.specs.Meaning.Maintain.{countStates, maintainedCounts, maintainOf}
 use Rattle.point_maintain.proofs.laws.SettleForm.{rowsAt, rowsAfter, backBy, comesBack, settledRecord, settled-form}
@@ -100,7 +100,7 @@ walk-alike (suc n) t u like a b (e ∷ es) =
     let f = fate t e in
     let w = walk-alike n (settled t s) (settled u s) (settled-alike t u like a b s) (settled-shaped t s a) (settled-shaped u s b) (rest f es) in
     subst
-    (λ (g : Fate). WalkedAlike (after f (walk n (settled t s) (rest f es))) (after g (walk n (settled u s) (rest g es))))
+    (λ (g : Fate). WalkedAlike (walkedAfter f (walk n (settled t s) (rest f es))) (walkedAfter g (walk n (settled u s) (rest g es))))
     (fate-is t u like e)
     (record {
       alike = w .alike;

@@ -12,11 +12,11 @@ use Rattle.trace_telling.specs.Meaning.Places.{boxOf}
 use Rattle.trace_telling.specs.Meaning.Tells.{doneOr, twoOr}
 use Rattle.trace_printing.specs.declared.Said.{Said}
 use Rattle.trace_lines.specs.declared.Spot.{Spot}
-use Rattle.trace_boxes.specs.Meaning.Changes.{said, insertedOf, placedOf}
+use Rattle.trace_boxes.specs.Meaning.Changes.{boxCallSaid, insertedOf, placedOf}
 
 -- x is what the call told
-pub said-of : {R : Type 0} (tell : R → Said) {r : R} {u : Tables} {o : Outcome R} {x : Said} → x ≡ tell r → outcome r u ≡ o → outcome x u ≡ said tell o
-said-of tell {u = u} w e = ap (λ (s : Said). outcome s u) w ∙ ap (said tell) e
+pub said-of : {R : Type 0} (tell : R → Said) {r : R} {u : Tables} {o : Outcome R} {x : Said} → x ≡ tell r → outcome r u ≡ o → outcome x u ≡ boxCallSaid tell o
+said-of tell {u = u} w e = ap (λ (s : Said). outcome s u) w ∙ ap (boxCallSaid tell) e
 
 -- the same where the call was given the box that the request names
 pub inserted-said : (t : Tables) (ll ur : Spot) (d : ℕ) {u : Tables} {r : Inserted} {b : Aabb} {x : Said}

@@ -11,7 +11,7 @@ use Rattle.trace_printing.specs.declared.Said.{Said}
 use Rattle.trace_lines.specs.declared.Spot.{Spot}
 use Rattle.trace_telling.specs.Meaning.Places.{boxOf}
 use Rattle.trace_telling.specs.Meaning.Tells.{boxesOr}
-use Rattle.trace_boxes.specs.Meaning.Searches.{searched, said, searchOf}
+use Rattle.trace_boxes.specs.Meaning.Searches.{searched, boxSearchSaid, searchOf}
 
 module _ (t : Tables) (handles : List (List ℕ)) (corners : List (List Float)) (objs : List ℕ) where
   -- x is what the query told, which was given the box that the record names
@@ -19,4 +19,4 @@ module _ (t : Tables) (handles : List (List ℕ)) (corners : List (List Float)) 
       → x ≡ boxesOr (c .answer) (c .count) → q ≡ boxOf ll ur → findings c h k o ≡ queryOf t q handles corners objs
       → searched x h k o ≡ searchOf t ll ur handles corners objs
   meeting-said ll ur {h = h} {k = k} {o = o} w i e =
-      ap (λ (s : Said). searched s h k o) w ∙ ap said (e ∙ ap (λ (q : Aabb). queryOf t q handles corners objs) i)
+      ap (λ (s : Said). searched s h k o) w ∙ ap boxSearchSaid (e ∙ ap (λ (q : Aabb). queryOf t q handles corners objs) i)

@@ -32,7 +32,7 @@ use Rattle.trace_lines.specs.declared.BoxChange.the-variants.{Bin, Bset, Brem}
 use Rattle.trace_telling.proofs.laws.RoomLaws.{had-room}
 use Rattle.trace_telling.proofs.laws.Tells.{told-tells}
 use Rattle.trace_boxes.specs.Meaning.Changes.{changeOf}
-use Rattle.trace_boxes.specs.Meaning.Searches.{Searched, said, searchOf}
+use Rattle.trace_boxes.specs.Meaning.Searches.{Searched, boxSearchSaid, searchOf}
 use Rattle.slot_walks.specs.Meaning.Live.{handleAt}
 
 -- what there is to tell is there: as many findings as the trace's grids can give, and all in the outputs
@@ -52,7 +52,7 @@ module _ (places : ℕ) (handles : List (List ℕ)) (corners : List (List Float)
       let j : length ss ≤ length corners = omega (arith, min-le-right (length handles) m, min-le-left (length corners) (length objs)) in
       (omega arith, omega (arith, length-written (map f ss) handles (omega (arith, length-map ss f))), omega (arith, length-written (map g ss) corners (omega (arith, length-map ss g))))
 
-  told-query : (t : Tables) (q : Aabb) → IsTold places (said (query.queryOf t q handles corners objs))
+  told-query : (t : Tables) (q : Aabb) → IsTold places (boxSearchSaid (query.queryOf t q handles corners objs))
   unfolding query.queryOf
   told-query t q = go (eqb a 0) refl
     where
@@ -62,7 +62,7 @@ module _ (places : ℕ) (handles : List (List ℕ)) (corners : List (List Float)
       a : ℕ
       a = query.answerOf t q (length ss) (query.roomOf handles corners objs)
 
-      go : (x : Bool) → eqb a 0 ≡ x → IsTold places (said (pick x (query.findings (count 0 (length ss)) (written (map (handleAt (t .nums)) ss) handles) (written (map (query.boxRow (t .reals)) ss) corners) (written (map (objOn t) ss) objs)) (query.findings (count a (pick (eqb a 9) (length ss) 0)) handles corners objs)))
+      go : (x : Bool) → eqb a 0 ≡ x → IsTold places (boxSearchSaid (pick x (query.findings (count 0 (length ss)) (written (map (handleAt (t .nums)) ss) handles) (written (map (query.boxRow (t .reals)) ss) corners) (written (map (objOn t) ss) objs)) (query.findings (count a (pick (eqb a 9) (length ss) 0)) handles corners objs)))
       go true h = told-found ss (handleAt (t .nums)) (query.boxRow (t .reals)) (room-of t q (length ss) (query.roomOf handles corners objs) (eqb-true a 0 h))
       go false h = subst (λ (x : Bool). Told (pick x (Boxes (pick (eqb a 9) (length ss) 0)) (Refused a)) (length handles) places (length corners)) (sym h) tt
 

@@ -14,20 +14,20 @@ use Rattle.trace_telling.specs.Meaning.Places.{boxOf}
 use Rattle.trace_telling.specs.Meaning.Tells.{doneOr, oneOr, twoOr}
 
 -- what is said of what a call returned; the tables are those after the call
-abbrev pub said : {R : Type 0} → (R → Said) → Outcome R → Outcome Said
-said tell o = outcome (tell (o .result)) (o .after)
+abbrev pub boxCallSaid : {R : Type 0} → (R → Said) → Outcome R → Outcome Said
+boxCallSaid tell o = outcome (tell (o .result)) (o .after)
 
 -- `bin`: slot and version
 abbrev pub insertedOf : Tables → Spot → Spot → ℕ → Outcome Said
-insertedOf t ll ur d = said (λ r. twoOr (r .answer) (r .handle .slot) (r .handle .version)) (insertOf t (boxOf ll ur) d)
+insertedOf t ll ur d = boxCallSaid (λ r. twoOr (r .answer) (r .handle .slot) (r .handle .version)) (insertOf t (boxOf ll ur) d)
 
 -- `bset`: nothing more
 abbrev pub placedOf : Tables → Handle → Spot → Spot → Outcome Said
-placedOf t h ll ur = said doneOr (setAabbOf t h (boxOf ll ur))
+placedOf t h ll ur = boxCallSaid doneOr (setAabbOf t h (boxOf ll ur))
 
 -- `brem`: the data
 abbrev pub takenOf : Tables → Handle → Outcome Said
-takenOf t h = said (λ r. oneOr (r .answer) (r .obj)) (removeOf t h)
+takenOf t h = boxCallSaid (λ r. oneOr (r .answer) (r .obj)) (removeOf t h)
 
 -- the line, with what its record says
 unfoldable pub changeOf : Tables → BoxChange → Handle → Spot → Spot → ℕ → Outcome Said

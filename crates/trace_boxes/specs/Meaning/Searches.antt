@@ -19,9 +19,9 @@ pub record Searched : Type 0 where
 abbrev pub searched : Said → List (List ℕ) → List (List Float) → List ℕ → Searched
 searched s h c o = record { tells = s; handles = h; corners = c; objs = o }
 
-abbrev pub said : Findings → Searched
-said f = searched (boxesOr (f .returned .answer) (f .returned .count)) (f .handles) (f .boxes) (f .objs)
+abbrev pub boxSearchSaid : Findings → Searched
+boxSearchSaid f = searched (boxesOr (f .returned .answer) (f .returned .count)) (f .handles) (f .boxes) (f .objs)
 
 -- `bqry`: the boxes that the query box meets
 abbrev pub searchOf : Tables → Spot → Spot → List (List ℕ) → List (List Float) → List ℕ → Searched
-searchOf t ll ur handles corners objs = said (queryOf t (boxOf ll ur) handles corners objs)
+searchOf t ll ur handles corners objs = boxSearchSaid (queryOf t (boxOf ll ur) handles corners objs)

@@ -7,7 +7,7 @@ use lib.ListN.{length}
 use borrow.Author.Needs.{needs}
 use Rattle.trace_decimals.specs.Meaning.Text.{decimal}
 use Rattle.trace_decimals.proofs.laws.TextLaws.{one-digit, last-digit, longer}
-use Rattle.trace_decimals.specs.Meaning.Written.{written, put}
+use Rattle.trace_decimals.specs.Meaning.Written.{buffer, putText}
 use Rattle.trace_decimals.proofs.laws.WrittenLaws.{next-is, length-is, put-put}
 use borrow.Fn.Kinds.{In}
 use borrow.Fn.PlainCycle.{Measures, is, falls, and}
@@ -76,7 +76,7 @@ put-digits-returns : (t : ℕ) → put-digits-lts.Need-returns (
 put-digits-returns t c =
     let p = c .before .before in
     let s = p .before .before .before .before .before in
-    p .put-byte .ensures ∙ ap (λ (x : List ℕ). put (written (s .args .out .now) (s .args .at)) x) (short (s .args .n) (p .before .before .before .digit-of .result) (omega arith) (p .before .before .before .digit-of .ensures))
+    p .put-byte .ensures ∙ ap (λ (x : List ℕ). putText (buffer (s .args .out .now) (s .args .at)) x) (short (s .args .n) (p .before .before .before .digit-of .result) (omega arith) (p .before .before .before .digit-of .ensures))
 
 put-digits-put-digits-requires : (t : ℕ) → put-digits-lts.Need-put-digits-requires (
   digit-of-reads.Asked,
@@ -128,11 +128,11 @@ put-digits-returns-2 t c =
     let q = p .before .before .before .before in
     let s = q .before .before .before .before .before in
     let d = q .before .before .before in
-    let w = written (s .args .out .now) (s .args .at) in
+    let w = buffer (s .args .out .now) (s .args .at) in
     let e : 10 ≤ s .args .n = omega arith in
-    p .put-byte2 .ensures ∙ (λ z. put (q .put-digits .ensures z) (d .digit-of .ensures z ∷ []))
+    p .put-byte2 .ensures ∙ (λ z. putText (q .put-digits .ensures z) (d .digit-of .ensures z ∷ []))
     ∙ put-put w (decimal (s .args .n / 10)) ((48 + s .args .n % 10) ∷ []) (omega (arith, longer (s .args .n) e))
-    ∙ ap (put w) (sym (last-digit (s .args .n) e))
+    ∙ ap (putText w) (sym (last-digit (s .args .n) e))
 
 pub +put-digits-spec : {M : Type 1} → statement M
 +put-digits-spec = close μ-put-digits λ t. put-digits-lts.spec (

@@ -13,7 +13,7 @@ use borrow.Author.Needs.{needs}
 use borrow.Author.Tests.{ltb-true}
 use Rattle.basics.proofs.laws.Says.{apart}
 use Rattle.trace_decimals.specs.Meaning.Text.{decimal, signedText}
-use Rattle.trace_decimals.specs.Meaning.Written.{written, put}
+use Rattle.trace_decimals.specs.Meaning.Written.{buffer, putText}
 use Rattle.trace_decimals.proofs.laws.WrittenLaws.{next-is, length-is, put-put}
 use Rattle.trace_decimals.proofs.put_count.Statement.{statement}
 use Rattle.trace_decimals.proofs.put_count.Tie as tie
@@ -41,22 +41,22 @@ returns c =
     let m = n .before in
     let p = m .before .before .before .before in
     let s = p .before .before .before .before in
-    let w = written (s .args .out .now) (s .args .at) in
+    let w = buffer (s .args .out .now) (s .args .at) in
     let k : toZ w32 (ofZ w32 (s .args .k)) ≡ s .args .k = toZ-ofZ w32 (s .args .k) (s .fits .k) in
     let size : m .magnitude .result ≡ natAbs (s .args .k) = m .magnitude .ensures ∙ ap natAbs k in
-    n .put-number .ensures ∙ (λ z. put (p .put-byte .ensures z) (decimal (size z)))
+    n .put-number .ensures ∙ (λ z. putText (p .put-byte .ensures z) (decimal (size z)))
     ∙ put-put w (45 ∷ []) (decimal (natAbs (s .args .k))) (omega arith)
-    ∙ ap (put w) (minus-text (s .args .k) (subst (λ (z : ℤ). ltZ z (pos 0) ≡ true) k (p .before .before .if1 .taken)))
+    ∙ ap (putText w) (minus-text (s .args .k) (subst (λ (z : ℤ). ltZ z (pos 0) ≡ true) k (p .before .before .if1 .taken)))
 
 returns-2 : tie.Need-returns-2
 returns-2 c =
     let n = c .before .before in
     let m = n .before in
     let s = m .before .before .before .before in
-    let w = written (s .args .out .now) (s .args .at) in
+    let w = buffer (s .args .out .now) (s .args .at) in
     let k : toZ w32 (ofZ w32 (s .args .k)) ≡ s .args .k = toZ-ofZ w32 (s .args .k) (s .fits .k) in
-    n .put-number2 .ensures ∙ ap (λ (x : ℕ). put w (decimal x)) (m .magnitude2 .ensures ∙ ap natAbs k)
-    ∙ ap (put w) (plain-text (s .args .k) (subst (λ (z : ℤ). ltZ z (pos 0) ≡ false) k (m .before .before .if1 .left)))
+    n .put-number2 .ensures ∙ ap (λ (x : ℕ). putText w (decimal x)) (m .magnitude2 .ensures ∙ ap natAbs k)
+    ∙ ap (putText w) (plain-text (s .args .k) (subst (λ (z : ℤ). ltZ z (pos 0) ≡ false) k (m .before .before .if1 .left)))
 
 pub put-count-spec : {M : Type 1} → statement M
 put-count-spec =

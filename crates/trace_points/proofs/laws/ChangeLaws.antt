@@ -13,11 +13,11 @@ use Rattle.trace_telling.specs.Meaning.Places.{placeOf}
 use Rattle.trace_telling.specs.Meaning.Tells.{doneOr, twoOr}
 use Rattle.trace_printing.specs.declared.Said.{Said}
 use Rattle.trace_lines.specs.declared.Spot.{Spot}
-use Rattle.trace_points.specs.Meaning.Changes.{said, insertedOf, movedOf}
+use Rattle.trace_points.specs.Meaning.Changes.{pointCallSaid, insertedOf, movedOf}
 
 -- x is what the call told
-pub said-of : {R : Type 0} (tell : R → Said) {r : R} {u : Tables} {o : Outcome R} {x : Said} → x ≡ tell r → outcome r u ≡ o → outcome x u ≡ said tell o
-said-of tell {u = u} w e = ap (λ (s : Said). outcome s u) w ∙ ap (said tell) e
+pub said-of : {R : Type 0} (tell : R → Said) {r : R} {u : Tables} {o : Outcome R} {x : Said} → x ≡ tell r → outcome r u ≡ o → outcome x u ≡ pointCallSaid tell o
+said-of tell {u = u} w e = ap (λ (s : Said). outcome s u) w ∙ ap (pointCallSaid tell) e
 
 -- the same where the call was given the place that the request names
 pub inserted-said : (t : Tables) (p : Spot) (d : ℕ) {u : Tables} {r : Inserted} {q : Position} {x : Said}

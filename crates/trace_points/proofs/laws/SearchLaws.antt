@@ -14,11 +14,11 @@ use Rattle.trace_lines.specs.declared.Spot.{Spot}
 use Rattle.trace_lines.specs.declared.PointSearch.{PointSearch}
 use Rattle.trace_telling.specs.Meaning.Places.{placeOf}
 use Rattle.trace_telling.specs.Meaning.Tells.{pointsOr}
-use Rattle.trace_points.specs.Meaning.Searches.{searched, said, findingsOf, searchOf}
+use Rattle.trace_points.specs.Meaning.Searches.{searched, pointSearchSaid, findingsOf, searchOf}
 
 -- x is what the query told, which was given the places and the radius that the record names
 pub searched-said : (t : Tables) (s : PointSearch) (p q : Spot) (k : ℤ) (h′ : List (List ℕ)) (l′ : List (List Float)) {x : Said} {c : Count} {h : List (List ℕ)} {l : List (List Float)} {a b : Position} {far : Float}
     → x ≡ pointsOr (c .answer) (c .count) → a ≡ placeOf p → b ≡ placeOf q → far ≡ sixteenth k
     → findings c h l ≡ findingsOf t s a b far h′ l′ → searched x h l ≡ searchOf t s p q k h′ l′
 searched-said t s p q k h′ l′ {h = h} {l = l} w i j f e =
-    ap (λ (y : Said). searched y h l) w ∙ ap said (e ∙ (λ z. findingsOf t s (i z) (j z) (f z) h′ l′))
+    ap (λ (y : Said). searched y h l) w ∙ ap pointSearchSaid (e ∙ (λ z. findingsOf t s (i z) (j z) (f z) h′ l′))

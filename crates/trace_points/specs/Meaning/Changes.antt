@@ -15,27 +15,27 @@ use Rattle.trace_telling.specs.Meaning.Places.{placeOf}
 use Rattle.trace_telling.specs.Meaning.Tells.{doneOr, oneOr, twoOr}
 
 -- what is said of what a call returned; the tables are those after the call
-abbrev pub said : {R : Type 0} → (R → Said) → Outcome R → Outcome Said
-said tell o = outcome (tell (o .result)) (o .after)
+abbrev pub pointCallSaid : {R : Type 0} → (R → Said) → Outcome R → Outcome Said
+pointCallSaid tell o = outcome (tell (o .result)) (o .after)
 
 -- `ins`: slot and version
 abbrev pub insertedOf : Tables → Spot → ℕ → Outcome Said
-insertedOf t p d = said (λ r. twoOr (r .answer) (r .handle .slot) (r .handle .version)) (insertOf t (placeOf p) d)
+insertedOf t p d = pointCallSaid (λ r. twoOr (r .answer) (r .handle .slot) (r .handle .version)) (insertOf t (placeOf p) d)
 
 -- `pos`: nothing more
 abbrev pub movedOf : Tables → Handle → Spot → Outcome Said
-movedOf t h p = said (λ r. doneOr (r .answer)) (setPositionOf t h (placeOf p))
+movedOf t h p = pointCallSaid (λ r. doneOr (r .answer)) (setPositionOf t h (placeOf p))
 
 -- `rem` and `now`: the data
 abbrev pub markedOf : Tables → Handle → Outcome Said
-markedOf t h = said (λ r. oneOr (r .answer) (r .obj)) (removeOf t h)
+markedOf t h = pointCallSaid (λ r. oneOr (r .answer) (r .obj)) (removeOf t h)
 
 abbrev pub takenOf : Tables → Handle → Outcome Said
-takenOf t h = said (λ r. oneOr (r .answer) (r .obj)) (removeMaintainOf t h)
+takenOf t h = pointCallSaid (λ r. oneOr (r .answer) (r .obj)) (removeMaintainOf t h)
 
 -- `mnt`: how many moved, and how many were removed
 abbrev pub maintainedOf : Tables → Outcome Said
-maintainedOf t = said (λ r. twoOr (r .answer) (r .moved) (r .removed)) (maintainOf t)
+maintainedOf t = pointCallSaid (λ r. twoOr (r .answer) (r .moved) (r .removed)) (maintainOf t)
 
 -- the line, with what its record says
 unfoldable pub changeOf : Tables → PointChange → Handle → Spot → ℕ → Outcome Said

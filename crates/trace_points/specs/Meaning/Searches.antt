@@ -23,8 +23,8 @@ pub record Searched : Type 0 where
 abbrev pub searched : Said → List (List ℕ) → List (List Float) → Searched
 searched s h p = record { tells = s; handles = h; places = p }
 
-abbrev pub said : Findings → Searched
-said f = searched (pointsOr (f .returned .answer) (f .returned .count)) (f .outputs .handles) (f .outputs .places)
+abbrev pub pointSearchSaid : Findings → Searched
+pointSearchSaid f = searched (pointsOr (f .returned .answer) (f .returned .count)) (f .outputs .handles) (f .outputs .places)
 
 -- `cir`: centre and radius. `rec`: two corners, in any order. `cel`: all of the cells from the lower left to the upper right
 unfoldable pub findingsOf : Tables → PointSearch → Position → Position → Float → List (List ℕ) → List (List Float) → Findings
@@ -34,4 +34,4 @@ findingsOf t Cel p q far handles places = queryOf t p q handles places
 
 -- the line, with the places and the radius that its record says
 abbrev pub searchOf : Tables → PointSearch → Spot → Spot → ℤ → List (List ℕ) → List (List Float) → Searched
-searchOf t s p q far handles places = said (findingsOf t s (placeOf p) (placeOf q) (sixteenth far) handles places)
+searchOf t s p q far handles places = pointSearchSaid (findingsOf t s (placeOf p) (placeOf q) (sixteenth far) handles places)

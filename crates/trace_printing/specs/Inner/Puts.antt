@@ -3,9 +3,9 @@
 use Prim.Native.Nat.{ℕ, _+_, _≤_}
 use mathlib.Core.Path.{_≡_}
 use mathlib.Core.List.{List}
-use Rattle.trace_decimals.specs.Meaning.Written.{written, put}
+use Rattle.trace_decimals.specs.Meaning.Written.{buffer, putText}
 
 -- from place `at` of the bytes a on, up to r, where the bytes are then b
 pub record Puts (a : List ℕ) (at : ℕ) (b : List ℕ) (r : ℕ) (text : List ℕ) (most : ℕ) : Type 0 where
-  pub put-is : written b r ≡ put (written a at) text
+  pub put-is : buffer b r ≡ putText (buffer a at) text
   pub short : r ≤ at + most

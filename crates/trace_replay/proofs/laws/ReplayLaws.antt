@@ -3,7 +3,7 @@ use mathlib.Core.Path.{_≡_, sym, ap, subst, _∙_}
 use mathlib.Core.List.{List}
 use native.Mathlib.Omega.{arith}
 use Prim.Native.Nat.{ℕ}
-use Rattle.trace_decimals.specs.Meaning.Written.{Written, put}
+use Rattle.trace_decimals.specs.Meaning.Written.{Buffer, putText}
 use Rattle.trace_printing.specs.declared.Said.{Said}
 use Rattle.trace_printing.specs.Meaning.Said.{recordText}
 use Rattle.trace_lines.specs.declared.Request.{Request}
@@ -17,8 +17,8 @@ module _ (g : Grids) (bytes : List ℕ) {q : Request} (read : q ≡ requestOf by
   pub can-tell : IsTold (answered s after)
   can-tell = subst IsTold (sym done) (told (fresh g) (omega arith) (omega arith) q)
 
-  pub is-replayed : (w : Written) {v : Written} → v ≡ put w (recordText s (after .handles) (after .places) (after .corners)) → replayed (grids (after .points) (after .boxes)) v ≡ replayOf g bytes w
+  pub is-replayed : (w : Buffer) {v : Buffer} → v ≡ putText w (recordText s (after .handles) (after .places) (after .corners)) → replayed (grids (after .points) (after .boxes)) v ≡ replayOf g bytes w
   unfolding answerTo
   is-replayed w e =
       ap (replayed (grids (after .points) (after .boxes))) e
-      ∙ ap (λ (a : Answered). replayed (gridsOf a) (put w (textOf a))) (done ∙ ap (answerOf (fresh g)) read)
+      ∙ ap (λ (a : Answered). replayed (gridsOf a) (putText w (textOf a))) (done ∙ ap (answerOf (fresh g)) read)

@@ -25,5 +25,5 @@ nextOf room s at [] = nexted s [] at
 nextOf room s at (b ∷ bs) = stops (feed room s b .out) (nexted (feed room s b .next) (feed room s b .out) (at + 1)) (nextOf room (feed room s b .next) (at + 1) bs)
 
 -- what the line and the numbers of the code say
-abbrev pub found : List ℕ → Found → Next
-found line r = nexted (sofar line (r .state)) (pick (r .ended) (take (r .len) line ∷ []) []) (r .at)
+abbrev pub nextFound : List ℕ → Found → Next
+nextFound line r = nexted (sofar line (r .state)) (pick (r .ended) (take (r .len) line ∷ []) []) (r .at)

@@ -8,7 +8,7 @@ use lib.ListN.{replicate}
 use lib.Ieee.{Float, fin}
 use lib.IntN.{ℤ, pos}
 use Rattle.basics.specs.Meaning.Lent.{Lent}
-use Rattle.trace_decimals.specs.Meaning.Written.{Written, put}
+use Rattle.trace_decimals.specs.Meaning.Written.{Buffer, putText}
 use Rattle.point_tables.specs.Meaning.Tables as point
 use Rattle.point_tables.specs.Meaning.Lent as Points
 use Rattle.box_tables.specs.Meaning.Tables as box
@@ -47,16 +47,16 @@ gridsOf a = grids (a .after .points) (a .after .boxes)
 -- ---- one record, where its answer is put behind what is written
 pub record Replayed : Type 0 where
   pub after : Grids
-  pub out : Written
+  pub out : Buffer
 
-abbrev pub replayed : Grids → Written → Replayed
+abbrev pub replayed : Grids → Buffer → Replayed
 replayed g w = record { after = g; out = w }
 
-abbrev pub replayOf : Grids → List ℕ → Written → Replayed
-replayOf g bytes w = replayed (gridsOf (answerTo g bytes)) (put w (textOf (answerTo g bytes)))
+abbrev pub replayOf : Grids → List ℕ → Buffer → Replayed
+replayOf g bytes w = replayed (gridsOf (answerTo g bytes)) (putText w (textOf (answerTo g bytes)))
 
 -- the promise of a record's answer, with the tables behind their references named once: w is what is written before it, v what is written after it
-abbrev pub Replays : List ℕ → Written → Written
+abbrev pub Replays : List ℕ → Buffer → Buffer
     → Lent (List (List ℕ)) → Lent (List (List Float)) → Lent (List (List ℤ)) → Lent (List ℕ) → Lent (List (List ℕ)) → Lent (List (List Float)) → Lent (List (List ℕ))
     → Lent (List (List ℕ)) → Lent (List (List Float)) → Lent (List ℕ) → Lent (List (List ℕ)) → Type 0
 Replays bytes w v a b c d e f g h i j k =

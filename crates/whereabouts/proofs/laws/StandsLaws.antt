@@ -23,7 +23,7 @@ use Rattle.point_deferred.specs.Meaning.Batch.{Call, tablesAfter, replies}
 use Rattle.point_deferred.proofs.laws.MovesLaws.{Named, named}
 use Rattle.point_deferred.proofs.laws.MovesKeeps.{calls-keep}
 use Rattle.point_maintain.specs.declared.Maintained.{Maintained}
-use Rattle.point_maintain.specs.Meaning.Walk.{placed}
+use Rattle.point_maintain.specs.Meaning.Walk.{recordTaking}
 use Rattle.point_maintain.specs.Meaning.Maintain.{maintained, maintainOf}
 use Rattle.point_maintain.proofs.laws.MaintainLaws.{maintain-done, maintain-accepted, maintain-keeps}
 use Rattle.point_maintain.proofs.laws.MaintainedLaws.{maintained-slots, maintained-live, maintained-object, all-calm}
@@ -75,7 +75,7 @@ module _ (t : Tables) (s : Settled t) (cs : List Call) where
     headed-is k = f .goes (removed-is ∙ k) ∙ ap (λ (st : State). lastAt g cs (replies t cs) (pendingOf st (recordOn t (g .slot) .position))) quiet
 
     placed-is : removedBy g cs (replies t cs) ≡ false
-        → recordOn (maintained u) (g .slot) ≡ placed (recordOn u (g .slot)) (pendingOf (recordOn u (g .slot) .state) (recordOn u (g .slot) .position)) (targetOf (recordOn u (g .slot) .state) (recordOn u (g .slot) .cell))
+        → recordOn (maintained u) (g .slot) ≡ recordTaking (recordOn u (g .slot)) (pendingOf (recordOn u (g .slot) .state) (recordOn u (g .slot) .position)) (targetOf (recordOn u (g .slot) .state) (recordOn u (g .slot) .cell))
     placed-is k = maintained-object u u-holds (g .slot) (f .names .inside) (f .names .occupied) (removed-is ∙ k)
 
   -- the handles that are good after are those that were, less the removed

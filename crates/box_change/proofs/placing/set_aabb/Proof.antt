@@ -2,7 +2,7 @@
 use mathlib.Core.Path.{_≡_, sym, _∙_, ap}
 use borrow.Author.Needs.{needs}
 use Rattle.box_change.proofs.Answers.{movable, refused, done}
-use Rattle.box_change.proofs.Shifted.{place-asks, placed-is}
+use Rattle.box_change.proofs.Shifted.{place-asks, other-box-is}
 use Rattle.box_tables.specs.Meaning.Tables.{Tables, tables}
 use Rattle.box_change.specs.Inner.Steps.{oldSpan, newSpan}
 use Rattle.box_change.proofs.laws.Steps.{Movable}
@@ -54,7 +54,7 @@ returns-2 c =
     let s = start w in
     let k = judged w .judge in
     done (at-entry s) (s .args .h) (s .args .b) (k .result .answer) (k .ensures .answers) (w .wide .result) (w .wide .ensures) (left w .if1 .left) _
-    (placed-is (at-entry s) (w .wide .result) (s .args .b) (can-move w) (k .result .old) (k .result .new) (old-is w) (new-is w) _ _ _ (p .place .ensures .0) (p .place .ensures .1 .0) (p .place .ensures .1 .1))
+    (other-box-is (at-entry s) (w .wide .result) (s .args .b) (can-move w) (k .result .old) (k .result .new) (old-is w) (new-is w) _ _ _ (p .place .ensures .0) (p .place .ensures .1 .0) (p .place .ensures .1 .1))
 
 pub set-aabb-spec : {M : Type 1} → statement M
 set-aabb-spec =

@@ -4,7 +4,7 @@ use lib.ListN.{take, replicate, length-replicate}
 use Prim.Native.Nat.{ℕ}
 use lib.Ieee.{ofBits}
 use borrow.Author.Needs.{needs}
-use Rattle.trace_decimals.specs.Meaning.Written.{written}
+use Rattle.trace_decimals.specs.Meaning.Written.{buffer}
 use Rattle.trace_telling.specs.Inner.InRange.{InRange}
 use Rattle.trace_telling.proofs.laws.InRange.{read-in-range}
 use Rattle.point_tables.specs.Meaning.Lent as point
@@ -86,7 +86,7 @@ returns c =
     let n = w .before .before .before .before .before .before .before .before .before .before .before .before .before .before .before .before .before .before .before .before .before .before in
     let r = n .before .before .before .before .before .before .before .before .before .before .before .before .before .before .before .before in
     let a = r .before .before .before .before .before .args in
-    (is-replayed (grids (point.lent (a .nums) (a .reals) (a .ints) (a .map) (a .pool) (a .spots) (a .cells)) (box.lent (a .bnums) (a .breals) (a .bmap) (a .bpool))) (take (a .len) (a .line .now)) (r .read .ensures) (n .answer .ensures) (written (a .out .now) (a .at)) (w .put-record .ensures .put-is), w .put-record .ensures .short)
+    (is-replayed (grids (point.lent (a .nums) (a .reals) (a .ints) (a .map) (a .pool) (a .spots) (a .cells)) (box.lent (a .bnums) (a .breals) (a .bmap) (a .bpool))) (take (a .len) (a .line .now)) (r .read .ensures) (n .answer .ensures) (buffer (a .out .now) (a .at)) (w .put-record .ensures .put-is), w .put-record .ensures .short)
 
 pub answer-record-spec : {M : Type 1} → statement M
 answer-record-spec =
