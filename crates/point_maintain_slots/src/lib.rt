@@ -138,6 +138,7 @@ pub fn count_moves(nums: &[Row]) -> Counts
     let mut removed: u32 = 0;
     let mut i = 0;
     while i < nums.len() {
+        // read apart, so that of the row no more than these two numbers is loaded
         let phase = nums[i][1];
         let row = nums[i];
         let tag = point_records::tag_in(row);
