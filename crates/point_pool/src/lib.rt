@@ -56,6 +56,7 @@ fn entry_ok(
     if !point_records::in_cell(size, c, x, y, q, z) {
         return false;
     }
+    // the row anew, so that no more of it than the tag is loaded and kept
     let row = nums[s];
     let tag = point_records::tag_in(row);
     if tag == 0 {
