@@ -16,9 +16,6 @@ use Rattle.geometry.specs.Meaning.Intersects.{absolute}
 abbrev none : Float
 none = fin false 0 (pos 0)
 
-too-large : (a : ℕ) → 1 < a → a ≡ 1 → ⊥
-too-large a h e = omega arith
-
 -- nothing is below 0 / d
 no-less : (a d : ℕ) → a < 0 * d → ⊥
 no-less a d h = omega (arith, zero-mul d)
@@ -38,8 +35,8 @@ some-none a d g h =
 -- a zero is written in one way
 exponent : (e : ℤ) → T (eqb (up e * down e) 1) → e ≡ pos 0
 exponent (pos zero) h = refl
-exponent (pos (suc k)) h = absurd (too-large (2 ^ suc k) (pow-lt {i = 0} {j = suc k} (omega arith)) (sym (mul-one (2 ^ suc k)) ∙ eqb→eq (2 ^ suc k * 1) 1 h))
-exponent (negsuc k) h = absurd (too-large (2 ^ suc k) (pow-lt {i = 0} {j = suc k} (omega arith)) (sym (one-mul (2 ^ suc k)) ∙ eqb→eq (1 * 2 ^ suc k) 1 h))
+exponent (pos (suc k)) h = absurd (omega (arith, pow-lt {i = 0} {j = suc k} (omega arith), sym (mul-one (2 ^ suc k)) ∙ eqb→eq (2 ^ suc k * 1) 1 h))
+exponent (negsuc k) h = absurd (omega (arith, pow-lt {i = 0} {j = suc k} (omega arith), sym (one-mul (2 ^ suc k)) ∙ eqb→eq (1 * 2 ^ suc k) 1 h))
 
 pub of-zero : (x : Float) → T (fits binary32 x) → eq x none ≡ true → none ≡ absolute x
 unfolding eq fits

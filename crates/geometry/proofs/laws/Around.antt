@@ -1,16 +1,17 @@
 -- What differs from c by less than r, as the machine rounds the difference, is not below c - r and not above c + r, as it rounds those.
 -- It holds of all finite values: where a bound overflows it is an infinity on the far side. Assumes nothing.
-use mathlib.Core.Path.{_≡_, refl, sym, ap, _∙_}
-use mathlib.Core.Logic.{_⊎_, inl, inr}
+use mathlib.Core.Path.{_≡_, refl, ap, _∙_}
+use mathlib.Core.Logic.{_⊎_, inl, inr, ⊎-elim}
 use Prim.Native.Nat.{ℕ, suc, _+_, _-_, _*_, _^_, _≤_, _<_}
-use native.Mathlib.Nat.{le-trans, le-of-eq, zero-mul}
+use native.Mathlib.Nat.{zero-mul}
 use native.Mathlib.Omega.{arith}
-use mathlib.Core.Bool.{Bool, true, false, not}
+use mathlib.Core.Bool.{false}
 use lib.IntN.{pos}
-use lib.Dec.{T, leb, leb→le, nleb→lt, not-T}
+use lib.Dec.{T, not-T}
 use lib.Pow.{pow-pos}
 use lib.Ieee.{Float, fin, Format, emax, low, add, sub, lt, le, fits}
 use lib.Ieee.Scale.{finite}
+use Rattle.basics.proofs.laws.Says.{d-le}
 use Rattle.geometry.specs.Inner.Value.{Num}
 use Rattle.geometry.proofs.laws.Value.{lt-num, le-num, either}
 use Rattle.geometry.proofs.laws.Rounding.{R, R-mono, fixed}
@@ -21,48 +22,18 @@ use Rattle.geometry.proofs.laws.Back.{not-lt→le}
 module _ (R : ℕ → ℕ) (mono : (a b : ℕ) → a ≤ b → R a ≤ R b) (pp np pc nc pr nr : ℕ) (one : (pp ≡ 0) ⊎ (np ≡ 0)) (i : R pp ≡ pp) (j : R np ≡ np) (k : R pr ≡ pr) (z : nr ≡ 0)
     (near : R (pp + nc - (np + pc)) + R (np + pc - (pp + nc)) < pr + nr) where
   low-side : pp + R (nc + pr - (pc + nr)) < R (pc + nr - (nc + pr)) + np → ⊥
-  low-side h = go (leb (pc + np + nr) (pp + nc + pr)) (leb→le (pc + np + nr) (pp + nc + pr)) (nleb→lt (pc + np + nr) (pp + nc + pr))
-    where
-      up : pc + np + nr ≤ pp + nc + pr → (pp ≡ 0) ⊎ (np ≡ 0) → (pc + nr - (nc + pr) ≤ pp) × (np ≤ nc + pr - (pc + nr))
-      up g (inl e) = (omega arith, omega arith)
-      up g (inr e) = (omega arith, omega arith)
-
-      end : (a b x y : ℕ) → a + x < y + b → y ≤ a → b ≤ x → ⊥
-      end a b x y h g l = omega arith
-
-      far : (a b c : ℕ) → a + b < c + nr → nr ≡ 0 → c ≤ b → ⊥
-      far a b c h e g = omega arith
-
-      go : (t : Bool) → (T t → pc + np + nr ≤ pp + nc + pr) → (T (not t) → pp + nc + pr < pc + np + nr) → ⊥
-      go true y n =
-          let u = up (y tt) one in
-          end pp np (R (nc + pr - (pc + nr))) (R (pc + nr - (nc + pr))) h (le-trans (mono (pc + nr - (nc + pr)) pp (u .0)) (le-of-eq i)) (le-trans (le-of-eq (sym j)) (mono np (nc + pr - (pc + nr)) (u .1)))
-      go false y n =
-          let g : pp + nc + pr < pc + np + nr = n tt in
-          let d : pr ≤ np + pc - (pp + nc) = omega arith in
-          far (R (pp + nc - (np + pc))) (R (np + pc - (pp + nc))) pr near z (le-trans (le-of-eq (sym k)) (mono pr (np + pc - (pp + nc)) d))
+  low-side h =
+      elim (d-le (pc + np + nr) (pp + nc + pr)) [
+        | inl g ↦ omega (arith, mono (pc + nr - (nc + pr)) pp (⊎-elim (λ e. omega arith) (λ e. omega arith) one), mono np (nc + pr - (pc + nr)) (⊎-elim (λ e. omega arith) (λ e. omega arith) one))
+        | inr g ↦ omega (arith, mono pr (np + pc - (pp + nc)) (omega arith))
+      ]
 
   high-side : R (pc + pr - (nc + nr)) + np < pp + R (nc + nr - (pc + pr)) → ⊥
-  high-side h = go (leb (pp + nc + nr) (pc + pr + np)) (leb→le (pp + nc + nr) (pc + pr + np)) (nleb→lt (pp + nc + nr) (pc + pr + np))
-    where
-      up : pp + nc + nr ≤ pc + pr + np → (pp ≡ 0) ⊎ (np ≡ 0) → (pp ≤ pc + pr - (nc + nr)) × (nc + nr - (pc + pr) ≤ np)
-      up g (inl e) = (omega arith, omega arith)
-      up g (inr e) = (omega arith, omega arith)
-
-      end : (a b x y : ℕ) → y + b < a + x → a ≤ y → x ≤ b → ⊥
-      end a b x y h g l = omega arith
-
-      far : (a b c : ℕ) → a + b < c + nr → nr ≡ 0 → c ≤ a → ⊥
-      far a b c h e g = omega arith
-
-      go : (t : Bool) → (T t → pp + nc + nr ≤ pc + pr + np) → (T (not t) → pc + pr + np < pp + nc + nr) → ⊥
-      go true y n =
-          let u = up (y tt) one in
-          end pp np (R (nc + nr - (pc + pr))) (R (pc + pr - (nc + nr))) h (le-trans (le-of-eq (sym i)) (mono pp (pc + pr - (nc + nr)) (u .0))) (le-trans (mono (nc + nr - (pc + pr)) np (u .1)) (le-of-eq j))
-      go false y n =
-          let g : pc + pr + np < pp + nc + nr = n tt in
-          let d : pr ≤ pp + nc - (np + pc) = omega arith in
-          far (R (pp + nc - (np + pc))) (R (np + pc - (pp + nc))) pr near z (le-trans (le-of-eq (sym k)) (mono pr (pp + nc - (np + pc)) d))
+  high-side h =
+      elim (d-le (pp + nc + nr) (pc + pr + np)) [
+        | inl g ↦ omega (arith, mono pp (pc + pr - (nc + nr)) (⊎-elim (λ e. omega arith) (λ e. omega arith) one), mono (nc + nr - (pc + pr)) np (⊎-elim (λ e. omega arith) (λ e. omega arith) one))
+        | inr g ↦ omega (arith, mono pr (pp + nc - (np + pc)) (omega arith))
+      ]
 
 module _ (f : Format) where
   -- a value that the format holds, and no infinity or NaN
@@ -78,11 +49,8 @@ module _ (f : Format) where
 
   pub not-below-zero : (r : Float) (pr nr : ℕ) → Num f r pr nr → T (le zeroF r) → nr ≡ 0
   not-below-zero r pr nr v h =
-      go pr nr (le-num f zeroF r 0 0 pr nr (ap (λ (z : ℕ). z * 2 ^ low f) (zero-mul 1) ∙ zero-mul (2 ^ low f), refl, pow-pos (low f + suc (emax f))) v h) (either f r pr nr v)
-    where
-      go : (p n : ℕ) → 0 + n ≤ p + 0 → (p ≡ 0) ⊎ (n ≡ 0) → n ≡ 0
-      go p n h (inl e) = omega arith
-      go p n h (inr e) = e
+      let i = le-num f zeroF r 0 0 pr nr (ap (λ (z : ℕ). z * 2 ^ low f) (zero-mul 1) ∙ zero-mul (2 ^ low f), refl, pow-pos (low f + suc (emax f))) v h in
+      ⊎-elim (λ e. omega arith) (λ e. e) (either f r pr nr v)
 
   pub around : (x c r : Float) (pp np pc nc pr nr : ℕ) → Plain x → Plain c → Plain r → Num f x pp np → Num f c pc nc → Num f r pr nr → nr ≡ 0
       → R f (pp + nc - (np + pc)) + R f (np + pc - (pp + nc)) < pr + nr → Around x c r

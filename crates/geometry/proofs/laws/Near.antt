@@ -1,14 +1,16 @@
 -- A point that the circle test finds differs from the centre by less than the radius on each axis, as the machine rounds the differences. Assumes nothing.
+use mathlib.Core.Logic.{inl, inr}
 use mathlib.Core.Path.{_≡_, refl, sym, subst}
 use Prim.Native.Nat.{ℕ, suc, _+_, _-_, _≤_, _<_}
 use native.Mathlib.Nat.{lt-irrefl}
 use native.Mathlib.Omega.{arith}
-use mathlib.Core.Bool.{Bool, true, false, not}
-use lib.Dec.{T, leb, leb→le, nleb→lt}
+use mathlib.Core.Bool.{true, false}
+use lib.Dec.{T}
 use lib.Pow.{pow-pos}
 use lib.Ieee.{Float, nan, inf, fin, Format, emax, low, add, mul, lt}
 use lib.Ieee.Fits.{mul-fits}
 use lib.Ieee.Scale.{finite, overflow}
+use Rattle.basics.proofs.laws.Says.{d-le}
 use Rattle.geometry.specs.Inner.Value.{Num}
 use Rattle.geometry.proofs.laws.Value.{lt-num}
 use Rattle.geometry.proofs.laws.Rounding.{R, R-mono, R-zero, fixed}
@@ -63,10 +65,7 @@ module _ (f : Format) where
   of-square (fin s m e) p n v h = tt
 
   less : (x r a : ℕ) → R f a + 0 < r + R f 0 → R f x ≤ R f a → x ≡ R f x → x < r
-  less x r a h g e = go (R f a) (R f 0) (R f x) h g e (R-zero f)
-    where
-      go : (ra ro rx : ℕ) → ra + 0 < r + ro → rx ≤ ra → x ≡ rx → ro ≡ 0 → x < r
-      go ra ro rx h g e z = omega arith
+  less x r a h g e = omega (arith, R-zero f)
 
   -- ---- a point that is found differs by less than r
   module _ (x y r : Float) (p n q k pr nr : ℕ) (v : Num f x p n) (w : Num f y q k) (u : Num f r pr nr) (fr : T (finite r)) (h : T (lt (add f (mul f x x) (mul f y y)) (mul f r r))) where
@@ -91,35 +90,16 @@ module _ (f : Format) where
         (add-num f (mul f x x) (mul f y y) (square f x) 0 (square f y) 0 found-fx found-fy (sq-num f x fx) (sq-num f y fy)) (sq-num f r fr) h
 
     sum-lt : R f (square f x + square f y) + 0 < square f r + R f 0
-    sum-lt = subst (λ (s : ℕ). R f s + 0 < square f r + R f 0) (a (square f x + square f y)) (subst (λ (s : ℕ). R f (square f x + square f y - (0 + 0)) + 0 < square f r + R f s) (b (square f x + square f y)) both)
-      where
-        a : (s : ℕ) → s - (0 + 0) ≡ s
-        a s = omega arith
-
-        b : (s : ℕ) → 0 + 0 - s ≡ 0
-        b s = omega arith
+    sum-lt = subst (λ (s : ℕ). R f s + 0 < square f r + R f 0) (omega arith) (subst (λ (s : ℕ). R f (square f x + square f y - (0 + 0)) + 0 < square f r + R f s) (omega arith) both)
 
     x-less : square f x < square f r
-    x-less = less (square f x) (square f r) (square f x + square f y) sum-lt (R-mono f (square f x) (square f x + square f y) (go (square f x) (square f y))) (sym (fixed f (mul f x x) (square f x) 0 (mul-fits f x x) found-fx (sq-num f x fx) .0))
-      where
-        go : (a b : ℕ) → a ≤ a + b
-        go a b = omega arith
+    x-less = less (square f x) (square f r) (square f x + square f y) sum-lt (R-mono f (square f x) (square f x + square f y) (omega arith)) (sym (fixed f (mul f x x) (square f x) 0 (mul-fits f x x) found-fx (sq-num f x fx) .0))
 
     y-less : square f y < square f r
-    y-less = less (square f y) (square f r) (square f x + square f y) sum-lt (R-mono f (square f y) (square f x + square f y) (go (square f x) (square f y))) (sym (fixed f (mul f y y) (square f y) 0 (mul-fits f y y) found-fy (sq-num f y fy) .0))
-      where
-        go : (a b : ℕ) → b ≤ a + b
-        go a b = omega arith
+    y-less = less (square f y) (square f r) (square f x + square f y) sum-lt (R-mono f (square f y) (square f x + square f y) (omega arith)) (sym (fixed f (mul f y y) (square f y) 0 (mul-fits f y y) found-fy (sq-num f y fy) .0))
 
     clash : (a b c d : ℕ) → (a ≤ b → c ≤ d) → d < c → b < a
-    clash a b c d g h = go (leb a b) (leb→le a b) (nleb→lt a b)
-      where
-        no : (c d : ℕ) → c ≤ d → d < c → ⊥
-        no c d g h = omega arith
-
-        go : (t : Bool) → (T t → a ≤ b) → (T (not t) → b < a) → b < a
-        go true y n = absurd (no c d (g (y tt)) h)
-        go false y n = n tt
+    clash a b c d g h = elim (d-le a b) [ inl i ↦ absurd (omega (arith, g i)) | inr i ↦ omega arith ]
 
     pub x-near : p + n < pr + nr
     x-near = clash (pr + nr) (p + n) (square f r) (square f x) (square-mono f r x pr nr p n fr fx u v) x-less

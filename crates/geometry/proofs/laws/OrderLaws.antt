@@ -1,12 +1,14 @@
 -- The order of finite floats: each is at most itself, and of two one is at most the other. Assumes nothing.
+use mathlib.Core.Logic.{inl, inr}
 use mathlib.Core.Path.{_≡_, refl, subst}
-use Prim.Native.Nat.{ℕ, _*_, _≤_, _<_}
+use Prim.Native.Nat.{ℕ, _*_, _≤_}
 use native.Mathlib.Nat.{le-of-eq}
 use native.Mathlib.Omega.{arith}
-use mathlib.Core.Bool.{Bool, true, false, not}
-use lib.Dec.{T, leb, leb→le, nleb→lt}
+use mathlib.Core.Bool.{Bool, true, false}
+use lib.Dec.{T}
 use lib.Ieee.{Float, nan, inf, fin, up, down, lt, eq, le}
 use lib.Ieee.Scale.{finite}
+use Rattle.basics.proofs.laws.Says.{d-le}
 use Rattle.geometry.proofs.laws.Back.{le-ff, le-tt, le-tf}
 
 pub le-refl : (x : Float) → T (finite x) → T (le x x)
@@ -18,14 +20,7 @@ le-refl (fin true m e) h = le-tt (m * up e * down e) (m * up e * down e) (le-of-
 
 -- the one way or the other
 either-way : (a b : ℕ) {P : Type 0} → (a ≤ b → P) → (b ≤ a → P) → P
-either-way a b {P} f g = go (leb a b) (leb→le a b) (nleb→lt a b)
-  where
-    weak : (a b : ℕ) → a < b → a ≤ b
-    weak a b h = omega arith
-
-    go : (t : Bool) → (T t → a ≤ b) → (T (not t) → b < a) → P
-    go true y n = f (y tt)
-    go false y n = g (weak b a (n tt))
+either-way a b f g = elim (d-le a b) [ inl i ↦ f i | inr i ↦ g (omega arith) ]
 
 not-both : (b : Bool) → b ≡ false → T b → ⊥
 not-both b e t = subst T e t

@@ -19,40 +19,25 @@ Below p q = T (le (p .x) (q .x)) × T (le (p .y) (q .y))
 
 -- ---- one axis
 module _ (a b : Float) (fa : T (finite a)) (fb : T (finite b)) where
+  -- what holds of the one that a test picks
+  picks : (P : Float → Type 0) (t : Bool) → (t ≡ true → P a) → (t ≡ false → P b) → P (pick t a b)
+  picks P true f g = f refl
+  picks P false f g = g refl
+
   pub lesser-first : T (le (lesser a b) a)
-  lesser-first = go (le a b) refl
-    where
-      go : (t : Bool) → le a b ≡ t → T (le (pick t a b) a)
-      go true e = le-refl a fa
-      go false e = le-total a b fa fb e
+  lesser-first = picks (λ z. T (le z a)) (le a b) (λ e. le-refl a fa) (le-total a b fa fb)
 
   pub lesser-second : T (le (lesser a b) b)
-  lesser-second = go (le a b) refl
-    where
-      go : (t : Bool) → le a b ≡ t → T (le (pick t a b) b)
-      go true e = subst T (sym e) tt
-      go false e = le-refl b fb
+  lesser-second = picks (λ z. T (le z b)) (le a b) (λ e. subst T (sym e) tt) (λ e. le-refl b fb)
 
   pub first-greater : T (le a (greater a b))
-  first-greater = go (le b a) refl
-    where
-      go : (t : Bool) → le b a ≡ t → T (le a (pick t a b))
-      go true e = le-refl a fa
-      go false e = le-total b a fb fa e
+  first-greater = picks (λ z. T (le a z)) (le b a) (λ e. le-refl a fa) (le-total b a fb fa)
 
   pub second-greater : T (le b (greater a b))
-  second-greater = go (le b a) refl
-    where
-      go : (t : Bool) → le b a ≡ t → T (le b (pick t a b))
-      go true e = subst T (sym e) tt
-      go false e = le-refl b fb
+  second-greater = picks (λ z. T (le b z)) (le b a) (λ e. subst T (sym e) tt) (λ e. le-refl b fb)
 
   pub lesser-greater : T (le (lesser a b) (greater a b))
-  lesser-greater = go (le a b) refl
-    where
-      go : (t : Bool) → le a b ≡ t → T (le (pick t a b) (greater a b))
-      go true e = first-greater
-      go false e = second-greater
+  lesser-greater = picks (λ z. T (le z (greater a b))) (le a b) (λ e. first-greater) (λ e. second-greater)
 
 -- one of two numbers of the domain is one
 pub picked : (t : Bool) (a b : Float) → T (inDomain a) → T (inDomain b) → T (inDomain (pick t a b))

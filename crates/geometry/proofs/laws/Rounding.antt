@@ -1,4 +1,5 @@
 -- Rounding, in units of the format's smallest value: one function, which keeps the order and leaves every value of the format as it is. Assumes nothing.
+use mathlib.Core.Logic.{inl, inr}
 use mathlib.Core.Path.{_≡_, refl, sym, ap, _∙_, subst}
 use Prim.Native.Nat.{ℕ, zero, suc, _+_, _-_, _*_, _%_, _^_, _≤_, _<_, min}
 use native.Mathlib.Nat.{le-of-eq, lt-of-lt-of-le, lt-of-le-of-lt, lt-irrefl, mul-one, zero-mul, mul-comm, mul-assoc, mul-right-comm, mul-le-mul-right, mul-lt-mul-of-pos-right, lt-of-mul-lt-mul-right, eq-of-mul-eq-mul-right}
@@ -13,6 +14,7 @@ use lib.Ieee.Fits.{down-pos, and-l, and-r, round-is}
 use lib.Ieee.Exact.{HasValue, odd-sign, round-exact}
 use lib.Ieee.Order.{round-mono, kept, drop}
 use lib.Ieee.Scale.{grid, overflow, finite}
+use Rattle.basics.proofs.laws.Says.{d-lt}
 use Rattle.geometry.specs.Inner.Value.{Num}
 use Rattle.geometry.proofs.laws.Value.{le-num, over-pos}
 
@@ -39,12 +41,6 @@ module _ (f : Format) where
   inf-num false = (refl, refl)
   inf-num true = (refl, refl)
 
-  min-low : (n c : ℕ) → n < c → n ≡ min n c
-  min-low n c h = omega arith
-
-  min-high : (n c : ℕ) → c ≤ n → c ≡ min n c
-  min-high n c h = omega arith
-
   units-num : (s : Bool) (q k : ℕ) → Num f (units f s q k) (cond s 0 (min (q * 2 ^ k) (overflow f))) (cond s (min (q * 2 ^ k) (overflow f)) 0)
   unfolding units
   units-num s q k = go (ltb (q * 2 ^ k) (overflow f)) (ltb→lt (q * 2 ^ k) (overflow f)) (nltb→le (q * 2 ^ k) (overflow f))
@@ -53,30 +49,21 @@ module _ (f : Format) where
           → Num f (cond b (odd (suc (prec f)) s q k (low f)) (inf s)) (cond s 0 (min (q * 2 ^ k) (overflow f))) (cond s (min (q * 2 ^ k) (overflow f)) 0)
       go true y n =
           let x = odd (suc (prec f)) s q k (low f) in
-          subst (λ (z : ℕ). Num f x (cond s 0 z) (cond s z 0)) (min-low (q * 2 ^ k) (overflow f) (y tt)) (from-value x s (q * 2 ^ k) (odd-sign (suc (prec f)) s q k (low f)) (y tt))
-      go false y n = subst (λ (z : ℕ). Num f (inf s) (cond s 0 z) (cond s z 0)) (min-high (q * 2 ^ k) (overflow f) (n tt)) (inf-num s)
+          subst (λ (z : ℕ). Num f x (cond s 0 z) (cond s z 0)) (omega (arith, y tt)) (from-value x s (q * 2 ^ k) (odd-sign (suc (prec f)) s q k (low f)) (y tt))
+      go false y n = subst (λ (z : ℕ). Num f (inf s) (cond s 0 z) (cond s z 0)) (omega (arith, n tt)) (inf-num s)
 
   pub round-num : (s : Bool) (a c : ℕ) → Num f (round f s a c) (cond s 0 (rnd a c)) (cond s (rnd a c) 0)
   round-num s a c = subst (λ (x : Float). Num f x (cond s 0 (rnd a c)) (cond s (rnd a c) 0)) (sym (round-is f s a c)) (units-num s (kept (prec f) (a * l) c) (drop (prec f) (a * l) c))
 
   pub rnd-mono : (a b c d : ℕ) → 0 < b → 0 < d → a * d ≤ c * b → rnd a b ≤ rnd c d
-  rnd-mono a b c d B D h = go (rnd a b) (rnd c d) (le-num f (round f false a b) (round f false c d) (rnd a b) 0 (rnd c d) 0 (round-num false a b) (round-num false c d) (round-mono f a b c d B D h))
-    where
-      go : (x y : ℕ) → x + 0 ≤ y + 0 → x ≤ y
-      go x y h = omega arith
+  rnd-mono a b c d B D h = omega (arith, le-num f (round f false a b) (round f false c d) (rnd a b) 0 (rnd c d) 0 (round-num false a b) (round-num false c d) (round-mono f a b c d B D h))
 
   -- ---- a value that the format holds: m * 2 ^ j units, with m of no more digits than the format keeps
   abbrev Held : ℕ → ℤ → Type 0
   Held m e = (j : ℕ) × (m * up e * l ≡ m * 2 ^ j * down e) × (m * 2 ^ j < overflow f) × (m < 2 ^ prec f)
 
   pow-le-back : (i k : ℕ) → 2 ^ i ≤ 2 ^ k → i ≤ k
-  pow-le-back i k h = go i k (λ (g : k < i). lt-irrefl (2 ^ k) (lt-of-lt-of-le (strict k i g) h))
-    where
-      strict : (k i : ℕ) → k < i → 2 ^ k < 2 ^ i
-      strict k i g = pow-lt g
-
-      go : (i k : ℕ) → (k < i → ⊥) → i ≤ k
-      go i k h = omega arith
+  pow-le-back i k h = elim (d-lt k i) [ inl g ↦ absurd (lt-irrefl (2 ^ k) (lt-of-lt-of-le (pow-lt g) h)) | inr g ↦ omega arith ]
 
   units-at : (m : ℕ) (e : ℤ) → down e ≤ l → (j : ℕ) × (m * up e * l ≡ m * 2 ^ j * down e)
   units-at m (pos k) h = (k + low f, mul-assoc m (2 ^ k) l ∙ ap (λ (z : ℕ). m * z) (sym (pow-add 2 k (low f))) ∙ sym (mul-one (m * 2 ^ (k + low f))))

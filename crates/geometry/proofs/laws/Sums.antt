@@ -1,5 +1,5 @@
 -- The value of a sum, of a difference and of a square is the exact one, rounded once. Assumes nothing.
-use mathlib.Core.Path.{_≡_, refl, sym, ap, _∙_, subst}
+use mathlib.Core.Path.{_≡_, sym, ap, _∙_, subst}
 use Prim.Native.Nat.{ℕ, _+_, _-_, _*_, _^_, _≤_, _<_}
 use native.Mathlib.Nat.{le-trans, le-of-eq, mul-comm, mul-le-mul-right, mul-le-mul, mul-pos, mul-sub, add-mul, mul-mul-mul-comm}
 use native.Mathlib.Omega.{arith}
@@ -83,9 +83,6 @@ module _ (f : Format) where
   abbrev pub Sum : Float → ℕ → ℕ → ℕ → ℕ → Type 0
   Sum z p n q k = Num f z (R f (p + q - (n + k))) (R f (n + k - (p + q)))
 
-  put : (z : Float) (p n q k p' n' q' k' : ℕ) → p ≡ p' → n ≡ n' → q ≡ q' → k ≡ k' → Sum z p' n' q' k' → Sum z p n q k
-  put z p n q k p' n' q' k' a b c d h = rw (a, b, c, d) h
-
   pub add-num : (x y : Float) (p n q k : ℕ) → T (finite x) → T (finite y) → Num f x p n → Num f y q k → Sum (add f x y) p n q k
   unfolding add
   add-num nan y p n q k g h v w = absurd g
@@ -93,20 +90,16 @@ module _ (f : Format) where
   add-num (fin s a e) nan p n q k g h v w = absurd h
   add-num (fin s a e) (inf t) p n q k g h v w = absurd h
   add-num (fin false a e) (fin false b d) p n q k g h v w =
-      let z = sum f false (a * up e * down d) false (b * up d * down e) (down e * down d) in
-      put z p n q k p 0 q 0 refl (v .1) refl (w .1)
+      rw (v .1, w .1)
       (sum-ff (a * up e * down d) (b * up d * down e) (down e * down d) p q (mul-pos (down-pos e) (down-pos d)) (common (a * up e) l p (down e) (down d) (v .0)) (common' (b * up d) l q (down e) (down d) (w .0)))
   add-num (fin false a e) (fin true b d) p n q k g h v w =
-      let z = sum f false (a * up e * down d) true (b * up d * down e) (down e * down d) in
-      put z p n q k p 0 0 k refl (v .1) (w .1) refl
+      rw (v .1, w .1)
       (sum-ft (a * up e * down d) (b * up d * down e) (down e * down d) p k (mul-pos (down-pos e) (down-pos d)) (common (a * up e) l p (down e) (down d) (v .0)) (common' (b * up d) l k (down e) (down d) (w .0)))
   add-num (fin true a e) (fin false b d) p n q k g h v w =
-      let z = sum f true (a * up e * down d) false (b * up d * down e) (down e * down d) in
-      put z p n q k 0 n q 0 (v .1) refl refl (w .1)
+      rw (v .1, w .1)
       (sum-tf (a * up e * down d) (b * up d * down e) (down e * down d) n q (mul-pos (down-pos e) (down-pos d)) (common (a * up e) l n (down e) (down d) (v .0)) (common' (b * up d) l q (down e) (down d) (w .0)))
   add-num (fin true a e) (fin true b d) p n q k g h v w =
-      let z = sum f true (a * up e * down d) true (b * up d * down e) (down e * down d) in
-      put z p n q k 0 n 0 k (v .1) refl (w .1) refl
+      rw (v .1, w .1)
       (sum-tt (a * up e * down d) (b * up d * down e) (down e * down d) n k (mul-pos (down-pos e) (down-pos d)) (common (a * up e) l n (down e) (down d) (v .0)) (common' (b * up d) l k (down e) (down d) (w .0)))
 
   pub neg-num : (x : Float) (p n : ℕ) → Num f x p n → Num f (neg x) n p
@@ -141,14 +134,8 @@ module _ (f : Format) where
   size-is : (x : Float) (p n : ℕ) → T (finite x) → Num f x p n → num x * l ≡ (p + n) * den x
   size-is nan p n h v = absurd h
   size-is (inf s) p n h v = absurd h
-  size-is (fin false m e) p n h v = v .0 ∙ ap (λ (z : ℕ). z * down e) (go p n (v .1))
-    where
-      go : (p n : ℕ) → n ≡ 0 → p ≡ p + n
-      go p n h = omega arith
-  size-is (fin true m e) p n h v = v .0 ∙ ap (λ (z : ℕ). z * down e) (go p n (v .1))
-    where
-      go : (p n : ℕ) → p ≡ 0 → n ≡ p + n
-      go p n h = omega arith
+  size-is (fin false m e) p n h v = v .0 ∙ ap (λ (z : ℕ). z * down e) (omega (arith, v .1))
+  size-is (fin true m e) p n h v = v .0 ∙ ap (λ (z : ℕ). z * down e) (omega (arith, v .1))
 
   pub square-mono : (x y : Float) (p n q k : ℕ) → T (finite x) → T (finite y) → Num f x p n → Num f y q k → p + n ≤ q + k → square x ≤ square y
   square-mono x y p n q k g h v w i =

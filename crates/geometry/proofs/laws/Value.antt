@@ -4,7 +4,7 @@
 use mathlib.Core.Path.{_≡_, sym, ap, _∙_, subst}
 use mathlib.Core.Logic.{_⊎_, inl, inr}
 use Prim.Native.Nat.{ℕ, suc, _+_, _*_, _^_, _≤_, _<_}
-use native.Mathlib.Nat.{le-trans, le-of-eq, lt-of-lt-of-le, lt-of-le-of-lt, lt-irrefl, zero-mul, mul-comm, mul-assoc, mul-right-comm}
+use native.Mathlib.Nat.{eq-zero-or-pos, le-trans, le-of-eq, lt-of-lt-of-le, lt-of-le-of-lt, lt-irrefl, zero-mul, mul-comm, mul-assoc, mul-right-comm}
 use native.Mathlib.Nat.{mul-le-mul-right, mul-lt-mul-of-pos-right, lt-of-mul-lt-mul-right, le-of-mul-le-mul-right, mul-pos, add-mul}
 use native.Mathlib.Nat.{eq-of-mul-eq-mul-right}
 use native.Mathlib.Omega.{arith}
@@ -15,6 +15,10 @@ use lib.Ieee.{Float, nan, inf, fin, Format, emax, low, up, down, lt, eq, le}
 use lib.Ieee.Fits.{down-pos, and-l, and-r}
 use lib.Ieee.Scale.{overflow}
 use Rattle.geometry.specs.Inner.Value.{Num}
+
+pub or-cases : (a b : Bool) → T (a || b) → T a ⊎ T b
+or-cases true b h = inl tt
+or-cases false b h = inr h
 
 pub over-pos : (f : Format) → 0 < overflow f
 over-pos f = pow-pos (low f + suc (emax f))
@@ -34,10 +38,11 @@ module _ (a b l k j w : ℕ) (W : 0 < w) (L : 0 < l) (p : a * l ≡ k * w) (q : 
   scaled-eq h = eq-of-mul-eq-mul-right w W k j (sym p ∙ ap (λ (z : ℕ). z * l) h ∙ q)
 
   scaled-sum : 0 < a + b → 0 < k + j
-  scaled-sum h = go (k + j) (λ (z : k + j ≡ 0). lt-irrefl 0 (subst (λ (y : ℕ). 0 < y) (add-mul a b l ∙ ap (λ (y : ℕ). y + b * l) p ∙ ap (λ (y : ℕ). k * w + y) q ∙ sym (add-mul k j w) ∙ ap (λ (y : ℕ). y * w) z ∙ zero-mul w) (mul-pos h L)))
-    where
-      go : (y : ℕ) → (y ≡ 0 → ⊥) → 0 < y
-      go y h = omega arith
+  scaled-sum h =
+      elim (eq-zero-or-pos (k + j)) [
+        | inl z ↦ absurd (lt-irrefl 0 (subst (λ (y : ℕ). 0 < y) (add-mul a b l ∙ ap (λ (y : ℕ). y + b * l) p ∙ ap (λ (y : ℕ). k * w + y) q ∙ sym (add-mul k j w) ∙ ap (λ (y : ℕ). y * w) z ∙ zero-mul w) (mul-pos h L)))
+        | inr g ↦ g
+      ]
 
 pub scaled-zero : (a l k w : ℕ) → 0 < w → a * l ≡ k * w → a ≡ 0 → k ≡ 0
 scaled-zero a l k w W p h = eq-of-mul-eq-mul-right w W k 0 (sym p ∙ ap (λ (z : ℕ). z * l) h ∙ zero-mul l ∙ sym (zero-mul w))
@@ -57,104 +62,65 @@ module _ (f : Format) where
   L : 0 < l
   L = pow-pos (low f)
 
-  lt-nn : (p n q k o : ℕ) → n ≡ 0 → k ≡ 0 → p < q → p + k < q + n
-  lt-nn p n q k o a b h = omega arith
-
-  lt-mixed : (p n q k : ℕ) → p ≡ 0 → k ≡ 0 → 0 < n + q → p + k < q + n
-  lt-mixed p n q k a b h = omega arith
-
-  lt-bb : (p n q k : ℕ) → p ≡ 0 → q ≡ 0 → k < n → p + k < q + n
-  lt-bb p n q k a b h = omega arith
-
   pub lt-num : (x y : Float) (p n q k : ℕ) → Num f x p n → Num f y q k → T (lt x y) → p + k < q + n
   unfolding lt
   lt-num nan y p n q k v w h = absurd v
   lt-num (inf s) nan p n q k v w h = absurd w
   lt-num (inf false) (inf t) p n q k v w h = absurd h
   lt-num (inf true) (inf true) p n q k v w h = absurd h
-  lt-num (inf true) (inf false) p n q k v w h = lt-mixed p n q k (v .1) (w .1) (go n q (overflow f) (over-pos f) (v .0))
-    where
-      go : (n q o : ℕ) → 0 < o → n ≡ o → 0 < n + q
-      go n q o h e = omega arith
+  lt-num (inf true) (inf false) p n q k v w h = omega (arith, v .1, w .1, over-pos f, v .0)
   lt-num (inf false) (fin t b d) p n q k v w h = absurd h
-  lt-num (inf true) (fin false b d) p n q k v w h = lt-mixed p n q k (v .1) (w .1) (go n q (overflow f) (over-pos f) (v .0))
-    where
-      go : (n q o : ℕ) → 0 < o → n ≡ o → 0 < n + q
-      go n q o h e = omega arith
-  lt-num (inf true) (fin true b d) p n q k v w h = lt-bb p n q k (v .1) (w .1) (lt-of-lt-of-le (w .2) (le-of-eq (sym (v .0))))
+  lt-num (inf true) (fin false b d) p n q k v w h = omega (arith, v .1, w .1, over-pos f, v .0)
+  lt-num (inf true) (fin true b d) p n q k v w h = omega (arith, v .1, w .1, lt-of-lt-of-le (w .2) (le-of-eq (sym (v .0))))
   lt-num (fin s a e) nan p n q k v w h = absurd w
   lt-num (fin s a e) (inf true) p n q k v w h = absurd h
-  lt-num (fin false a e) (inf false) p n q k v w h = lt-nn p n q k 0 (v .1) (w .1) (lt-of-lt-of-le (v .2) (le-of-eq (sym (w .0))))
-  lt-num (fin true a e) (inf false) p n q k v w h = lt-mixed p n q k (v .1) (w .1) (go n q (overflow f) (over-pos f) (w .0))
-    where
-      go : (n q o : ℕ) → 0 < o → q ≡ o → 0 < n + q
-      go n q o h e = omega arith
+  lt-num (fin false a e) (inf false) p n q k v w h = omega (arith, v .1, w .1, lt-of-lt-of-le (v .2) (le-of-eq (sym (w .0))))
+  lt-num (fin true a e) (inf false) p n q k v w h = omega (arith, v .1, w .1, over-pos f, w .0)
   lt-num (fin false a e) (fin true b d) p n q k v w h = absurd h
   lt-num (fin false a e) (fin false b d) p n q k v w h =
-      lt-nn p n q k 0 (v .1) (w .1)
-      (scaled-lt (a * up e * down d) (b * up d * down e) l p q (down e * down d) (mul-pos (down-pos e) (down-pos d)) L (common (a * up e) l p (down e) (down d) (v .0)) (common' (b * up d) l q (down e) (down d) (w .0)) (ltb→lt (a * up e * down d) (b * up d * down e) h))
+      omega (arith, v .1, w .1, scaled-lt (a * up e * down d) (b * up d * down e) l p q (down e * down d) (mul-pos (down-pos e) (down-pos d)) L (common (a * up e) l p (down e) (down d) (v .0)) (common' (b * up d) l q (down e) (down d) (w .0)) (ltb→lt (a * up e * down d) (b * up d * down e) h))
   lt-num (fin true a e) (fin false b d) p n q k v w h =
-      lt-mixed p n q k (v .1) (w .1)
-      (scaled-sum (a * up e * down d) (b * up d * down e) l n q (down e * down d) (mul-pos (down-pos e) (down-pos d)) L (common (a * up e) l n (down e) (down d) (v .0)) (common' (b * up d) l q (down e) (down d) (w .0)) (ltb→lt 0 (a * up e * down d + b * up d * down e) h))
+      omega (arith, v .1, w .1, scaled-sum (a * up e * down d) (b * up d * down e) l n q (down e * down d) (mul-pos (down-pos e) (down-pos d)) L (common (a * up e) l n (down e) (down d) (v .0)) (common' (b * up d) l q (down e) (down d) (w .0)) (ltb→lt 0 (a * up e * down d + b * up d * down e) h))
   lt-num (fin true a e) (fin true b d) p n q k v w h =
-      lt-bb p n q k (v .1) (w .1)
-      (scaled-lt (b * up d * down e) (a * up e * down d) l k n (down e * down d) (mul-pos (down-pos e) (down-pos d)) L (common' (b * up d) l k (down e) (down d) (w .0)) (common (a * up e) l n (down e) (down d) (v .0)) (ltb→lt (b * up d * down e) (a * up e * down d) h))
-
-  eq-nn : (p n q k : ℕ) → n ≡ 0 → k ≡ 0 → p ≡ q → p + k ≡ q + n
-  eq-nn p n q k a b h = omega arith
-
-  eq-bb : (p n q k : ℕ) → p ≡ 0 → q ≡ 0 → n ≡ k → p + k ≡ q + n
-  eq-bb p n q k a b h = omega arith
-
-  zeros : (p n q k : ℕ) → p ≡ 0 → n ≡ 0 → q ≡ 0 → k ≡ 0 → p + k ≡ q + n
-  zeros p n q k a b c d = omega arith
+      omega (arith, v .1, w .1, scaled-lt (b * up d * down e) (a * up e * down d) l k n (down e * down d) (mul-pos (down-pos e) (down-pos d)) L (common' (b * up d) l k (down e) (down d) (w .0)) (common (a * up e) l n (down e) (down d) (v .0)) (ltb→lt (b * up d * down e) (a * up e * down d) h))
 
   pub eq-num : (x y : Float) (p n q k : ℕ) → Num f x p n → Num f y q k → T (eq x y) → p + k ≡ q + n
   unfolding eq
   eq-num nan y p n q k v w h = absurd v
   eq-num (inf s) nan p n q k v w h = absurd w
-  eq-num (inf false) (inf false) p n q k v w h = eq-nn p n q k (v .1) (w .1) (v .0 ∙ sym (w .0))
+  eq-num (inf false) (inf false) p n q k v w h = omega (arith, v .1, w .1, v .0 ∙ sym (w .0))
   eq-num (inf false) (inf true) p n q k v w h = absurd h
   eq-num (inf true) (inf false) p n q k v w h = absurd h
-  eq-num (inf true) (inf true) p n q k v w h = eq-bb p n q k (v .1) (w .1) (v .0 ∙ sym (w .0))
+  eq-num (inf true) (inf true) p n q k v w h = omega (arith, v .1, w .1, v .0 ∙ sym (w .0))
   eq-num (inf s) (fin t b d) p n q k v w h = absurd h
   eq-num (fin s a e) nan p n q k v w h = absurd w
   eq-num (fin s a e) (inf t) p n q k v w h = absurd h
   eq-num (fin false a e) (fin false b d) p n q k v w h =
       let x = a * up e * down d in
       let y = b * up d * down e in
-      eq-nn p n q k (v .1) (w .1)
-      (scaled-eq x y l p q (down e * down d) (mul-pos (down-pos e) (down-pos d)) L (common (a * up e) l p (down e) (down d) (v .0)) (common' (b * up d) l q (down e) (down d) (w .0)) (eqb→eq x y (and-l (eqb x y) true h)))
+      omega (arith, v .1, w .1, scaled-eq x y l p q (down e * down d) (mul-pos (down-pos e) (down-pos d)) L (common (a * up e) l p (down e) (down d) (v .0)) (common' (b * up d) l q (down e) (down d) (w .0)) (eqb→eq x y (and-l (eqb x y) true h)))
   eq-num (fin true a e) (fin true b d) p n q k v w h =
       let x = a * up e * down d in
       let y = b * up d * down e in
-      eq-bb p n q k (v .1) (w .1)
-      (scaled-eq x y l n k (down e * down d) (mul-pos (down-pos e) (down-pos d)) L (common (a * up e) l n (down e) (down d) (v .0)) (common' (b * up d) l k (down e) (down d) (w .0)) (eqb→eq x y (and-l (eqb x y) true h)))
+      omega (arith, v .1, w .1, scaled-eq x y l n k (down e * down d) (mul-pos (down-pos e) (down-pos d)) L (common (a * up e) l n (down e) (down d) (v .0)) (common' (b * up d) l k (down e) (down d) (w .0)) (eqb→eq x y (and-l (eqb x y) true h)))
   eq-num (fin false a e) (fin true b d) p n q k v w h =
       let x = a * up e * down d in
       let y = b * up d * down e in
       let z : x ≡ 0 = eqb→eq x 0 (and-r (eqb x y) (eqb x 0) h) in
       let z' : y ≡ 0 = sym (eqb→eq x y (and-l (eqb x y) (eqb x 0) h)) ∙ z in
       let W : 0 < down e * down d = mul-pos (down-pos e) (down-pos d) in
-      zeros p n q k (scaled-zero x l p (down e * down d) W (common (a * up e) l p (down e) (down d) (v .0)) z) (v .1) (w .1) (scaled-zero y l k (down e * down d) W (common' (b * up d) l k (down e) (down d) (w .0)) z')
+      omega (arith, scaled-zero x l p (down e * down d) W (common (a * up e) l p (down e) (down d) (v .0)) z, v .1, w .1, scaled-zero y l k (down e * down d) W (common' (b * up d) l k (down e) (down d) (w .0)) z')
   eq-num (fin true a e) (fin false b d) p n q k v w h =
       let x = a * up e * down d in
       let y = b * up d * down e in
       let z : x ≡ 0 = eqb→eq x 0 (and-r (eqb x y) (eqb x 0) h) in
       let z' : y ≡ 0 = sym (eqb→eq x y (and-l (eqb x y) (eqb x 0) h)) ∙ z in
       let W : 0 < down e * down d = mul-pos (down-pos e) (down-pos d) in
-      zeros p n q k (v .1) (scaled-zero x l n (down e * down d) W (common (a * up e) l n (down e) (down d) (v .0)) z) (scaled-zero y l q (down e * down d) W (common' (b * up d) l q (down e) (down d) (w .0)) z') (w .1)
-
-  or-cases : (a b : Bool) → T (a || b) → T a ⊎ T b
-  or-cases true b h = inl tt
-  or-cases false b h = inr h
+      omega (arith, v .1, scaled-zero x l n (down e * down d) W (common (a * up e) l n (down e) (down d) (v .0)) z, scaled-zero y l q (down e * down d) W (common' (b * up d) l q (down e) (down d) (w .0)) z', w .1)
 
   pub le-num : (x y : Float) (p n q k : ℕ) → Num f x p n → Num f y q k → T (le x y) → p + k ≤ q + n
   unfolding le
-  le-num x y p n q k v w h = elim (or-cases (lt x y) (eq x y) h) [ inl t ↦ below (p + k) (q + n) (lt-num x y p n q k v w t) | inr t ↦ le-of-eq (eq-num x y p n q k v w t) ]
-    where
-      below : (a b : ℕ) → a < b → a ≤ b
-      below a b h = omega arith
+  le-num x y p n q k v w h = elim (or-cases (lt x y) (eq x y) h) [ inl t ↦ (omega (arith, lt-num x y p n q k v w t)) | inr t ↦ le-of-eq (eq-num x y p n q k v w t) ]
 
   pub either : (x : Float) (p n : ℕ) → Num f x p n → (p ≡ 0) ⊎ (n ≡ 0)
   either nan p n v = absurd v

@@ -1,6 +1,6 @@
 -- Within a bound a float is finite, and a sum or a difference of two within 2 ^ j is within 2 ^ (j + 1). Assumes nothing.
 use mathlib.Core.Path.{_≡_, refl, sym, ap, _∙_}
-use mathlib.Core.Logic.{_⊎_, inl, inr}
+use mathlib.Core.Logic.{⊎-elim}
 use Prim.Native.Nat.{ℕ, suc, _+_, _-_, _*_, _^_, _≤_, _<_}
 use native.Mathlib.Nat.{le-trans, le-of-eq, one-mul, mul-one, add-mul, pow-suc}
 use native.Mathlib.Omega.{arith}
@@ -42,28 +42,15 @@ module _ (f : Format) where
   bounds j x p n o v h =
       let a = le-num f (fin true 1 (pos j)) x 0 (at j) p n (power' j o) v (and-l (le (fin true 1 (pos j)) x) (le x (fin false 1 (pos j))) h) in
       let b = le-num f x (fin false 1 (pos j)) p n (at j) 0 v (power j o) (and-r (le (fin true 1 (pos j)) x) (le x (fin false 1 (pos j))) h) in
-      go (either f x p n v) a b
-    where
-      go : (p ≡ 0) ⊎ (n ≡ 0) → 0 + n ≤ p + at j → p + 0 ≤ at j + n → (p ≤ at j) × (n ≤ at j)
-      go (inl e) a b = (omega arith, omega arith)
-      go (inr e) a b = (omega arith, omega arith)
+      ⊎-elim (λ e. omega arith) (λ e. omega arith) (either f x p n v)
 
   pub bounded : (j : ℕ) (x : Float) (p n : ℕ) → at j < overflow f → Num f x p n → p ≤ at j → n ≤ at j → T (within j x)
   bounded j x p n o v a b =
       and-i (le (fin true 1 (pos j)) x) (le x (fin false 1 (pos j)))
-      (num-le f (fin true 1 (pos j)) x 0 (at j) p n (power' j o) v (go p n (at j) b)) (num-le f x (fin false 1 (pos j)) p n (at j) 0 v (power j o) (go' p n (at j) a))
-    where
-      go : (p n w : ℕ) → n ≤ w → 0 + n ≤ p + w
-      go p n w h = omega arith
-
-      go' : (p n w : ℕ) → p ≤ w → p + 0 ≤ w + n
-      go' p n w h = omega arith
+      (num-le f (fin true 1 (pos j)) x 0 (at j) p n (power' j o) v (omega arith)) (num-le f x (fin false 1 (pos j)) p n (at j) 0 v (power j o) (omega arith))
 
   twice : (j : ℕ) → at j + at j ≡ at (suc j)
-  twice j = sym (add-mul (2 ^ j) (2 ^ j) l) ∙ ap (λ (z : ℕ). z * l) (go (2 ^ j) ∙ sym (pow-suc 2 j))
-    where
-      go : (a : ℕ) → a + a ≡ a * 2
-      go a = omega arith
+  twice j = sym (add-mul (2 ^ j) (2 ^ j) l) ∙ ap (λ (z : ℕ). z * l) ((omega arith) ∙ sym (pow-suc 2 j))
 
   module _ (j : ℕ) (x y : Float) (fx : T (fits f x)) (fy : T (fits f y)) (gx : T (finite x)) (gy : T (finite y)) (hx : T (within j x)) (hy : T (within j y)) (room : at (suc j) < overflow f) (top : T (fits f (fin false 1 (pos (suc j))))) where
     abbrev nx : (p : ℕ) × (n : ℕ) × Num f x p n
@@ -73,10 +60,7 @@ module _ (f : Format) where
     ny = number f y fy gy
 
     half : at j < overflow f
-    half = lt-of-le (at j) (at (suc j)) (overflow f) (twice j) room
-      where
-        lt-of-le : (a b o : ℕ) → a + a ≡ b → b < o → a < o
-        lt-of-le a b o e h = omega arith
+    half = omega (arith, twice j)
 
     bx : (nx .0 ≤ at j) × (nx .1 ≤ at j)
     bx = bounds j x (nx .0) (nx .1) half (nx .2) hx
@@ -89,10 +73,7 @@ module _ (f : Format) where
 
     -- a + b - c, rounded, with a and b up to 2 ^ j
     up-to : (a b c : ℕ) → a ≤ at j → b ≤ at j → R f (a + b - c) ≤ at (suc j)
-    up-to a b c p q = le-trans (R-mono f (a + b - c) (at (suc j)) (go (at j) (at (suc j)) (twice j) p q)) (le-of-eq stays)
-      where
-        go : (w u : ℕ) → w + w ≡ u → a ≤ w → b ≤ w → a + b - c ≤ u
-        go w u e p q = omega arith
+    up-to a b c p q = le-trans (R-mono f (a + b - c) (at (suc j)) (omega (arith, twice j))) (le-of-eq stays)
 
     pub add-within : T (within (suc j) (add f x y))
     add-within =
