@@ -2,7 +2,7 @@
 use mathlib.Core.Path.{_≡_, refl, sym, ap, _∙_, subst}
 use mathlib.Core.Bool.{Bool, true, false, not, cond}
 use Prim.Native.Nat.{ℕ, zero, suc, _+_, _-_, _*_, _/_, _%_, _^_, _≤_, _<_, min}
-use native.Mathlib.Nat.{le-trans, le-of-eq, lt-of-lt-of-le, mul-assoc, mul-comm, mul-left-comm, mul-le-mul-right, mod-lt, div-eq-of-lt, div-lt-iff-lt-mul, le-div-iff-mul-le, add-comm, pow-suc}
+use native.Mathlib.Nat.{min-eq-left, min-eq-right, min-le-right, le-of-lt, le-trans, le-of-eq, lt-of-lt-of-le, mul-assoc, mul-comm, mul-left-comm, mul-le-mul-right, mod-lt, div-eq-of-lt, div-lt-iff-lt-mul, le-div-iff-mul-le, add-comm, pow-suc}
 use native.Mathlib.Omega.{arith}
 use lib.IntN.{ℤ, pos, negℤ}
 use lib.Dec.{T, leb, ltb, eqb, eqb→eq, lit≤, lit<}
@@ -23,11 +23,8 @@ join e h = omega arith
 shifted-down : (q e : ℕ) → e ≤ 150 → q / 2 ^ (150 - e) ≡ q * 2 ^ e / 2 ^ 150
 shifted-down q e h = ap (λ (k : ℕ). k / 2 ^ (150 - e)) (sym (shl-shr q e)) ∙ shr-shr (q * 2 ^ e) e (150 - e) ∙ ap (λ (k : ℕ). q * 2 ^ e / 2 ^ k) (join e h)
 
-rejoin : (e : ℕ) → 150 ≤ e → e - 150 + 150 ≡ e
-rejoin e h = omega arith
-
 shifted-up : (q e : ℕ) → 150 ≤ e → q * 2 ^ (e - 150) ≡ q * 2 ^ e / 2 ^ 150
-shifted-up q e h = sym (ap (λ (k : ℕ). k / 2 ^ 150) (ap (λ (k : ℕ). q * 2 ^ k) (sym (rejoin e h)) ∙ ap (λ (k : ℕ). q * k) (pow-add 2 (e - 150) 150) ∙ sym (mul-assoc q (2 ^ (e - 150)) (2 ^ 150))) ∙ shl-shr (q * 2 ^ (e - 150)) 150)
+shifted-up q e h = sym (ap (λ (k : ℕ). k / 2 ^ 150) (ap (λ (k : ℕ). q * 2 ^ k) (sym (omega arith)) ∙ ap (λ (k : ℕ). q * k) (pow-add 2 (e - 150) 150) ∙ sym (mul-assoc q (2 ^ (e - 150)) (2 ^ 150))) ∙ shl-shr (q * 2 ^ (e - 150)) 150)
 
 with-lead : (t : ℕ) → t < 8388608 → t + 8388608 < 2 ^ 24
 with-lead t h = omega arith
@@ -54,10 +51,7 @@ module _ (e t p : ℕ) where
   cut-down i g h k = ap (λ (n : ℕ). (t + 8388608) / n) i ∙ shifted-down (t + 8388608) e k ∙ cut-mid e t g h
 
   pub cut-up : p ≡ 2 ^ (e - 150) → 127 ≤ e → e ≤ 157 → 150 < e → (t + 8388608) * p ≡ cutFields e t
-  cut-up i g h k = ap (λ (n : ℕ). (t + 8388608) * n) i ∙ shifted-up (t + 8388608) e (go k) ∙ cut-mid e t g h
-    where
-      go : 150 < e → 150 ≤ e
-      go x = omega arith
+  cut-up i g h k = ap (λ (n : ℕ). (t + 8388608) * n) i ∙ shifted-up (t + 8388608) e (omega arith) ∙ cut-mid e t g h
 
   pub scaled-fits : p ≡ 2 ^ (e - 150) → t < 8388608 → e ≤ 157 → (t + 8388608) * p < 2 ^ 32
   scaled-fits i d h = subst (λ (n : ℕ). (t + 8388608) * n < 2 ^ 32) (sym i) (lt-of-lt-of-le (shl-lt 24 (e - 150) (with-lead t d)) (pow-mono (room e h)))
@@ -80,57 +74,30 @@ again : (q j : ℕ) → q * 2 ^ suc j / 2 ^ 150 ≡ q * 2 ^ j / 2 ^ 149
 again q j = again-at q j 149
 
 small : (t j : ℕ) → t < 8388608 → suc j < 127 → (t + 8388608) * 2 ^ j / 2 ^ 149 ≡ 0
-small t j d h = div-eq-of-lt (lt-of-lt-of-le (shl-lt 24 j (with-lead t d)) (pow-mono (go j h)))
-  where
-    go : (j : ℕ) → suc j < 127 → 24 + j ≤ 149
-    go j h = omega arith
+small t j d h = div-eq-of-lt (lt-of-lt-of-le (shl-lt 24 j (with-lead t d)) (pow-mono {i = 24 + j} {j = 149} (omega arith)))
 
 large : (t j : ℕ) → 157 < suc j → 2147483648 ≤ (t + 8388608) * 2 ^ j / 2 ^ 149
 large t j h =
     le-div-iff-mul-le (pow-pos 149) .1
-    (le-trans (pow-mono (go j h)) (le-trans (le-of-eq (pow-add 2 23 j)) (mul-le-mul-right (2 ^ j) (ge t))))
-  where
-    go : (j : ℕ) → 157 < suc j → 180 ≤ 23 + j
-    go j h = omega arith
-
-    ge : (t : ℕ) → 2 ^ 23 ≤ t + 8388608
-    ge t = omega arith
+    (le-trans (pow-mono {i = 180} {j = 23 + j} (omega arith)) (le-trans (le-of-eq (pow-add 2 23 j)) (mul-le-mul-right (2 ^ j) (omega arith))))
 
 middle : (t j : ℕ) → t < 8388608 → suc j ≤ 157 → (t + 8388608) * 2 ^ j / 2 ^ 149 ≤ 2147483648
-middle t j d h = go ((t + 8388608) * 2 ^ j / 2 ^ 149) (div-lt-iff-lt-mul (pow-pos 149) .1 (lt-of-lt-of-le (shl-lt 24 j (with-lead t d)) (pow-mono (up-to j h))))
-  where
-    up-to : (j : ℕ) → suc j ≤ 157 → 24 + j ≤ 180
-    up-to j h = omega arith
-
-    go : (n : ℕ) → n < 2147483648 → n ≤ 2147483648
-    go n h = omega arith
-
-min-low : (n c : ℕ) → n ≤ c → min n c ≡ n
-min-low n c h = omega arith
-
-min-high : (n c : ℕ) → c ≤ n → min n c ≡ c
-min-high n c h = omega arith
+middle t j d h = le-of-lt (div-lt-iff-lt-mul (pow-pos 149) .1 (lt-of-lt-of-le (shl-lt 24 j (with-lead t d)) (pow-mono {i = 24 + j} {j = 180} (omega arith))))
 
 cut-is : (t j : ℕ) → t < 8388608 → cutFields (suc j) t ≡ min ((t + 8388608) * 2 ^ j / 2 ^ 149) 2147483648
 cut-is t j d = go (ltb (suc j) 127) (ltb 157 (suc j)) refl refl
   where
     go : (a b : Bool) → ltb (suc j) 127 ≡ a → ltb 157 (suc j) ≡ b → cutFields (suc j) t ≡ min ((t + 8388608) * 2 ^ j / 2 ^ 149) 2147483648
     go true b p q = sym (cut-low (suc j) t (ltb-true (suc j) 127 p)) ∙ sym (ap (λ (n : ℕ). min n 2147483648) (small t j d (ltb-true (suc j) 127 p)))
-    go false true p q = sym (cut-high (suc j) t (ltb-false (suc j) 127 p) (ltb-true 157 (suc j) q)) ∙ sym (min-high ((t + 8388608) * 2 ^ j / 2 ^ 149) 2147483648 (large t j (ltb-true 157 (suc j) q)))
+    go false true p q = sym (cut-high (suc j) t (ltb-false (suc j) 127 p) (ltb-true 157 (suc j) q)) ∙ sym (min-eq-right (large t j (ltb-true 157 (suc j) q)))
     go false false p q =
         sym (cut-mid (suc j) t (ltb-false (suc j) 127 p) (ltb-false 157 (suc j) q)) ∙ again (t + 8388608) j
-        ∙ sym (min-low ((t + 8388608) * 2 ^ j / 2 ^ 149) 2147483648 (middle t j d (ltb-false 157 (suc j) q)))
+        ∙ sym (min-eq-left (middle t j d (ltb-false 157 (suc j) q)))
 
 -- capping once more changes nothing
 recap : (s : Bool) (n k : ℕ) → k ≡ min n 2147483648 → capped s n ≡ capped s k
-recap true n k e = ap (λ (i : ℕ). negℤ (pos i)) (go n k e)
-  where
-    go : (n k : ℕ) → k ≡ min n 2147483648 → min n 2147483648 ≡ min k 2147483648
-    go n k e = omega arith
-recap false n k e = ap pos (go n k e)
-  where
-    go : (n k : ℕ) → k ≡ min n 2147483648 → min n 2147483647 ≡ min k 2147483647
-    go n k e = omega arith
+recap true n k e = let q : min n 2147483648 ≡ min k 2147483648 = omega arith in ap (λ (i : ℕ). negℤ (pos i)) q
+recap false n k e = ap pos (omega arith)
 
 infinite : (s : Bool) → toSigned 31 (inf s) ≡ capped s 2147483648
 unfolding toSigned
@@ -165,10 +132,7 @@ whole-of x f n =
 
 fields-le : (e t : ℕ) → t < 8388608 → cutFields e t ≤ 2147483648
 fields-le zero t d = le-trans (le-of-eq (sym (cut-low 0 t (lit< tt)))) (lit≤ tt)
-fields-le (suc j) t d = le-trans (le-of-eq (cut-is t j d)) (go ((t + 8388608) * 2 ^ j / 2 ^ 149))
-  where
-    go : (n : ℕ) → min n 2147483648 ≤ 2147483648
-    go n = omega arith
+fields-le (suc j) t d = le-trans (le-of-eq (cut-is t j d)) (min-le-right _ 2147483648)
 
 pub cut-le : (b : ℕ) → cutBits b ≤ 2147483648
 unfolding cutBits
@@ -180,22 +144,15 @@ module _ (x : Float) (F : T (fits binary32 x)) (N : T (not (isNan x))) where
   b = toBits binary32 x
 
   pub above : b < 2147483648 → cutBits b < 2147483648 → pos (cutBits b) ≡ toSigned 31 x
-  above h k = ap pos (go (cutBits b) k) ∙ ap (λ (s : Bool). capped s (cutBits b)) (sym (lt-leb 2147483648 b h)) ∙ sym (whole-of x F N)
-    where
-      go : (n : ℕ) → n < 2147483648 → n ≡ min n 2147483647
-      go n h = omega arith
+  above h k = ap pos (omega arith) ∙ ap (λ (s : Bool). capped s (cutBits b)) (sym (lt-leb 2147483648 b h)) ∙ sym (whole-of x F N)
 
   pub far-above : b < 2147483648 → 2147483648 ≤ cutBits b → pos 2147483647 ≡ toSigned 31 x
-  far-above h k = ap pos (go (cutBits b) k) ∙ ap (λ (s : Bool). capped s (cutBits b)) (sym (lt-leb 2147483648 b h)) ∙ sym (whole-of x F N)
-    where
-      go : (n : ℕ) → 2147483648 ≤ n → 2147483647 ≡ min n 2147483647
-      go n h = omega arith
+  far-above h k = ap pos (omega arith) ∙ ap (λ (s : Bool). capped s (cutBits b)) (sym (lt-leb 2147483648 b h)) ∙ sym (whole-of x F N)
 
   pub under : 2147483648 ≤ b → negℤ (pos (cutBits b)) ≡ toSigned 31 x
-  under h = ap (λ (n : ℕ). negℤ (pos n)) (go (cutBits b) (cut-le b)) ∙ ap (λ (s : Bool). capped s (cutBits b)) (sym (le-leb 2147483648 b h)) ∙ sym (whole-of x F N)
-    where
-      go : (n : ℕ) → n ≤ 2147483648 → n ≡ min n 2147483648
-      go n h = omega arith
+  under h =
+      let q : cutBits b ≡ min (cutBits b) 2147483648 = omega (arith, cut-le b) in
+      ap (λ (n : ℕ). negℤ (pos n)) q ∙ ap (λ (s : Bool). capped s (cutBits b)) (sym (le-leb 2147483648 b h)) ∙ sym (whole-of x F N)
 
 pub number : (x : Float) → ne x x ≡ false → T (not (isNan x))
 unfolding ne isNan

@@ -1,5 +1,5 @@
 -- Signed numbers as the machine works them out: -1 - (u - 1), a number counted from the least, a cell size. Assumes nothing.
-use Prim.Native.Nat.{ℕ, zero, suc, _+_, _-_, _≤_, _<_, _^_}
+use Prim.Native.Nat.{ℕ, zero, suc, _-_, _≤_, _<_, _^_}
 use mathlib.Core.Path.{_≡_, refl, sym, ap, _∙_, subst}
 use mathlib.Core.Bool.{Bool, true, false, cond}
 use native.Mathlib.Omega.{arith}
@@ -21,10 +21,7 @@ back {z} p = toZ-ofZ w32 z (sfits-of p)
 
 -- ---- -1 - (u - 1) is -u
 minus-one-plus : (n : ℕ) → negsuc 0 +ℤ negsuc n ≡ negsuc (suc n)
-minus-one-plus n = ap (λ (k : ℕ). negsuc (suc k)) (go n)
-  where
-    go : (a : ℕ) → 0 + a ≡ a
-    go a = omega arith
+minus-one-plus n = ap (λ (k : ℕ). negsuc (suc k)) (omega arith)
 
 step-down : (k : ℕ) → negsuc 0 -ℤ pos k ≡ negsuc k
 step-down zero = refl
@@ -44,10 +41,9 @@ module _ (u : ℕ) (lo : 0 < u) (hi : u ≤ 2147483648) where
   negated-fits = subst (λ (z : ℤ). SFits w32 z) (sym is) (record { sfits = less })
 
   pub negated : toZ w32 (ofZ w32 (negsuc 0 -ℤ toZ w32 (u - 1))) ≡ negℤ (pos u)
-  negated = toZ-ofZ w32 (negsuc 0 -ℤ toZ w32 (u - 1)) negated-fits ∙ is ∙ ap (λ (k : ℕ). negℤ (pos k)) (go u lo)
-    where
-      go : (a : ℕ) → 0 < a → suc (a - 1) ≡ a
-      go a p = omega arith
+  negated =
+      let q : suc (u - 1) ≡ u = omega arith in
+      toZ-ofZ w32 (negsuc 0 -ℤ toZ w32 (u - 1)) negated-fits ∙ is ∙ ap (λ (k : ℕ). negℤ (pos k)) q
 
 -- ---- 64 bits that hold a number from 0 up
 module _ (k : ℤ) (n : ℕ) (e : k ≡ pos n) (h : n < 2 ^ 63) where
@@ -66,10 +62,7 @@ module _ (k : ℤ) (n : ℕ) (e : k ≡ pos n) (h : n < 2 ^ 63) where
 -- ---- a 32-bit number taken to 64 bits
 module _ (z : ℤ) (h : SFits w32 z) where
   pub widens : SFits w64 (toZ w32 (ofZ w32 z))
-  widens = subst (λ (k : ℤ). SFits w64 k) (sym (toZ-ofZ w32 z h)) (record { sfits = go (h .sfits) })
-    where
-      go : {n : ℕ} → n < 2147483648 → n < 2 ^ 63
-      go h = omega arith
+  widens = subst (λ (k : ℤ). SFits w64 k) (sym (toZ-ofZ w32 z h)) (record { sfits = omega (arith, h .sfits) })
 
   pub wide : toZ w64 (ofZ w64 (toZ w32 (ofZ w32 z))) ≡ z
   wide = toZ-ofZ w64 (toZ w32 (ofZ w32 z)) widens ∙ toZ-ofZ w32 z h
@@ -83,10 +76,7 @@ pub raised-wide : (z : ℤ) → SFits w32 z → toZ w64 (ofZ w64 (toZ w32 (ofZ w
 raised-wide z h = ap (λ (k : ℤ). k +ℤ pos 2147483648) (wide z h) ∙ raised z (h .sfits)
 
 pub upward-small : (z : ℤ) → SFits w32 z → upward z < 2 ^ 63
-upward-small z h = go (upward-lt z (h .sfits))
-  where
-    go : {n : ℕ} → n < 4294967296 → n < 2 ^ 63
-    go h = omega arith
+upward-small z h = omega (arith, upward-lt z (h .sfits))
 
 -- ---- the magnitude of a number, and of one below zero less one
 below-mag : (z : ℤ) → ltZ z (pos 0) ≡ true → negsuc 0 -ℤ z ≡ pos (mag z)
@@ -109,10 +99,7 @@ module _ (z : ℤ) (h : SFits w32 z) where
   over-mag e = toZ-ofZ w32 z h ∙ is-over z (ap (λ (k : ℤ). ltZ k (pos 0)) (sym (wide z h)) ∙ e)
 
   pub mag-small : mag z < 2 ^ 63
-  mag-small = go (h .sfits)
-    where
-      go : {n : ℕ} → n < 2147483648 → n < 2 ^ 63
-      go h = omega arith
+  mag-small = omega (arith, h .sfits)
 
 -- ---- and back: n - 2 ^ 31
 module _ (n : ℕ) (h : n < 4294967296) where
@@ -123,10 +110,7 @@ module _ (n : ℕ) (h : n < 4294967296) where
   small = record { sfits = downward-small n h }
 
   pub lowered-fits : SFits w64 (toZ w64 n -ℤ pos 2147483648)
-  lowered-fits = subst (λ (k : ℤ). SFits w64 k) (sym lowered) (record { sfits = go (small .sfits) })
-    where
-      go : {m : ℕ} → m < 2147483648 → m < 2 ^ 63
-      go h = omega arith
+  lowered-fits = subst (λ (k : ℤ). SFits w64 k) (sym lowered) (record { sfits = omega (arith, small .sfits) })
 
   lowered-read : toZ w64 (ofZ w64 (toZ w64 n -ℤ pos 2147483648)) ≡ downward n
   lowered-read = toZ-ofZ w64 (toZ w64 n -ℤ pos 2147483648) lowered-fits ∙ lowered

@@ -1,5 +1,5 @@
 -- `cells::exactly` meets its contract. Assumes nothing.
-use Prim.Native.Nat.{ℕ, _≤_, _<_, _^_}
+use Prim.Native.Nat.{ℕ, _≤_}
 use mathlib.Core.Path.{_≡_, sym, ap, subst}
 use native.Mathlib.Omega.{arith}
 use lib.Dec.{T, le→leb}
@@ -14,10 +14,7 @@ use Rattle.cells.proofs.exactly.Tie as tie
 
 -- the number as a signed one
 signed : (n : ℕ) → n ≤ 16777216 → toZ w64 n ≡ pos n
-signed n h = toZ-pos w64 n (go h)
-  where
-    go : n ≤ 16777216 → n < 2 ^ 63
-    go h = omega arith
+signed n h = toZ-pos w64 n (omega arith)
 
 held : (n : ℕ) → n ≤ 16777216 → T (inFloat binary32 (pos n))
 unfolding inFloat

@@ -1,9 +1,9 @@
 -- The cell rule never falls as the coordinate rises, and the cells of what a call may ask for are small numbers. Assumes nothing.
-use mathlib.Core.Path.{_≡_, refl, sym, ap, _∙_, subst}
-use mathlib.Core.Logic.{_⊎_, inl, inr}
+use mathlib.Core.Path.{_≡_, sym, ap, _∙_, subst}
+use mathlib.Core.Logic.{inl, inr}
 use mathlib.Core.Bool.{Bool, true, false, _&&_, _||_}
 use Prim.Native.Nat.{ℕ, zero, suc, _*_, _/_, _≤_, _<_, min, zero-le}
-use native.Mathlib.Nat.{le-of-lt, le-refl, le-of-eq, le-trans, zero-mul, mul-pos, zero-lt-suc, zero-div, div-le-self, div-le-of-le-mul}
+use native.Mathlib.Nat.{eq-zero-or-pos, le-of-lt, le-refl, le-of-eq, le-trans, zero-mul, mul-pos, zero-lt-suc, zero-div, div-le-self, div-le-of-le-mul}
 use native.Mathlib.Nat.{mul-le-mul-right}
 use native.Mathlib.Omega.{arith}
 use lib.IntN.{ℤ, pos}
@@ -14,25 +14,19 @@ use lib.Ieee.Fits.{down-pos, and-l, and-r}
 use lib.Ieee.Nearest.{div-mono}
 use Rattle.geometry.specs.Meaning.Domain.{within}
 use Rattle.geometry.specs.declared.Position.{Position}
+use Rattle.geometry.proofs.laws.Value.{or-cases}
 use Rattle.cells.specs.Inner.Numbers.{Near}
 use Rattle.cells.specs.Inner.CellRule.{Reached}
 use Rattle.cells.specs.Meaning.CellRule.{cellOf, cellAt}
 use Rattle.cells.proofs.laws.CellSignLaws.{cell-pos, cell-neg, cell-zero, cell-inf, cell-neg-inf}
 
 -- ---- what `le` says of finite values
-or-cases : (p q : Bool) → T (p || q) → T p ⊎ T q
-or-cases true q h = inl tt
-or-cases false q h = inr h
-
 pub le-of-tests : (a b : ℕ) (q : Bool) → (T q → a ≡ b) → T (ltb a b || q) → a ≤ b
 le-of-tests a b q f h = elim (or-cases (ltb a b) q h) [ inl u ↦ le-of-lt (ltb→lt a b u) | inr u ↦ le-of-eq (f u) ]
 
 -- ---- the order
 cap-mono : (n k c b : ℕ) → 0 < b → n ≤ k → min n c / b ≤ min k c / b
-cap-mono n k c b B h = div-mono (min n c) b (min k c) b B B (mul-le-mul-right b (go h))
-  where
-    go : n ≤ k → min n c ≤ min k c
-    go h = omega arith
+cap-mono n k c b B h = div-mono (min n c) b (min k c) b B B (mul-le-mul-right b (omega arith))
 
 first-pos : (m u d : ℕ) → 0 < m * u * d → 0 < m * u
 first-pos m u d h = go (m * u) h
@@ -40,10 +34,6 @@ first-pos m u d h = go (m * u) h
     go : (a : ℕ) → 0 < a * d → 0 < a
     go zero h = subst (λ (z : ℕ). 0 < z) (zero-mul d) h
     go (suc a) h = zero-lt-suc a
-
-pub zero-or : (a : ℕ) → (a ≡ 0) ⊎ (0 < a)
-zero-or zero = inl refl
-zero-or (suc a) = inr (zero-lt-suc a)
 
 module _ (b : ℕ) (B : 0 < b) where
   abbrev Ordered : Float → Float → Type 0
@@ -53,10 +43,7 @@ module _ (b : ℕ) (B : 0 < b) where
   by x y z w p q h = subst (λ (k : ℤ). T (leZ k (cellOf (pos b) y))) (sym p) (subst (λ (k : ℤ). T (leZ z k)) (sym q) h)
 
   capped : (n c : ℕ) → min n c / b ≤ c / b
-  capped n c = div-mono (min n c) b c b B B (mul-le-mul-right b (go n c))
-    where
-      go : (n c : ℕ) → min n c ≤ c
-      go n c = omega arith
+  capped n c = div-mono (min n c) b c b B B (mul-le-mul-right b (omega arith))
 
   pub mono : (x y : Float) → T (le x y) → Ordered x y
   unfolding le lt eq
@@ -70,7 +57,7 @@ module _ (b : ℕ) (B : 0 < b) where
   mono (inf false) (fin t n d) h = absurd h
   mono (inf true) (fin false n d) h = by (inf true) (fin false n d) _ _ (cell-neg-inf b) (cell-pos b n d) tt
   mono (inf true) (fin true n d) h =
-      elim (zero-or (n * up d)) [
+      elim (eq-zero-or-pos (n * up d)) [
         | inl z ↦ by (inf true) (fin true n d) _ _ (cell-neg-inf b) (cell-zero b n d z) tt
         | inr k ↦ by (inf true) (fin true n d) _ _ (cell-neg-inf b) (cell-neg b n d k) (le→leb _ _ (capped (n * up d / down d) 2147483648))
       ]
@@ -78,7 +65,7 @@ module _ (b : ℕ) (B : 0 < b) where
   mono (fin s m e) (inf true) h = absurd h
   mono (fin false m e) (inf false) h = by (fin false m e) (inf false) _ _ (cell-pos b m e) (cell-inf b) (le→leb _ _ (capped (m * up e / down e) 2147483647))
   mono (fin true m e) (inf false) h =
-      elim (zero-or (m * up e)) [
+      elim (eq-zero-or-pos (m * up e)) [
         | inl z ↦ by (fin true m e) (inf false) _ _ (cell-zero b m e z) (cell-inf b) (le→leb 0 (2147483647 / b) zero-le)
         | inr k ↦ by (fin true m e) (inf false) _ _ (cell-neg b m e k) (cell-inf b) tt
       ]
@@ -97,12 +84,9 @@ module _ (b : ℕ) (B : 0 < b) where
       (le→leb _ _ (le-of-eq (ap (λ (k : ℕ). min (k / down e) 2147483647 / b) (no-size m (up e) (down d) (down-pos d) t2) ∙ ap (λ (k : ℕ). min k 2147483647 / b) (zero-div (down e)) ∙ zero-div b)))
     where
       no-size : (m u d : ℕ) → 0 < d → m * u * d ≡ 0 → m * u ≡ 0
-      no-size m u d D z = elim (zero-or (m * u)) [ inl k ↦ k | inr k ↦ absurd (go (m * u * d) z (mul-pos k D)) ]
-        where
-          go : (k : ℕ) → k ≡ 0 → 0 < k → ⊥
-          go k e h = omega arith
+      no-size m u d D z = elim (eq-zero-or-pos (m * u)) [ inl k ↦ k | inr k ↦ absurd (omega (arith, mul-pos k D)) ]
   mono (fin true m e) (fin false n d) h =
-      elim (zero-or (m * up e)) [
+      elim (eq-zero-or-pos (m * up e)) [
         | inl z ↦ by (fin true m e) (fin false n d) _ _ (cell-zero b m e z) (cell-pos b n d) (le→leb 0 (min (n * up d / down d) 2147483647 / b) zero-le)
         | inr k ↦ by (fin true m e) (fin false n d) _ _ (cell-neg b m e k) (cell-pos b n d) tt
       ]
@@ -110,29 +94,22 @@ module _ (b : ℕ) (B : 0 < b) where
       let x = m * up e * down d in
       let y = n * up d * down e in
       let l : y ≤ x = le-of-tests y x (eqb x y && true) (λ t. sym (eqb→eq x y (and-l (eqb x y) true t))) h in
-      elim (zero-or (n * up d)) [
+      elim (eq-zero-or-pos (n * up d)) [
         | inl z ↦
-            elim (zero-or (m * up e)) [
+            elim (eq-zero-or-pos (m * up e)) [
               | inl w ↦ by (fin true m e) (fin true n d) _ _ (cell-zero b m e w) (cell-zero b n d z) tt
               | inr k ↦ by (fin true m e) (fin true n d) _ _ (cell-neg b m e k) (cell-zero b n d z) tt
             ]
         | inr k ↦
-            by (fin true m e) (fin true n d) _ _ (cell-neg b m e (first-pos m (up e) (down d) (lt-le (mul-pos k (down-pos e)) l))) (cell-neg b n d k)
+            by (fin true m e) (fin true n d) _ _ (cell-neg b m e (first-pos m (up e) (down d) (omega (arith, mul-pos k (down-pos e))))) (cell-neg b n d k)
             (le→leb _ _ (cap-mono (n * up d / down d) (m * up e / down e) 2147483648 b B (div-mono (n * up d) (down d) (m * up e) (down e) (down-pos d) (down-pos e) l)))
       ]
-    where
-      lt-le : {a c : ℕ} → 0 < a → a ≤ c → 0 < c
-      lt-le {a} {c} h k = omega arith
 
 -- ---- cells of coordinates within 2 ^ 21 have numbers of at most 2 ^ 21, and of -2 ^ 21 less one
 capped-by : (a d c b : ℕ) → a * 1 ≤ 1 * 2097152 * d → min (a / d) c / b ≤ 2097152
-capped-by a d c b h = le-trans (div-le-self (min (a / d) c) b) (go (a / d) (div-le-of-le-mul d (tidy a d h)))
-  where
-    tidy : (a d : ℕ) → a * 1 ≤ 1 * 2097152 * d → a ≤ d * 2097152
-    tidy a d h = omega arith
-
-    go : (q : ℕ) → q ≤ 2097152 → min q c ≤ 2097152
-    go q h = omega arith
+capped-by a d c b h =
+    let t : a ≤ d * 2097152 = omega arith in
+    le-trans (div-le-self (min (a / d) c) b) (omega (arith, div-le-of-le-mul d t))
 
 by-mag : (z w : ℤ) → z ≡ w → mag w ≤ 2097152 → mag z ≤ 2097152
 by-mag z w e h = subst (λ (k : ℤ). mag k ≤ 2097152) (sym e) h
@@ -152,7 +129,7 @@ cell-small b (fin false m e) h =
 cell-small b (fin true m e) h =
     let x = 1 * 2097152 * down e in
     let y = m * up e * 1 in
-    elim (zero-or (m * up e)) [
+    elim (eq-zero-or-pos (m * up e)) [
       | inl z ↦ by-mag _ _ (cell-zero b m e z) zero-le
       | inr k ↦
           by-mag _ _ (cell-neg b m e k)
@@ -162,7 +139,4 @@ cell-small b (fin true m e) h =
     ]
 
 pub cell-near : (size : ℕ) (p : Position) → Reached p → Near (cellAt size p)
-cell-near size p h = record { x = wide (cell-small size (p .x) (h .0)); y = wide (cell-small size (p .y) (h .1)) }
-  where
-    wide : {n : ℕ} → n ≤ 2097152 → n ≤ 4194304
-    wide h = omega arith
+cell-near size p h = record { x = omega (arith, cell-small size (p .x) (h .0)); y = omega (arith, cell-small size (p .y) (h .1)) }

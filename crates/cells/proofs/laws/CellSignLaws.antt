@@ -16,16 +16,10 @@ not-below : (a d : ℕ) → ltb (a * 1) (0 * 1 * d) ≡ false
 not-below a d = le-ltb (a * 1) (0 * 1 * d) (subst (λ (z : ℕ). z ≤ a * 1) (sym (zero-mul d)) zero-le)
 
 below : (a d : ℕ) → 0 < a → ltb 0 (a * 1 + 0 * 1 * d) ≡ true
-below a d h = lt-ltb 0 (a * 1 + 0 * 1 * d) (go (0 * 1 * d))
-  where
-    go : (z : ℕ) → 0 < a * 1 + z
-    go z = omega arith
+below a d h = lt-ltb 0 (a * 1 + 0 * 1 * d) (omega arith)
 
 zero-not-below : (a d : ℕ) → a ≡ 0 → ltb 0 (a * 1 + 0 * 1 * d) ≡ false
-zero-not-below a d h = le-ltb 0 (a * 1 + 0 * 1 * d) (go (0 * 1 * d) (zero-mul d))
-  where
-    go : (z : ℕ) → z ≡ 0 → a * 1 + z ≤ 0
-    go z e = omega arith
+zero-not-below a d h = le-ltb 0 (a * 1 + 0 * 1 * d) (omega (arith, zero-mul d))
 
 -- ---- the quotient of a number that is not positive, and one less
 less-one : (q : ℕ) → negℤ (pos q) -ℤ pos 1 ≡ negsuc q

@@ -1,10 +1,10 @@
 -- The cell rule by comparison with edges, the multiples of the cell size: a coordinate stands in cell k from edge k on and below edge k + 1, and below zero,
 -- mirrored, in cell -1 - k. Said of the numbers that floats stand for, in units of the format's smallest value. Assumes nothing.
 use mathlib.Core.Path.{_≡_, sym, ap, _∙_, subst}
-use mathlib.Core.Logic.{_⊎_, inl, inr}
+use mathlib.Core.Logic.{inl, inr, ⊎-elim}
 use mathlib.Core.Bool.{Bool, true, false, not, _&&_}
-use Prim.Native.Nat.{ℕ, suc, _+_, _*_, _/_, _^_, _≤_, _<_, min}
-use native.Mathlib.Nat.{le-trans, le-of-eq, zero-div, mul-comm, div-le-of-le-mul, le-div-iff-mul-le, div-lt-iff-lt-mul}
+use Prim.Native.Nat.{ℕ, suc, _*_, _/_, _^_, _≤_, _<_, min}
+use native.Mathlib.Nat.{eq-zero-or-pos, le-trans, le-of-eq, zero-div, mul-comm, div-le-of-le-mul, le-div-iff-mul-le, div-lt-iff-lt-mul}
 use native.Mathlib.Omega.{arith}
 use lib.IntN.{ℤ, pos, negsuc}
 use lib.Dec.{T}
@@ -23,7 +23,6 @@ use Rattle.geometry.proofs.laws.Sums.{neg-num}
 use Rattle.geometry.proofs.laws.Back.{num-le, num-lt}
 use Rattle.geometry.proofs.laws.WithinLaws.{within-finite, at, bounds}
 use Rattle.cells.specs.Meaning.CellRule.{cellOf}
-use Rattle.cells.proofs.laws.CellRuleLaws.{zero-or}
 use Rattle.cells.proofs.laws.CellSignLaws.{cell-pos, cell-neg, cell-zero}
 
 pub says-both : (a b : Bool) → Says (a && b) (T a × T b)
@@ -32,19 +31,13 @@ says-both a b = says-and a b (says-t a) (says-t b)
 -- ---- a quotient by two numbers is k exactly from k times both on, and below the next
 module _ (p u b k : ℕ) (U : 0 < u) (B : 0 < b) where
   pub quotient-is : k * b * u ≤ p → p < suc k * b * u → p / u / b ≡ k
-  quotient-is h g = go (p / u / b) (le-div-iff-mul-le B .1 (le-div-iff-mul-le U .1 h)) (div-lt-iff-lt-mul B .1 (div-lt-iff-lt-mul U .1 g))
-    where
-      go : (q : ℕ) → k ≤ q → q < suc k → q ≡ k
-      go q h g = omega arith
+  quotient-is h g = omega (arith, le-div-iff-mul-le B .1 (le-div-iff-mul-le U .1 h), div-lt-iff-lt-mul B .1 (div-lt-iff-lt-mul U .1 g))
 
   pub quotient-from : p / u / b ≡ k → k * b * u ≤ p
   quotient-from e = le-div-iff-mul-le U .0 (le-div-iff-mul-le B .0 (le-of-eq (sym e)))
 
   pub quotient-below : p / u / b ≡ k → p < suc k * b * u
-  quotient-below e = div-lt-iff-lt-mul U .0 (div-lt-iff-lt-mul B .0 (go (p / u / b) e))
-    where
-      go : (q : ℕ) → q ≡ k → q < suc k
-      go q e = omega arith
+  quotient-below e = div-lt-iff-lt-mul U .0 (div-lt-iff-lt-mul B .0 (omega arith))
 
 -- ---- the cell of a finite float by its number
 module _ (f : Format) where
@@ -65,19 +58,10 @@ module _ (f : Format) where
   under : (b : ℕ) (x : Float) (p n : ℕ) → T (finite x) → Num f x p n → 0 < n → cellOf (pos b) x ≡ negsuc (min (n / l) 2147483648 / b)
   under b nan p n t v h = absurd t
   under b (inf s) p n t v h = absurd t
-  under b (fin false m e) p n t v h = absurd (go n (v .1) h)
-    where
-      go : (n : ℕ) → n ≡ 0 → 0 < n → ⊥
-      go n e h = omega arith
+  under b (fin false m e) p n t v h = absurd (omega (arith, v .1))
   under b (fin true m e) p n t v h =
-      cell-neg b m e (go (m * up e) (λ z. no n (scaled-zero (m * up e) l n (down e) (down-pos e) (v .0) z) h))
-      ∙ ap (λ (q : ℕ). negsuc (min q 2147483648 / b)) (div-same (m * up e) (down e) n l (down-pos e) L (v .0))
-    where
-      go : (a : ℕ) → (a ≡ 0 → ⊥) → 0 < a
-      go a h = omega arith
-
-      no : (n : ℕ) → n ≡ 0 → 0 < n → ⊥
-      no n e h = omega arith
+      let s : m * up e ≡ 0 → ⊥ = λ z. omega (arith, scaled-zero (m * up e) l n (down e) (down-pos e) (v .0) z) in
+      cell-neg b m e (omega arith) ∙ ap (λ (q : ℕ). negsuc (min q 2147483648 / b)) (div-same (m * up e) (down e) n l (down-pos e) L (v .0))
 
   module _ (b : ℕ) (B : 0 < b) (x : Float) (p n : ℕ) (v : Num f x p n) (o : at f 21 < overflow f) (w : T (within 21 x)) where
     small : (a : ℕ) → a ≤ at f 21 → a / l ≤ 2097152
@@ -100,31 +84,25 @@ module _ (f : Format) where
     in-under k z h g = cell-under z ∙ ap negsuc (quotient-is n l b k L B h g)
 
     pub over-in : (k : ℕ) → cellOf (pos b) x ≡ pos k → (n ≡ 0) × (k * b * l ≤ p) × (p < suc k * b * l)
-    over-in k e = elim (zero-or n) [ inl z ↦ let q = ap mag (sym (cell-over z) ∙ e) in (z, quotient-from p l b k L B q, quotient-below p l b k L B q) | inr z ↦ absurd (subst (λ (c : ℤ). T (not (nonNeg c))) (sym (cell-under z) ∙ e) tt) ]
+    over-in k e = elim (eq-zero-or-pos n) [ inl z ↦ let q = ap mag (sym (cell-over z) ∙ e) in (z, quotient-from p l b k L B q, quotient-below p l b k L B q) | inr z ↦ absurd (subst (λ (c : ℤ). T (not (nonNeg c))) (sym (cell-under z) ∙ e) tt) ]
 
     pub under-in : (k : ℕ) → cellOf (pos b) x ≡ negsuc k → (0 < n) × (k * b * l ≤ n) × (n < suc k * b * l)
-    under-in k e = elim (zero-or n) [ inl z ↦ absurd (subst (λ (c : ℤ). T (nonNeg c)) (sym (cell-over z) ∙ e) tt) | inr z ↦ let q = ap mag (sym (cell-under z) ∙ e) in (z, quotient-from n l b k L B q, quotient-below n l b k L B q) ]
+    under-in k e = elim (eq-zero-or-pos n) [ inl z ↦ absurd (subst (λ (c : ℤ). T (nonNeg c)) (sym (cell-over z) ∙ e) tt) | inr z ↦ let q = ap mag (sym (cell-under z) ∙ e) in (z, quotient-from n l b k L B q, quotient-below n l b k L B q) ]
 
     -- ---- by comparison: near is the edge of cell k next to zero, far the other
     module _ (k : ℕ) (near far : Float) where
       pub over-says : Num f near (k * b * l) 0 → Num f far (suc k * b * l) 0 → Says (le near x && lt x far) (cellOf (pos b) x ≡ pos k)
       over-says d g = says-via yes no (says-both (le near x) (lt x far))
         where
-          part : (a c : ℕ) → (p ≡ 0) ⊎ (n ≡ 0) → a + n ≤ p + 0 → p + 0 < c + n → (n ≡ 0) × (a ≤ p) × (p < c)
-          part a c (inl z) h i = (omega arith, omega arith, omega arith)
-          part a c (inr z) h i = (z, omega arith, omega arith)
-
           yes : T (le near x) × T (lt x far) → cellOf (pos b) x ≡ pos k
-          yes t = let (z, h, i) = part (k * b * l) (suc k * b * l) (either f x p n v) (le-num f near x (k * b * l) 0 p n d v (t .0)) (lt-num f x far p n (suc k * b * l) 0 v g (t .1)) in in-over k z h i
-
-          low-side : (a : ℕ) → n ≡ 0 → a ≤ p → a + n ≤ p + 0
-          low-side a z h = omega arith
-
-          high-side : (c : ℕ) → n ≡ 0 → p < c → p + 0 < c + n
-          high-side c z h = omega arith
+          yes t =
+              let h = le-num f near x (k * b * l) 0 p n d v (t .0) in
+              let i = lt-num f x far p n (suc k * b * l) 0 v g (t .1) in
+              let z : n ≡ 0 = ⊎-elim (λ e. omega arith) (λ e. e) (either f x p n v) in
+              in-over k z (omega arith) (omega arith)
 
           no : cellOf (pos b) x ≡ pos k → T (le near x) × T (lt x far)
-          no e = let (z, h, i) = over-in k e in (num-le f near x (k * b * l) 0 p n d v (low-side (k * b * l) z h), num-lt f x far p n (suc k * b * l) 0 v g (high-side (suc k * b * l) z i))
+          no e = let (z, h, i) = over-in k e in (num-le f near x (k * b * l) 0 p n d v (omega arith), num-lt f x far p n (suc k * b * l) 0 v g (omega arith))
 
       -- below zero: mirrored, and zero itself left out
       pub under-says : Num f near (k * b * l) 0 → Num f far (suc k * b * l) 0 → (nought : Float) → Num f nought 0 0 → Says ((le near (neg x) && lt (neg x) far) && lt nought (neg x)) (cellOf (pos b) x ≡ negsuc k)
@@ -136,21 +114,16 @@ module _ (f : Format) where
           u : Num f y n p
           u = neg-num f x p n v
 
-          part : (a c : ℕ) → (p ≡ 0) ⊎ (n ≡ 0) → a + p ≤ n + 0 → n + 0 < c + p → 0 + p < n + 0 → (0 < n) × (a ≤ n) × (n < c)
-          part a c (inl z) h i j = (omega arith, omega arith, omega arith)
-          part a c (inr z) h i j = absurd (omega arith)
-
           yes : T (le near y && lt y far) × T (lt nought y) → cellOf (pos b) x ≡ negsuc k
           yes t =
-              let (z, h, i) = part (k * b * l) (suc k * b * l) (either f x p n v) (le-num f near y (k * b * l) 0 n p d u (and-l (le near y) (lt y far) (t .0))) (lt-num f y far n p (suc k * b * l) 0 u g (and-r (le near y) (lt y far) (t .0))) (lt-num f nought y 0 0 n p q u (t .1)) in
-              in-under k z h i
-
-          back : (a c : ℕ) → (p ≡ 0) ⊎ (n ≡ 0) → 0 < n → a ≤ n → n < c → (a + p ≤ n + 0) × (n + 0 < c + p) × (0 + p < n + 0)
-          back a c (inl z) j h i = (omega arith, omega arith, omega arith)
-          back a c (inr z) j h i = absurd (omega arith)
+              let h = le-num f near y (k * b * l) 0 n p d u (and-l (le near y) (lt y far) (t .0)) in
+              let i = lt-num f y far n p (suc k * b * l) 0 u g (and-r (le near y) (lt y far) (t .0)) in
+              let j = lt-num f nought y 0 0 n p q u (t .1) in
+              let z : p ≡ 0 = ⊎-elim (λ e. e) (λ e. omega arith) (either f x p n v) in
+              in-under k (omega arith) (omega arith) (omega arith)
 
           no : cellOf (pos b) x ≡ negsuc k → T (le near y && lt y far) × T (lt nought y)
           no e =
               let (z, h, i) = under-in k e in
-              let (r, s, t) = back (k * b * l) (suc k * b * l) (either f x p n v) z h i in
-              (and-i (le near y) (lt y far) (num-le f near y (k * b * l) 0 n p d u r) (num-lt f y far n p (suc k * b * l) 0 u g s), num-lt f nought y 0 0 n p q u t)
+              let o : p ≡ 0 = ⊎-elim (λ e. e) (λ e. omega arith) (either f x p n v) in
+              (and-i (le near y) (lt y far) (num-le f near y (k * b * l) 0 n p d u (omega arith)) (num-lt f y far n p (suc k * b * l) 0 u g (omega arith)), num-lt f nought y 0 0 n p q u (omega arith))

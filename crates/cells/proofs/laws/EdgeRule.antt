@@ -1,8 +1,8 @@
 -- The cell rule by comparison with edges that are exactly binary32 numbers. Assumes nothing.
 -- Here: the laws.
 use mathlib.Core.Path.{_≡_, refl, sym, ap, _∙_, subst}
-use mathlib.Core.Logic.{_⊎_, inl, inr}
-use mathlib.Core.Bool.{Bool, true, false, cond, _||_}
+use mathlib.Core.Logic.{_⊎_, inl, inr, ⊎-elim}
+use mathlib.Core.Bool.{Bool, true, false, cond}
 use Prim.Native.Nat.{ℕ, zero, suc, _+_, _*_, _≤_, _<_, zero-le}
 use native.Mathlib.Nat.{le-trans, le-of-eq, lt-irrefl, lt-of-le-of-lt, lt-of-lt-of-le, zero-lt-suc, zero-mul, suc-mul, mul-one, mul-right-comm}
 use native.Mathlib.Nat.{mul-le-mul-right, mul-lt-mul-of-pos-right, mul-pos}
@@ -23,7 +23,7 @@ use Rattle.geometry.proofs.laws.DomainLaws.{domain-fits, domain-within, domain-
 use Rattle.geometry.specs.Inner.Value.{Num}
 use Rattle.geometry.proofs.laws.Value.{cast, lt-num, le-num, either}
 use Rattle.geometry.proofs.laws.Rounding.{from-value, number}
-use Rattle.geometry.proofs.laws.Back.{num-le, num-lt}
+use Rattle.geometry.proofs.laws.Back.{or-l, num-le, num-lt}
 use Rattle.geometry.proofs.laws.WithinLaws.{at, bounds}
 use Rattle.cells.specs.Meaning.CellRule.{cellOf}
 use Rattle.cells.proofs.laws.ReachLaws.{domain-reached}
@@ -61,19 +61,13 @@ room = lit< tt
 
 -- ---- where the edge of a cell next to zero is in the domain, both are exact
 far-small : (s k : ℕ) → SizeInDomain s → k * s ≤ 1048576 → suc k * s ≤ 2097152
-far-small s k S h = le-trans (le-of-eq (suc-mul k s)) (go (k * s) h (S .1))
-  where
-    go : (n : ℕ) → n ≤ 1048576 → s ≤ 1048576 → n + s ≤ 2097152
-    go n h g = omega arith
+far-small s k S h = le-trans (le-of-eq (suc-mul k s)) (omega (arith, S .1))
 
 exact : (n : ℕ) → n ≤ 2097152 → n ≤ 16777216
 exact n h = omega arith
 
 pub near-num : (s k : ℕ) → SizeInDomain s → k * s ≤ 1048576 → Num binary32 (ofInt binary32 (pos (k * s))) (k * s * unit) 0
-near-num s k S h = whole-num (k * s) (go h)
-  where
-    go : {n : ℕ} → n ≤ 1048576 → n ≤ 16777216
-    go h = omega arith
+near-num s k S h = whole-num (k * s) (omega arith)
 
 pub far-num : (s k : ℕ) → SizeInDomain s → k * s ≤ 1048576 → Num binary32 (ofInt binary32 (pos (suc k * s))) (suc k * s * unit) 0
 far-num s k S h = whole-num (suc k * s) (exact (suc k * s) (far-small s k S h))
@@ -81,32 +75,24 @@ far-num s k S h = whole-num (suc k * s) (exact (suc k * s) (far-small s k S h))
 -- ---- a number between two edges below zero: omega works on variables here, since a unit is a number of 45 digits
 module _ (p n w : ℕ) where
   first-part : (p ≡ 0) ⊎ (n ≡ 0) → 0 + n < p + w → p + 0 < 0 + n → (0 < n) × (n < w)
-  first-part (inl z) a b = (omega arith, omega arith)
-  first-part (inr z) a b = absurd (omega arith)
+  first-part o a b = ⊎-elim (λ z. omega arith) (λ z. omega arith) o
 
   first-back : (p ≡ 0) ⊎ (n ≡ 0) → 0 < n → n < w → (0 + n < p + w) × (p + 0 < 0 + n)
-  first-back (inl z) a b = (omega arith, omega arith)
-  first-back (inr z) a b = absurd (omega arith)
+  first-back o a b = ⊎-elim (λ z. omega arith) (λ z. omega arith) o
 
 module _ (p n u w : ℕ) where
   next-part : 0 < u → (p ≡ 0) ⊎ (n ≡ 0) → 0 + n < p + w → p + u ≤ 0 + n → (0 < n) × (u ≤ n) × (n < w)
-  next-part U (inl z) a b = (omega arith, omega arith, omega arith)
-  next-part U (inr z) a b = absurd (omega arith)
+  next-part U o a b = ⊎-elim (λ z. omega arith) (λ z. omega arith) o
 
   next-back : (p ≡ 0) ⊎ (n ≡ 0) → 0 < n → u ≤ n → n < w → (0 + n < p + w) × (p + u ≤ 0 + n)
-  next-back (inl z) a b c = (omega arith, omega arith)
-  next-back (inr z) a b c = absurd (omega arith)
+  next-back o a b c = ⊎-elim (λ z. omega arith) (λ z. omega arith) o
 
 past : (s k a : ℕ) → 1048576 < k * s → a ≤ at binary32 20 → k * s * unit ≤ a → ⊥
 past s k a h g i = lt-irrefl (1048576 * unit) (lt-of-lt-of-le (mul-lt-mul-of-pos-right h (pow-pos (low binary32))) (le-trans i g))
 
 weak : (x y : Float) → T (lt x y) → T (le x y)
 unfolding le
-weak x y t = go (lt x y) t
-  where
-    go : (b : Bool) → T b → T (b || eq x y)
-    go true t = tt
-    go false t = absurd t
+weak x y t = or-l (lt x y) (eq x y) t
 
 module _ (s : ℕ) (S : SizeInDomain s) (x : Float) (D : T (inDomain x)) where
   B : 0 < s
@@ -157,10 +143,7 @@ module _ (s : ℕ) (S : SizeInDomain s) (x : Float) (D : T (inDomain x)) where
       lo = minus-num (suc (suc k) * s) (exact (suc (suc k) * s) (far-small s (suc k) S h))
 
       hi : Num binary32 (edge s (negsuc k)) 0 u
-      hi = minus-num (suc k * s) (exact (suc k * s) (go h))
-        where
-          go : {n : ℕ} → n ≤ 1048576 → n ≤ 2097152
-          go h = omega arith
+      hi = minus-num (suc k * s) (exact (suc k * s) (omega arith))
 
       yes : T (lt (edge s (negsuc (suc k))) x) × T (le x (edge s (negsuc k))) → cellOf (pos s) x ≡ negsuc (suc k)
       yes t = let (a, b, c) = next-part p n u w U one-side (lt-num binary32 (edge s (negsuc (suc k))) x 0 w p n lo v (t .0)) (le-num binary32 x (edge s (negsuc k)) p n 0 u v hi (t .1)) in under (suc k) a b c

@@ -1,12 +1,12 @@
 -- Cells whose numbers fit 32 bits have keys below 2 ^ 64, and each comes back from its key. Assumes nothing.
-use Prim.Native.Nat.{ℕ, suc, _-_, _<_}
-use mathlib.Core.Path.{_≡_, refl, ap, _∙_}
-use mathlib.Core.Bool.{Bool, true, false, cond}
+use Prim.Native.Nat.{ℕ, _<_}
+use mathlib.Core.Path.{_≡_, ap, _∙_}
 use native.Mathlib.Omega.{arith}
-use lib.Dec.{ltb}
 use lib.IntN.{ℤ, pos, negsuc}
 use lib.Signed.{mag}
-use borrow.Author.Tests.{ltb-true, ltb-false}
+use mathlib.Core.Logic.{inl, inr}
+use borrow.Author.Tests.{lt-ltb, le-ltb}
+use Rattle.basics.proofs.laws.Says.{d-lt}
 use Rattle.cells.specs.declared.Cell.{Cell}
 use Rattle.cells.proofs.laws.Numbers.{cell-ext, Fits}
 use Rattle.cells.specs.Meaning.Key.{upward, keyOf}
@@ -30,18 +30,12 @@ key-lt c f = omega (arith, upward-lt (c .x) (f .x), upward-lt (c .y) (f .y))
 
 -- ---- back from a key
 pub upward-downward : (n : ℕ) → upward (downward n) ≡ n
-upward-downward n = go (ltb n 2147483648) refl
-  where
-    go : (t : Bool) → ltb n 2147483648 ≡ t → upward (cond t (negsuc (2147483648 - suc n)) (pos (n - 2147483648))) ≡ n
-    go true e = omega (arith, ltb-true n 2147483648 e)
-    go false e = omega (arith, ltb-false n 2147483648 e)
+upward-downward n =
+    elim (d-lt n 2147483648) [ inl h ↦ rw (lt-ltb n 2147483648 h) (omega arith) | inr h ↦ rw (le-ltb n 2147483648 (omega arith)) (omega arith) ]
 
 pub downward-small : (n : ℕ) → n < 4294967296 → mag (downward n) < 2147483648
-downward-small n h = go (ltb n 2147483648) refl
-  where
-    go : (t : Bool) → ltb n 2147483648 ≡ t → mag (cond t (negsuc (2147483648 - suc n)) (pos (n - 2147483648))) < 2147483648
-    go true e = omega (arith, ltb-true n 2147483648 e)
-    go false e = omega (arith, ltb-false n 2147483648 e)
+downward-small n h =
+    elim (d-lt n 2147483648) [ inl g ↦ rw (lt-ltb n 2147483648 g) (omega arith) | inr g ↦ rw (le-ltb n 2147483648 (omega arith)) (omega arith) ]
 
 pub downward-upward : (z : ℤ) → mag z < 2147483648 → downward (upward z) ≡ z
 downward-upward z h =

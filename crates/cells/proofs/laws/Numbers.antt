@@ -1,6 +1,6 @@
 -- A cell by its two numbers: how large they are, and that equal numbers make equal cells. Assumes nothing.
 -- Here: the laws.
-use Prim.Native.Nat.{ℕ, _≤_, _<_}
+use Prim.Native.Nat.{_<_}
 use mathlib.Core.Path.{_≡_}
 use native.Mathlib.Omega.{arith}
 use lib.Signed.{mag}
@@ -16,7 +16,4 @@ pub record Fits (c : Cell) : Type 0 where
   pub y : mag (c .y) < 2147483648
 
 pub near-fits : (c : Cell) → Near c → Fits c
-near-fits c n = record { x = more (n .x); y = more (n .y) }
-  where
-    more : {k : ℕ} → k ≤ 4194304 → k < 2147483648
-    more h = omega arith
+near-fits c n = record { x = omega (arith, n .x); y = omega (arith, n .y) }

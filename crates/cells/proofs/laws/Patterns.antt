@@ -25,16 +25,10 @@ use Rattle.cells.specs.Inner.Patterns.{fieldsOf, numberAt, Held}
 -- ---- a greater pattern has the greater number
 under-next : (e t : ℕ) → t < 8388608 → fieldsOf e t < 8388608 * 2 ^ e
 under-next zero t h = omega arith
-under-next (suc k) t h = lt-of-lt-of-le (mul-lt-mul-of-pos-right (go t h) (pow-pos k)) (le-of-eq (mul-assoc 8388608 2 (2 ^ k) ∙ ap (λ (z : ℕ). 8388608 * z) (mul-comm 2 (2 ^ k) ∙ sym (pow-suc 2 k))))
-  where
-    go : (t : ℕ) → t < 8388608 → 8388608 + t < 8388608 * 2
-    go t h = omega arith
+under-next (suc k) t h = lt-of-lt-of-le (mul-lt-mul-of-pos-right (omega arith) (pow-pos k)) (le-of-eq (mul-assoc 8388608 2 (2 ^ k) ∙ ap (λ (z : ℕ). 8388608 * z) (mul-comm 2 (2 ^ k) ∙ sym (pow-suc 2 k))))
 
 from-lead : (e k t : ℕ) → e ≤ k → 8388608 * 2 ^ e ≤ fieldsOf (suc k) t
-from-lead e k t h = mul-le-mul (go t) (pow-mono h)
-  where
-    go : (t : ℕ) → 8388608 ≤ 8388608 + t
-    go t = omega arith
+from-lead e k t h = mul-le-mul (omega arith) (pow-mono h)
 
 fields-rise : (e f t u : ℕ) → t < 8388608 → e < f → fieldsOf e t < fieldsOf f u
 fields-rise e zero t u h g = absurd (omega arith)
@@ -42,20 +36,16 @@ fields-rise e (suc k) t u h g = lt-of-lt-of-le (under-next e t h) (from-lead e k
 
 digits-rise : (e t u : ℕ) → t < u → fieldsOf e t < fieldsOf e u
 digits-rise zero t u h = h
-digits-rise (suc k) t u h = mul-lt-mul-of-pos-right (go t u h) (pow-pos k)
-  where
-    go : (t u : ℕ) → t < u → 8388608 + t < 8388608 + u
-    go t u h = omega arith
+digits-rise (suc k) t u h = mul-lt-mul-of-pos-right (omega arith) (pow-pos k)
 
 pub numbers-rise : (a b : ℕ) → a < b → numberAt a < numberAt b
 unfolding numberAt
-numbers-rise a b h = go (d-lt (a / 8388608) (b / 8388608))
-  where
-    go : (a / 8388608 < b / 8388608) ⊎ (a / 8388608 < b / 8388608 → ⊥) → fieldsOf (a / 8388608) (a % 8388608) < fieldsOf (b / 8388608) (b % 8388608)
-    go (inl g) = fields-rise (a / 8388608) (b / 8388608) (a % 8388608) (b % 8388608) (mod-lt a (pow-pos 23)) g
-    go (inr g) =
-        let e : a / 8388608 ≡ b / 8388608 = omega arith in
-        subst (λ (z : ℕ). fieldsOf (a / 8388608) (a % 8388608) < fieldsOf z (b % 8388608)) e (digits-rise (a / 8388608) (a % 8388608) (b % 8388608) (omega arith))
+numbers-rise a b h =
+    elim (d-lt (a / 8388608) (b / 8388608)) [
+      | inl g ↦ fields-rise (a / 8388608) (b / 8388608) (a % 8388608) (b % 8388608) (mod-lt a (pow-pos 23)) g
+      | inr g ↦ let e : a / 8388608 ≡ b / 8388608 = omega arith in
+          subst (λ (z : ℕ). fieldsOf (a / 8388608) (a % 8388608) < fieldsOf z (b % 8388608)) e (digits-rise (a / 8388608) (a % 8388608) (b % 8388608) (omega arith))
+    ]
 
 -- ---- the pattern of a number from 0 up
 abbrev finite-is : Float → Type 0
@@ -96,23 +86,14 @@ module _ (m : ℕ) (e : ℤ) (p n : ℕ) (v : Num binary32 (fin false m e) p n) 
 -- ---- the number of a pattern
 fields-under : (k t : ℕ) → k < 255 → t < 8388608 → fieldsOf k t < overflow binary32
 fields-under zero t h d = lt-of-lt-of-le d (pow-mono {i = 23} {j = 277} (lit≤ tt))
-fields-under (suc k) t h d = lt-of-lt-of-le (shl-lt 24 k (go t d)) (pow-mono (more k h))
-  where
-    go : (t : ℕ) → t < 8388608 → 8388608 + t < 2 ^ 24
-    go t d = omega arith
-
-    more : (k : ℕ) → suc k < 255 → 24 + k ≤ 277
-    more k h = omega arith
+fields-under (suc k) t h d = lt-of-lt-of-le (shl-lt 24 k (omega arith)) (pow-mono {i = 24 + k} {j = 277} (omega arith))
 
 fields-num : (k t : ℕ) → k < 255 → t < 8388608 → Num binary32 (ofFields binary32 false k t) (fieldsOf k t) 0
 unfolding ofFields
 fields-num zero t h d = from-value binary32 (odd 24 false t 0 149) false t (subst (λ (q : ℕ). HasValue (odd 24 false t 0 149) false q (2 ^ 149)) (mul-one t) (odd-sign 24 false t 0 149)) (fields-under 0 t h d)
 fields-num (suc k) t h d =
-    subst (λ (a : Bool). Num binary32 (cond a (cond (eqb t 0) (inf false) nan) (odd 24 false (8388608 + t) k 149)) ((8388608 + t) * 2 ^ k) 0) (sym (ne-eqb (suc k) 255 (no k h)))
+    subst (λ (a : Bool). Num binary32 (cond a (cond (eqb t 0) (inf false) nan) (odd 24 false (8388608 + t) k 149)) ((8388608 + t) * 2 ^ k) 0) (sym (ne-eqb (suc k) 255 (λ q. omega arith)))
     (from-value binary32 (odd 24 false (8388608 + t) k 149) false ((8388608 + t) * 2 ^ k) (odd-sign 24 false (8388608 + t) k 149) (fields-under (suc k) t h d))
-  where
-    no : (k : ℕ) → suc k < 255 → suc k ≡ 255 → ⊥
-    no k h e = omega arith
 
 pub pattern-num : (b : ℕ) → b < 2139095040 → Num binary32 (ofBits binary32 b) (numberAt b) 0
 unfolding ofBits numberAt
@@ -140,7 +121,7 @@ both-held (fin true m e) p n f t v = (subst Held (sym (v .1)) none-held, (toBits
 
 -- no number lies between those of a pattern and the next
 between : (b c : ℕ) → numberAt (c - 1) < numberAt b → numberAt b < numberAt c → ⊥
-between b c g h = lt-irrefl b (lt-of-lt-of-le (back b c h) (go (back (c - 1) b g)))
+between b c g h = lt-irrefl b (lt-of-lt-of-le (back b c h) (omega (arith, back (c - 1) b g)))
   where
     back : (a b : ℕ) → numberAt a < numberAt b → a < b
     back a b h = elim (d-lt a b) [ inl l ↦ l | inr n ↦ absurd (no (d-eq a b) n) ]
@@ -148,9 +129,6 @@ between b c g h = lt-irrefl b (lt-of-lt-of-le (back b c h) (go (back (c - 1) b g
         no : (a ≡ b) ⊎ (a ≡ b → ⊥) → (a < b → ⊥) → ⊥
         no (inl e) n = lt-irrefl (numberAt a) (lt-of-lt-of-le h (le-of-eq (ap numberAt (sym e))))
         no (inr e) n = lt-irrefl (numberAt a) (lt-trans h (numbers-rise b a (omega (arith, e, n))))
-
-    go : c - 1 < b → c ≤ b
-    go h = omega arith
 
 some : (p : ℕ) → 0 < p → (b : ℕ) → p ≡ numberAt b → 0 < b
 unfolding numberAt
@@ -172,23 +150,17 @@ module _ (x : Float) (p : ℕ) (f : T (fits binary32 x)) (v : Num binary32 x p 0
   under = toBits binary32 x - 1
 
   pub under-num : Num binary32 (ofBits binary32 under) (numberAt under) 0
-  under-num = pattern-num under (go (own-pattern .1))
-    where
-      go : {b : ℕ} → b < 2139095040 → b - 1 < 2139095040
-      go h = omega arith
+  under-num = pattern-num under (omega (arith, own-pattern .1))
 
   pub under-least : (w : ℕ) → Held w → w < p → w ≤ numberAt under
-  under-least w (b, e) g = go (d-lt (numberAt under) w)
-    where
-      go : (numberAt under < w) ⊎ (numberAt under < w → ⊥) → w ≤ numberAt under
-      go (inl i) = absurd (between b (toBits binary32 x) (subst (λ (k : ℕ). numberAt under < k) e i) (subst (λ (k : ℕ). k < numberAt (toBits binary32 x)) e (subst (λ (k : ℕ). w < k) (own-pattern .2) g)))
-      go (inr i) = omega arith
+  under-least w (b, e) g =
+      elim (d-lt (numberAt under) w) [
+        | inl i ↦ absurd (between b (toBits binary32 x) (subst (λ (k : ℕ). numberAt under < k) e i) (subst (λ (k : ℕ). k < numberAt (toBits binary32 x)) e (subst (λ (k : ℕ). w < k) (own-pattern .2) g)))
+        | inr i ↦ omega arith
+      ]
 
   pub under-less : (w : ℕ) → w ≤ numberAt under → w < p
-  under-less w g = lt-of-le-of-lt g (subst (λ (k : ℕ). numberAt under < k) (sym (own-pattern .2)) (numbers-rise under (toBits binary32 x) (go (own-pattern .0))))
-    where
-      go : {b : ℕ} → 0 < b → b - 1 < b
-      go h = omega arith
+  under-less w g = lt-of-le-of-lt g (subst (λ (k : ℕ). numberAt under < k) (sym (own-pattern .2)) (numbers-rise under (toBits binary32 x) (omega (arith, own-pattern .0))))
 
 -- ---- no pattern up to infinity's is a NaN's
 pub number-pattern : (b : ℕ) → b ≤ 2139095040 → T (not (nanBits binary32 b))

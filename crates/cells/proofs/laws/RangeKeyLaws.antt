@@ -3,16 +3,16 @@
 use Prim.Native.Nat.{ℕ, zero, suc, _+_, _-_, _*_, _≤_, _<_}
 use mathlib.Core.Path.{_≡_, refl, sym, ap, ap₂, _∙_, subst}
 use mathlib.Core.Logic.{inl, inr}
-use mathlib.Core.Bool.{Bool, true, false, cond, _&&_}
+use mathlib.Core.Bool.{_&&_}
 use mathlib.Core.List.{_∷_, _++_, map, map-append}
 use native.Mathlib.Omega.{arith}
 use native.Mathlib.Nat.{mul-le-mul}
-use lib.Dec.{ltb, leb}
+use lib.Dec.{leb}
 use lib.IntN.{ℤ, pos, negsuc, _+ℤ_, +ℤ-idr}
 use lib.Signed.{mag, leZ}
-use borrow.Author.Tests.{ltb-true, ltb-false, leb-true, le-leb, lt-leb}
+use borrow.Author.Tests.{lt-ltb, le-ltb, leb-true, le-leb, lt-leb}
 use Rattle.basics.specs.Meaning.Says.{Says}
-use Rattle.basics.proofs.laws.Says.{says-same, says-via, d-le}
+use Rattle.basics.proofs.laws.Says.{says-same, says-via, d-le, d-lt}
 use Rattle.cells.specs.declared.Cell.{Cell}
 use Rattle.cells.proofs.laws.Numbers.{Fits}
 use Rattle.cells.specs.Inner.Numbers.{Near}
@@ -27,11 +27,7 @@ use Rattle.cells.proofs.laws.Rising.{run, runs, runs-rising}
 
 pub upward-step : (z : ℤ) (i : ℕ) → mag z < 2147483648 → upward (z +ℤ pos i) ≡ upward z + i
 upward-step (pos n) i h = omega arith
-upward-step (negsuc n) i h = go (ltb i (suc n)) refl
-  where
-    go : (t : Bool) → ltb i (suc n) ≡ t → upward (cond t (negsuc (suc n - suc i)) (pos (i - suc n))) ≡ 2147483647 - n + i
-    go true e = omega (arith, ltb-true i (suc n) e)
-    go false e = omega (arith, ltb-false i (suc n) e)
+upward-step (negsuc n) i h = elim (d-lt i (suc n)) [ inl g ↦ rw (lt-ltb i (suc n) g) (omega arith) | inr g ↦ rw (le-ltb i (suc n) (omega arith)) (omega arith) ]
 
 -- ---- the keys of a row, and of rows
 one-more : (z : ℤ) (i : ℕ) → z +ℤ pos i +ℤ pos 1 ≡ z +ℤ pos (i + 1)
@@ -49,17 +45,11 @@ row-from : (x y : ℤ) → mag x < 2147483648 → (i n : ℕ) → map keyOf (row
 row-from x y h i zero = refl
 row-from x y h i (suc n) =
     ap₂ _∷_ (key-right x y i h)
-    (ap (λ (z : ℤ). map keyOf (row y z n)) (one-more x i) ∙ row-from x y h (i + 1) n ∙ ap (λ (k : ℕ). run k n) (go (keyOf (record { x = x; y = y }))))
-  where
-    go : (k : ℕ) → k + (i + 1) ≡ k + i + 1
-    go k = omega arith
+    (ap (λ (z : ℤ). map keyOf (row y z n)) (one-more x i) ∙ row-from x y h (i + 1) n ∙ ap (λ (k : ℕ). run k n) (omega arith))
 
 pub row-keys : (x y : ℤ) (n : ℕ) → mag x < 2147483648 → map keyOf (row y x n) ≡ run (keyOf (record { x = x; y = y })) n
 row-keys x y n h =
-    ap (λ (z : ℤ). map keyOf (row y z n)) (sym (+ℤ-idr x)) ∙ row-from x y h 0 n ∙ ap (λ (k : ℕ). run k n) (go (keyOf (record { x = x; y = y })))
-  where
-    go : (k : ℕ) → k + 0 ≡ k
-    go k = omega arith
+    ap (λ (z : ℤ). map keyOf (row y z n)) (sym (+ℤ-idr x)) ∙ row-from x y h 0 n ∙ ap (λ (k : ℕ). run k n) (omega arith)
 
 rows-from : (x y : ℤ) → mag x < 2147483648 → mag y < 2147483648 → (j n m : ℕ) → map keyOf (rows x (y +ℤ pos j) n m) ≡ runs (keyOf (record { x = x; y = y }) + j * 4294967296) n m
 rows-from x y h k j n zero = refl
@@ -67,10 +57,7 @@ rows-from x y h k j n (suc m) =
     map-append keyOf (row (y +ℤ pos j) x n) (rows x (y +ℤ pos j +ℤ pos 1) n m)
     ∙ ap₂ _++_ (row-keys x (y +ℤ pos j) n h ∙ ap (λ (l : ℕ). run l n) (key-up x y j k))
     (ap (λ (z : ℤ). map keyOf (rows x z n m)) (one-more y j) ∙ rows-from x y h k (j + 1) n m
-    ∙ ap (λ (l : ℕ). runs l n m) (go (keyOf (record { x = x; y = y }))))
-  where
-    go : (k : ℕ) → k + (j + 1) * 4294967296 ≡ k + j * 4294967296 + 4294967296
-    go k = omega arith
+    ∙ ap (λ (l : ℕ). runs l n m) (omega arith))
 
 pub range-keys : (a b : Cell) → Fits a → map keyOf (rangeCells a b) ≡ runs (keyOf a) (countFrom (a .x) (b .x)) (countFrom (a .y) (b .y))
 unfolding rangeCells
@@ -78,19 +65,16 @@ range-keys a b f =
     let n = countFrom (a .x) (b .x) in
     let m = countFrom (a .y) (b .y) in
     ap (λ (z : ℤ). map keyOf (rows (a .x) z n m)) (sym (+ℤ-idr (a .y))) ∙ rows-from (a .x) (a .y) (f .x) (f .y) 0 n m
-    ∙ ap (λ (k : ℕ). runs k n m) (go (keyOf a))
-  where
-    go : (k : ℕ) → k + 0 * 4294967296 ≡ k
-    go k = omega arith
+    ∙ ap (λ (k : ℕ). runs k n m) (omega arith)
 
 -- ---- how many numbers there are from one to another
 module _ (a b : ℤ) (ha : mag a < 2147483648) (hb : mag b < 2147483648) where
   pub count-up : upward a ≤ upward b → countFrom a b ≡ upward b - upward a + 1
-  count-up h = go (compare a b)
-    where
-      go : Compared a b → countFrom a b ≡ upward b - upward a + 1
-      go (inl (k, e)) = omega (arith, ap (countFrom a) e ∙ count-step a k, ap upward e ∙ upward-step a k ha)
-      go (inr (k, e)) = absurd (omega (arith, ap upward e ∙ upward-step b (suc k) hb))
+  count-up h =
+      elim (compare a b) [
+        | inl (k, e) ↦ omega (arith, ap (countFrom a) e ∙ count-step a k, ap upward e ∙ upward-step a k ha)
+        | inr (k, e) ↦ absurd (omega (arith, ap upward e ∙ upward-step b (suc k) hb))
+      ]
 
   pub count-none : upward b < upward a → countFrom a b ≡ 0
   count-none h = go (compare a b)
@@ -129,7 +113,7 @@ range-rising a b fa fb =
     (runs-rising (keyOf a) (countFrom (a .x) (b .x)) (countFrom (a .y) (b .y)) (count-most (a .x) (b .x) (fa .x) (fb .x)))
 
 -- ---- in a range, by keys
-leb-says : (a b : ℕ) → Says (leb a b) (a ≤ b)
+pub leb-says : (a b : ℕ) → Says (leb a b) (a ≤ b)
 leb-says a b = record { yes = leb-true a b; no = le-leb a b }
 
 pub upward-order : (a b : ℤ) → mag a < 2147483648 → mag b < 2147483648 → leZ a b ≡ leb (upward a) (upward b)

@@ -25,10 +25,7 @@ rows-length : (x y : ℤ) (n m : ℕ) → length (rows x y n m) ≡ n * m
 rows-length x y n zero = sym (mul-zero n)
 rows-length x y n (suc m) =
     length-append (row y x n) (rows x (y +ℤ pos 1) n m) ∙ ap (λ (k : ℕ). k + length (rows x (y +ℤ pos 1) n m)) (row-length y x n)
-    ∙ ap (λ (k : ℕ). n + k) (rows-length x (y +ℤ pos 1) n m) ∙ go (n * m) ∙ sym (mul-suc n m)
-  where
-    go : (k : ℕ) → n + k ≡ k + n
-    go k = omega arith
+    ∙ ap (λ (k : ℕ). n + k) (rows-length x (y +ℤ pos 1) n m) ∙ (omega arith) ∙ sym (mul-suc n m)
 
 pub range-length : (a b : Cell) → length (rangeCells a b) ≡ cellsIn a b
 unfolding rangeCells cellsIn

@@ -1,5 +1,5 @@
 -- What `cell_at` asks of a position holds in the domain and at the corners of a circle's range. Assumes nothing.
-use Prim.Native.Nat.{ℕ, _*_, _≤_}
+use Prim.Native.Nat.{_*_}
 use mathlib.Core.Path.{sym}
 use mathlib.Core.Bool.{true, false, _&&_}
 use native.Mathlib.Omega.{arith}
@@ -15,9 +15,6 @@ use Rattle.geometry.specs.Meaning.Circle.{cornerBelow, cornerAbove}
 use Rattle.cells.specs.Inner.CellRule.{Reached}
 use Rattle.cells.proofs.laws.CellRuleLaws.{le-of-tests}
 
-wider : (a d : ℕ) → a * 1 ≤ 1 * 1048576 * d → a * 1 ≤ 1 * 2097152 * d
-wider a d h = omega arith
-
 within-wider : (x : Float) → T (within 20 x) → T (within 21 x)
 unfolding le lt eq
 within-wider nan h = absurd h
@@ -29,14 +26,14 @@ within-wider (fin false m e) h =
     let l = le-of-tests a b (eqb a b && true) (λ t. eqb→eq a b (and-l (eqb a b) true t))
     (and-r (le (fin true 1 (pos 20)) (fin false m e)) (le (fin false m e) (fin false 1 (pos 20))) h) in
     and-i (le (fin true 1 (pos 21)) (fin false m e)) (le (fin false m e) (fin false 1 (pos 21)))
-    (le-tf (1 * 2097152 * down e) a) (le-ff a (1 * 2097152 * down e) (wider (m * up e) (down e) l))
+    (le-tf (1 * 2097152 * down e) a) (le-ff a (1 * 2097152 * down e) (omega arith))
 within-wider (fin true m e) h =
     let a = 1 * 1048576 * down e in
     let b = m * up e * 1 in
     let l = le-of-tests b a (eqb a b && true) (λ t. sym (eqb→eq a b (and-l (eqb a b) true t)))
     (and-l (le (fin true 1 (pos 20)) (fin true m e)) (le (fin true m e) (fin false 1 (pos 20))) h) in
     and-i (le (fin true 1 (pos 21)) (fin true m e)) (le (fin true m e) (fin false 1 (pos 21)))
-    (le-tt (1 * 2097152 * down e) b (wider (m * up e) (down e) l)) (le-tf b (1 * 2097152 * down e))
+    (le-tt (1 * 2097152 * down e) b (omega arith)) (le-tf b (1 * 2097152 * down e))
 
 pub domain-reached : (x : Float) → T (inDomain x) → T (within 21 x)
 domain-reached x h = within-wider x (domain-within x h)

@@ -1,18 +1,17 @@
 -- Spans: between the first and the last number of a cell lies the cell. Assumes nothing.
-use mathlib.Core.Path.{_≡_, refl, sym, ap, _∙_, subst}
-use mathlib.Core.Logic.{_⊎_, inl, inr}
-use mathlib.Core.Bool.{Bool, true, false, not, _&&_}
+use mathlib.Core.Path.{_≡_, refl, sym, ap, _∙_}
+use mathlib.Core.Logic.{_⊎_, ⊎-elim}
+use mathlib.Core.Bool.{true, false, not, _&&_}
 use Prim.Native.Nat.{ℕ, suc, _+_, _*_, _≤_, _<_, _-_, zero-le}
-use native.Mathlib.Nat.{le-trans, le-of-lt, le-of-eq, lt-of-le-of-lt, lt-of-lt-of-le, zero-mul, suc-mul, mul-le-mul-right, mul-lt-mul-of-pos-right, mul-pos, one-mul}
+use native.Mathlib.Nat.{lt-irrefl, le-trans, le-of-lt, le-of-eq, lt-of-le-of-lt, lt-of-lt-of-le, zero-mul, mul-le-mul-right, mul-lt-mul-of-pos-right, mul-pos}
 use native.Mathlib.Omega.{arith}
-use lib.Dec.{T, lit<, lit≤}
+use lib.Dec.{T, lit<}
 use lib.Pow.{pow-pos}
 use lib.IntN.{ℤ, pos, negsuc}
 use lib.Signed.{mag}
 use lib.Ieee.{Float, nan, inf, fin, binary32, low, ofInt, ofBits, toBits, neg, lt, eq, le, fits, isNan}
 use lib.Ieee.Fits.{and-i, and-l, and-r, ofInt-fits}
 use lib.Ieee.Scale.{finite, overflow}
-use Rattle.basics.specs.Meaning.Says.{Says}
 use Rattle.basics.proofs.laws.Says.{says-via}
 use Rattle.geometry.specs.Meaning.Domain.{within, inDomain}
 use Rattle.geometry.proofs.laws.DomainLaws.{domain-fits, domain-within, domain-finite}
@@ -28,7 +27,7 @@ use Rattle.cells.proofs.laws.ReachLaws.{domain-reached}
 use Rattle.cells.proofs.laws.EdgeLaws.{says-both, in-over, in-under, over-in, under-in}
 use Rattle.cells.specs.Inner.EdgeRule.{unit}
 use Rattle.cells.proofs.laws.EdgeRule.{whole-num, near-num, nought-num, room, none-past}
-use Rattle.cells.specs.Inner.Patterns.{Held, numberAt}
+use Rattle.cells.specs.Inner.Patterns.{numberAt}
 use Rattle.cells.proofs.laws.Patterns.{both-held, under, own-pattern, under-num, under-least, under-less, pattern-num}
 use Rattle.cells.specs.Inner.Span.{Spans, LastBelow, FirstFrom}
 
@@ -85,19 +84,16 @@ reach-room = lit< tt
 -- ---- numbers: omega works on variables here
 module _ (i p n h : ℕ) where
   over-part : (p ≡ 0) ⊎ (n ≡ 0) → i + n ≤ p + 0 → p + 0 ≤ h + n → (n ≡ 0) × (i ≤ p) × (p ≤ h)
-  over-part (inl z) a b = (omega arith, omega arith, omega arith)
-  over-part (inr z) a b = (z, omega arith, omega arith)
+  over-part o a b = ⊎-elim (λ z. omega arith) (λ z. omega arith) o
 
   over-back : n ≡ 0 → i ≤ p → p ≤ h → (i + n ≤ p + 0) × (p + 0 ≤ h + n)
-  over-back z a b = (omega arith, omega arith)
+  over-back z a b = omega arith
 
   under-part : (p ≡ 0) ⊎ (n ≡ 0) → 0 < i → 0 + n ≤ p + h → p + i ≤ 0 + n → (p ≡ 0) × (0 < n) × (i ≤ n) × (n ≤ h)
-  under-part (inl z) I a b = (z, omega arith, omega arith, omega arith)
-  under-part (inr z) I a b = absurd (omega arith)
+  under-part o I a b = ⊎-elim (λ z. omega arith) (λ z. omega arith) o
 
   under-back : (p ≡ 0) ⊎ (n ≡ 0) → 0 < n → i ≤ n → n ≤ h → (0 + n ≤ p + h) × (p + i ≤ 0 + n)
-  under-back (inl z) I a b = (omega arith, omega arith)
-  under-back (inr z) I a b = absurd (omega arith)
+  under-back o I a b = ⊎-elim (λ z. omega arith) (λ z. omega arith) o
 
 none-of : (n w : ℕ) → n ≡ 0 → n ≤ w
 none-of n w e = omega arith
@@ -113,34 +109,26 @@ module _ (s : ℕ) (S : SizeInDomain s) (k : ℕ) (h : k * s ≤ 1048576) (first
   in-domain x p n f v a b = and-i (fits binary32 x) (within 20 x) f (bounded binary32 20 x p n reach-room v a b)
 
   pub over-span : first ≡ ofInt binary32 (pos (k * s)) → Spans s (pos k) first last
-  over-span e = spans-by s (pos k) first last (k * s * unit) 0 (t .number) 0 (rw e (near-num s k S h)) (t .is) (lit< tt) last-room yes no
-    where
-      yes : Yes s (pos k) first last (k * s * unit) 0 (t .number) 0 (rw e (near-num s k S h)) (t .is) (lit< tt) last-room
-      yes x p n f w v a b =
-          let (z, i, j) = over-part (k * s * unit) p n (t .number) (either binary32 x p n v) a b in
-          let d = in-domain x p n f v (t .reach p j) (none-of n _ z) in
-          (d, in-over binary32 s B x p n v room (domain-reached x d) k z i (t .below p j))
-
-      no : No s (pos k) first last (k * s * unit) 0 (t .number) 0 (rw e (near-num s k S h)) (t .is) (lit< tt) last-room
-      no x p n d v c =
-          let (z, i, j) = over-in binary32 s B x p n v room (domain-reached x d) k c in
-          let r = both-held x p n (domain-fits x d) (domain-finite x d) v in
-          over-back (k * s * unit) p n (t .number) z i (t .most p (r .0) j (bounds binary32 20 x p n reach-room v (domain-within x d) .0))
+  over-span e = spans-by s (pos k) first last (k * s * unit) 0 (t .number) 0 (rw e (near-num s k S h)) (t .is) (lit< tt) last-room
+      (λ x p n f w v a b.
+      let (z, i, j) = over-part (k * s * unit) p n (t .number) (either binary32 x p n v) a b in
+      let d = in-domain x p n f v (t .reach p j) (none-of n _ z) in
+      (d, in-over binary32 s B x p n v room (domain-reached x d) k z i (t .below p j)))
+      (λ x p n d v c.
+      let (z, i, j) = over-in binary32 s B x p n v room (domain-reached x d) k c in
+      let r = both-held x p n (domain-fits x d) (domain-finite x d) v in
+      over-back (k * s * unit) p n (t .number) z i (t .most p (r .0) j (bounds binary32 20 x p n reach-room v (domain-within x d) .0)))
 
   pub under-span : FirstFrom (k * s) first → Spans s (negsuc k) (neg last) (neg first)
-  under-span g = spans-by s (negsuc k) (neg last) (neg first) 0 (t .number) 0 (g .number) (neg-num binary32 last (t .number) 0 (t .is)) (neg-num binary32 first (g .number) 0 (g .is)) last-room (lit< tt) yes no
-    where
-      yes : Yes s (negsuc k) (neg last) (neg first) 0 (t .number) 0 (g .number) (neg-num binary32 last (t .number) 0 (t .is)) (neg-num binary32 first (g .number) 0 (g .is)) last-room (lit< tt)
-      yes x p n f w v a b =
-          let (z, o, i, j) = under-part (g .number) p n (t .number) (either binary32 x p n v) (g .some) a b in
-          let d = in-domain x p n f v (none-of p _ z) (t .reach n j) in
-          (d, in-under binary32 s B x p n v room (domain-reached x d) k o (g .from n i) (t .below n j))
-
-      no : No s (negsuc k) (neg last) (neg first) 0 (t .number) 0 (g .number) (neg-num binary32 last (t .number) 0 (t .is)) (neg-num binary32 first (g .number) 0 (g .is)) last-room (lit< tt)
-      no x p n d v c =
-          let (o, i, j) = under-in binary32 s B x p n v room (domain-reached x d) k c in
-          let r = both-held x p n (domain-fits x d) (domain-finite x d) v in
-          under-back (g .number) p n (t .number) (either binary32 x p n v) o (g .least n o i) (t .most n (r .1) j (bounds binary32 20 x p n reach-room v (domain-within x d) .1))
+  under-span g = spans-by s (negsuc k) (neg last) (neg first) 0 (t .number) 0 (g .number) (neg-num binary32 last (t .number) 0 (t .is)) (neg-num binary32 first (g .number) 0 (g .is)) last-room (lit< tt)
+      (λ x p n f w v a b.
+      let (z, o, i, j) = under-part (g .number) p n (t .number) (either binary32 x p n v) (g .some) a b in
+      let d = in-domain x p n f v (none-of p _ z) (t .reach n j) in
+      (d, in-under binary32 s B x p n v room (domain-reached x d) k o (g .from n i) (t .below n j)))
+      (λ x p n d v c.
+      let (o, i, j) = under-in binary32 s B x p n v room (domain-reached x d) k c in
+      let r = both-held x p n (domain-fits x d) (domain-finite x d) v in
+      under-back (g .number) p n (t .number) (either binary32 x p n v) o (g .least n o i) (t .most n (r .1) j (bounds binary32 20 x p n reach-room v (domain-within x d) .1)))
 
 -- from 1 to 0: of a cell whose edge next to zero lies outside the domain
 pub no-span : (s : ℕ) → SizeInDomain s → (c : ℤ) → 1048576 < mag c * s → Spans s c (ofBits binary32 0x3f800000) (ofBits binary32 0)
@@ -157,14 +145,8 @@ last-far n h = record { number = at binary32 20; is = power binary32 20 reach-ro
 
 whole-finite : (x : Float) (p n : ℕ) → p < overflow binary32 → n < overflow binary32 → Num binary32 x p n → T (finite x)
 whole-finite nan p n a b v = absurd v
-whole-finite (inf true) p n a b v = absurd (go n (overflow binary32) b (v .0))
-  where
-    go : (n o : ℕ) → n < o → n ≡ o → ⊥
-    go n o h e = omega arith
-whole-finite (inf false) p n a b v = absurd (go p (overflow binary32) a (v .0))
-  where
-    go : (n o : ℕ) → n < o → n ≡ o → ⊥
-    go n o h e = omega arith
+whole-finite (inf true) p n a b v = absurd (lt-irrefl n (lt-of-lt-of-le b (le-of-eq (sym (v .0)))))
+whole-finite (inf false) p n a b v = absurd (lt-irrefl p (lt-of-lt-of-le a (le-of-eq (sym (v .0)))))
 whole-finite (fin s m e) p n a b v = tt
 
 finite-number : (x : Float) → T (finite x) → T (not (isNan x))

@@ -8,8 +8,8 @@ use native.Mathlib.Omega.{arith}
 use lib.Dec.{ltb}
 use lib.IntN.{ℤ, pos, negsuc, negℤ, _+ℤ_, _-ℤ_, +ℤ-comm, +ℤ-assoc, +ℤ-idl, +ℤ-invr, +ℤ-negℤ-cancel, -ℤ-+ℤ-cancel, negℤ-+ℤ, negℤ-negℤ}
 use lib.Signed.{leZ}
-use borrow.Author.Tests.{ltb-true, le-leb, lt-leb}
-use Rattle.basics.proofs.laws.Says.{apart}
+use borrow.Author.Tests.{ltb-true, lt-ltb, le-ltb, le-leb, lt-leb}
+use Rattle.basics.proofs.laws.Says.{apart, d-lt}
 use Rattle.cells.specs.Meaning.Range.{counted, countFrom}
 
 abbrev pub Compared : ℤ → ℤ → Type 0
@@ -34,11 +34,7 @@ add-steps a i j = +ℤ-assoc a (pos i) (pos j)
 -- ---- what `leZ` says
 pub le-step : (a : ℤ) (k : ℕ) → leZ a (a +ℤ pos k) ≡ true
 le-step (pos a) k = le-leb a (a + k) (omega arith)
-le-step (negsuc a) k = go (ltb k (suc a)) refl
-  where
-    go : (t : Bool) → ltb k (suc a) ≡ t → leZ (negsuc a) (cond t (negsuc (suc a - suc k)) (pos (k - suc a))) ≡ true
-    go true e = le-leb (suc a - suc k) a (omega arith)
-    go false e = refl
+le-step (negsuc a) k = elim (d-lt k (suc a)) [ inl g ↦ rw (lt-ltb k (suc a) g) (le-leb (suc a - suc k) a (omega arith)) | inr g ↦ rw (le-ltb k (suc a) (omega arith)) ]
 
 pub past-step : (b : ℤ) (k : ℕ) → leZ (b +ℤ pos (suc k)) b ≡ false
 past-step (pos b) k = lt-leb (b + suc k) b (omega arith)
@@ -60,11 +56,7 @@ count-past b k =
 
 -- the other end of what is not reversed
 pub reached : (a b : ℤ) → leZ a b ≡ true → (k : ℕ) × (b ≡ a +ℤ pos k)
-reached a b h = go (compare a b)
-  where
-    go : Compared a b → (k : ℕ) × (b ≡ a +ℤ pos k)
-    go (inl s) = s
-    go (inr (k, e)) = absurd (apart (sym (ap (λ (z : ℤ). leZ z b) e ∙ past-step b k) ∙ h))
+reached a b h = elim (compare a b) [ inl s ↦ s | inr (k, e) ↦ absurd (apart (sym (ap (λ (z : ℤ). leZ z b) e ∙ past-step b k) ∙ h)) ]
 
 pub reversed : (a b : ℤ) → leZ a b ≡ false → countFrom a b ≡ 0
 reversed a b h = go (compare a b)

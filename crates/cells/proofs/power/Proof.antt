@@ -2,7 +2,7 @@
 use mathlib.Core.Path.{_∙_, ap}
 use mathlib.Core.List.{List, [], _∷_}
 use mathlib.Core.Bool.{Bool}
-use Prim.Native.Nat.{ℕ, _^_}
+use Prim.Native.Nat.{ℕ, zero, suc, _*_, _^_}
 use lib.Dec.{eqb, eqb→eq}
 use lib.ListN.{getD}
 use borrow.Author.Needs.{needs}
@@ -10,39 +10,19 @@ use Rattle.cells.proofs.Table.{at}
 use Rattle.cells.proofs.power.Statement.{statement}
 use Rattle.cells.proofs.power.Tie as tie
 
+-- n numbers from x on, each twice the one before
+doubled : ℕ → ℕ → List ℕ
+doubled x zero = []
+doubled x (suc n) = x ∷ doubled (x * 2) n
+
 powers : List ℕ
-powers =
-    1
-    ∷ 2
-    ∷ 4
-    ∷ 8
-    ∷ 16
-    ∷ 32
-    ∷ 64
-    ∷ 128
-    ∷ 256
-    ∷ 512
-    ∷ 1024
-    ∷ 2048
-    ∷ 4096
-    ∷ 8192
-    ∷ 16384
-    ∷ 32768
-    ∷ 65536
-    ∷ 131072
-    ∷ 262144
-    ∷ 524288
-    ∷ 1048576
-    ∷ 2097152
-    ∷ 4194304
-    ∷ 8388608
-    ∷ []
+powers = doubled 1 24
 
 right : ℕ → ℕ → Bool
 right k x = eqb x (2 ^ k)
 
 returns : tie.Need-returns
-unfolding powers right
+unfolding powers doubled right
 returns c =
     eqb→eq (getD powers (c .wide .result) 0) (2 ^ c .wide .result) (at right powers tt (c .wide .result) (search needs))
     ∙ ap (λ (k : ℕ). 2 ^ k) (c .wide .ensures)

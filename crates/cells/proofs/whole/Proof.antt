@@ -14,12 +14,6 @@ use Rattle.cells.proofs.Signs.{one-less-fits, negated-fits, negated}
 use Rattle.cells.proofs.whole.Statement.{statement}
 use Rattle.cells.proofs.whole.Tie as tie
 
-returns : tie.Need-returns
-returns c = no-number _ (c .if1 .taken)
-
-float-to-bits-b : tie.Need-float-to-bits-b
-float-to-bits-b c = number _ (c .if1 .left)
-
 -- x, the fact that it fits, and that it is a number
 abbrev x : tie.Else1 → Float
 x c = c .before .args .x
@@ -36,12 +30,6 @@ some c = omega (arith, c .if4)
 
 most : (c : tie.Else4) → c .before .before .cut .result ≤ 2147483648
 most c = subst (λ (n : ℕ). n ≤ 2147483648) (sym (c .before .before .cut .ensures)) (cut-le (toBits binary32 (x (c .before .before .before))))
-
-cast-result-2 : tie.Need-cast-result-2
-cast-result-2 c = one-less-fits (c .before .before .cut .result) (some c) (most c)
-
-sub-result-2 : tie.Need-sub-result-2
-sub-result-2 c = negated-fits (c .before .before .cut .result) (some c) (most c)
 
 returns-2 : tie.Need-returns-2
 returns-2 c =
@@ -68,13 +56,13 @@ pub whole-spec : {M : Type 1} → statement M
 whole-spec =
     tie.close
     (tie.spec
-    returns
-    float-to-bits-b
+    (λ c. no-number _ (c .if1 .taken))
+    (λ c. number _ (c .if1 .left))
     (λ c κs. search needs)
     (λ c. search needs)
     (λ c. search needs)
-    cast-result-2
-    sub-result-2
+    (λ c. one-less-fits (c .before .before .cut .result) (some c) (most c))
+    (λ c. negated-fits (c .before .before .cut .result) (some c) (most c))
     returns-2
     returns-3
     returns-4
