@@ -20,11 +20,7 @@ bit-of-zero j = rw zero-div (zero-mod 2)
 
 -- a bit is 1 or 0
 pub bit-not-one : (n j : ℕ) → (bit n j ≡ 1 → ⊥) → bit n j ≡ 0
-bit-not-one n j g = go (bit n j) (omega arith) g
-  where
-    go : (b : ℕ) → b < 2 → (b ≡ 1 → ⊥) → b ≡ 0
-    go zero h g = refl
-    go (suc b) h g = absurd (g (omega arith))
+bit-not-one n j g = omega arith
 
 -- the bits of a number that was shifted down
 pub bit-shifted : (n b j : ℕ) → bit (n / 2 ^ b) j ≡ bit n (b + j)
@@ -72,13 +68,8 @@ bit-pow-other (suc k) zero h = bit-zero (2 ^ suc k) ∙ rw (pow-succ' 2 k) (omeg
 bit-pow-other (suc k) (suc j) h = bit-suc (2 ^ suc k) j ∙ rw (half-pow k) (bit-pow-other k j (λ e. h (ap suc e)))
 
 -- ---- bit k set, or taken away: that bit is as it should be, and every other as it was
-max-one : (a : ℕ) → a < 2 → max a 1 ≡ 1
-max-one zero h = refl
-max-one (suc zero) h = refl
-max-one (suc (suc a)) h = absurd (omega arith)
-
 pub on-same : (a k : ℕ) → bit (bitOr a (2 ^ k)) k ≡ 1
-on-same a k = rw (bit-or a (2 ^ k) k, bit-pow-same k) (max-one (bit a k) (omega arith))
+on-same a k = rw (bit-or a (2 ^ k) k, bit-pow-same k) (omega arith)
 
 pub on-other : (a k j : ℕ) → (k ≡ j → ⊥) → bit (bitOr a (2 ^ k)) j ≡ bit a j
 on-other a k j h = rw (bit-or a (2 ^ k) j, bit-pow-other k j h) (max-zero (bit a j))
@@ -92,9 +83,7 @@ differ-zero zero = refl
 differ-zero (suc a) = refl
 
 min-one : (a : ℕ) → a < 2 → min a 1 ≡ a
-min-one zero h = refl
-min-one (suc zero) h = refl
-min-one (suc (suc a)) h = absurd (omega arith)
+min-one a h = omega arith
 
 pub off-same : (a k : ℕ) → bit (bitXor a (bitAnd a (2 ^ k))) k ≡ 0
 off-same a k = rw (bit-xor a (bitAnd a (2 ^ k)) k, bit-and a (2 ^ k) k, bit-pow-same k, min-one (bit a k) (omega arith)) (differ-self (bit a k))

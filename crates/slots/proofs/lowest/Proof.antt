@@ -1,6 +1,6 @@
 -- `slots::lowest` meets its contract: every word before w is 0. The measure is what is left of the words. Assumes nothing.
-use Prim.Native.Nat.{ℕ, zero, suc, zero-le, suc-le-suc, _+_, _-_, _≤_, _<_}
-use mathlib.Core.Path.{_≡_, refl, sym}
+use Prim.Native.Nat.{ℕ, _+_, _-_, _≤_, _<_}
+use mathlib.Core.Path.{_≡_, sym}
 use native.Mathlib.Omega.{arith}
 use borrow.Author.Count.{below-none, below-more}
 use lib.Count.{trailing-le}
@@ -21,15 +21,11 @@ add-t14 c =
     let l = c .before .before .before .before in
     omega (arith, c .wide .ensures, trailing-le 64 (getD (l .before .before .before .args .map .now) (head + l .loop .w) 0))
 
-positive : (n : ℕ) → (n ≡ 0 → ⊥) → 0 < n
-positive zero h = absurd (h refl)
-positive (suc n) h = suc-le-suc zero-le
-
 returns : tie.Need-returns Inv-loop μ-loop
 returns c =
     let l = c .before .before .before .before in
     let s = l .before .before .before in
-    sym (lowest-in-word (s .args .map .now) (s .args .n) (l .loop .w) (s .pre .2) (l .loop .inv .2) (c .wide .result) (omega arith) (positive _ (c .before .if1 .taken)) (c .before .before .shared-slice-known2 .given (head + l .loop .w) .fits) (c .wide .ensures))
+    sym (lowest-in-word (s .args .map .now) (s .args .n) (l .loop .w) (s .pre .2) (l .loop .inv .2) (c .wide .result) (omega arith) (omega (arith, c .before .if1 .taken)) (c .before .before .shared-slice-known2 .given (head + l .loop .w) .fits) (c .wide .ensures))
 
 returns-2 : tie.Need-returns-2 Inv-loop μ-loop
 returns-2 c =
