@@ -8,7 +8,7 @@ use native.Mathlib.Nat.{not-suc-le-zero, le-of-suc-le-suc}
 use lib.Dec.{ltb, eqb}
 use lib.Ieee.{Float}
 use lib.ListN.{length}
-use Rattle.storage.specs.Meaning.Keyed.{under, below, above, onList, append1, last, front, close, takeOut}
+use Rattle.storage.specs.Meaning.Keyed.{filter, under, below, above, onList, append1, last, front, close, takeOut}
 use Rattle.storage.specs.Meaning.Entries.{Entry, rowKey, entryKey, rowOf, spotOf, zipped}
 use Rattle.storage.proofs.laws.FilterLaws.{by-test, all-any, filter-same, filter-map}
 
@@ -33,20 +33,19 @@ module _ {A B : Type 0} (f : A → B) where
       (λ e. rw e (ap (λ m. f x ∷ m) (map-takeOut test l)))
 
   module _ (keyA : A → ℕ) (keyB : B → ℕ) (keeps : (x : A) → keyB (f x) ≡ keyA x) where
+    map-filter : (test : ℕ → Bool) (l : List A) → map f (filter (λ x. test (keyA x)) l) ≡ filter (λ y. test (keyB y)) (map f l)
+    map-filter test l =
+        sym (filter-map (λ y. test (keyB y)) f l
+        ∙ ap (map f) (filter-same (λ x. test (keyB (f x))) (λ x. test (keyA x)) l (all-any (λ x. test (keyB (f x)) ≡ test (keyA x)) (λ x. ap test (keeps x)) l)))
+
     pub map-under : (k : ℕ) (l : List A) → map f (under keyA k l) ≡ under keyB k (map f l)
-    map-under k l =
-        sym (filter-map (λ y. eqb (keyB y) k) f l
-        ∙ ap (map f) (filter-same (λ x. eqb (keyB (f x)) k) (λ x. eqb (keyA x) k) l (all-any (λ x. eqb (keyB (f x)) k ≡ eqb (keyA x) k) (λ x. ap (λ j. eqb j k) (keeps x)) l)))
+    map-under k l = map-filter (λ j. eqb j k) l
 
     pub map-below : (k : ℕ) (l : List A) → map f (below keyA k l) ≡ below keyB k (map f l)
-    map-below k l =
-        sym (filter-map (λ y. ltb (keyB y) k) f l
-        ∙ ap (map f) (filter-same (λ x. ltb (keyB (f x)) k) (λ x. ltb (keyA x) k) l (all-any (λ x. ltb (keyB (f x)) k ≡ ltb (keyA x) k) (λ x. ap (λ j. ltb j k) (keeps x)) l)))
+    map-below k l = map-filter (λ j. ltb j k) l
 
     pub map-above : (k : ℕ) (l : List A) → map f (above keyA k l) ≡ above keyB k (map f l)
-    map-above k l =
-        sym (filter-map (λ y. ltb k (keyB y)) f l
-        ∙ ap (map f) (filter-same (λ x. ltb k (keyB (f x))) (λ x. ltb k (keyA x)) l (all-any (λ x. ltb k (keyB (f x)) ≡ ltb k (keyA x)) (λ x. ap (λ j. ltb k j) (keeps x)) l)))
+    map-above k l = map-filter (λ j. ltb k j) l
 
     pub map-onList : (k : ℕ) (g : List A → List A) (h : List B → List B) → ((r : List A) → map f (g r) ≡ h (map f r)) → (l : List A)
         → map f (onList keyA k g l) ≡ onList keyB k h (map f l)

@@ -1,12 +1,8 @@
--- Places of a list, and what moves when one of the first k elements comes in or goes. Assumes nothing.
---     opened s p k v     v comes in at p, and the elements from p up to k move one place up. What stands past k stays
---     closed s p k       the element at p goes, and those after it up to k move one place down. What stands from k - 1 on stays
--- Here: the laws.
+-- Places of a whole list, and what moves when an element comes in or goes. Assumes nothing.
 use Prim.Native.Nat.{ℕ, suc}
 use mathlib.Core.List.{List, _∷_, _++_}
 use lib.ListN.{getD, set, take, drop}
 
--- ---- the same of a whole list
 abbrev pub inserted : {A : Type 0} → List A → ℕ → A → List A
 inserted l p v = take p l ++ v ∷ drop p l
 

@@ -51,11 +51,7 @@ module _ (pool : List (List ℕ)) (j : ℕ) (h : j < length pool) where
 
   more : 0 < j → fresh (take (j + 1) pool) ≡ fresh (take j pool) ++ rowsOf (pick (eqb (first pool j) (first pool (j - 1))) [] (first pool j ∷ []))
   unfolding fresh
-  more p =
-      ap (λ m. rowsOf (keysOf rowKey m)) (two p)
-      ∙ ap rowsOf (keysOf-more rowKey (take (j - 1) pool) (getD pool (j - 1) []) (getD pool j []))
-      ∙ map-append (λ k. k ∷ 0 ∷ []) (keysOf rowKey (take (j - 1) pool ++ (getD pool (j - 1) [] ∷ []))) (pick (eqb (first pool j) (first pool (j - 1))) [] (first pool j ∷ []))
-      ∙ ap (λ m. rowsOf (keysOf rowKey m) ++ rowsOf (pick (eqb (first pool j) (first pool (j - 1))) [] (first pool j ∷ []))) (sym (one p))
+  more p = rw (two p, one p, keysOf-more rowKey (take (j - 1) pool) (getD pool (j - 1) []) (getD pool j []), map-append)
 
   pub fresh-same : 0 < j → first pool (j - 1) ≡ first pool j → fresh (take (j + 1) pool) ≡ fresh (take j pool)
   fresh-same p e = more p ∙ rw (eq-eqb (first pool j) (first pool (j - 1)) (sym e)) (append-nil (fresh (take j pool)))
@@ -116,11 +112,7 @@ module _ (cells₀ pool : List (List ℕ)) (used : ℕ) (room : used ≤ length 
     built-more n =
         record {
           count = sym (longer n);
-          table =
-              ap (λ m. set m rows (first pool j ∷ 0 ∷ [])) (b .table)
-              ∙ ap (λ m. set (written (fresh (take j pool)) cells₀) m (first pool j ∷ 0 ∷ [])) (b .count)
-              ∙ written-next [] (fresh (take j pool)) cells₀ (first pool j ∷ 0 ∷ []) (omega (arith, built-room n, b .size, b .count))
-              ∙ ap (λ m. written m cells₀) (sym (grown n));
+          table = rw (b .table, b .count, grown n) (written-next [] (fresh (take j pool)) cells₀ (first pool j ∷ 0 ∷ []) (omega (arith, built-room n, b .size, b .count)));
           size = length-set cells rows (first pool j ∷ 0 ∷ []) ∙ b .size;
         }
 

@@ -1,14 +1,13 @@
 -- Keys in and out of a window, and how the walk of a sorted pool skips those that are out. Assumes nothing.
 use Prim.Native.Nat.{ℕ, _+_, _*_, _<_, _≤_}
-use mathlib.Core.Path.{_≡_, refl}
-use mathlib.Core.Bool.{Bool, true, false, _&&_}
+use mathlib.Core.Path.{_≡_}
+use mathlib.Core.Bool.{true, false}
 use mathlib.Core.List.{List, []}
 use native.Mathlib.Omega.{arith}
-use lib.Dec.{leb}
 use lib.ListN.{length, take}
-use borrow.Author.Tests.{leb-true, le-leb, lt-leb}
-use Rattle.basics.proofs.laws.Says.{apart, d-lt}
+use Rattle.basics.proofs.laws.Says.{not-said, says-and, d-lt}
 use Rattle.cells.specs.Inner.Key.{columnOf, lineOf}
+use Rattle.cells.proofs.laws.RangeKeyLaws.{leb-says}
 use Rattle.storage.specs.Inner.Keyed.{Sorted}
 use Rattle.storage.specs.Meaning.Keyed.{below}
 use Rattle.storage.specs.Meaning.Entries.{rowKey}
@@ -16,56 +15,38 @@ use Rattle.storage.specs.Meaning.Packed.{first}
 use Rattle.storage.proofs.laws.FilterLaws.{by-order}
 use Rattle.storage.proofs.laws.PackedLaws.{sorted-ordered}
 use Rattle.storage.proofs.laws.CutLaws.{high-of, most-of}
+use Rattle.basics.specs.Meaning.Says.{Says}
 use Rattle.storage.specs.Inner.Window.{inWindow}
 use Rattle.storage.specs.Inner.Run.{NextKey, NextRun}
 use mathlib.Core.Logic.{⊎-elim}
 use Rattle.storage.specs.declared.Run.{Run}
 
-no-left : (p q r s : Bool) → p ≡ false → ((p && q) && (r && s)) ≡ false
-no-left p q r s e = rw e
-
-no-right : (p q r s : Bool) → q ≡ false → ((p && q) && (r && s)) ≡ false
-no-right true q r s e = rw e
-no-right false q r s e = refl
-
-no-under : (p q r s : Bool) → r ≡ false → ((p && q) && (r && s)) ≡ false
-no-under true true r s e = rw e
-no-under true false r s e = refl
-no-under false q r s e = refl
-
-no-over : (p q r s : Bool) → s ≡ false → ((p && q) && (r && s)) ≡ false
-no-over true true true s e = rw e
-no-over true true false s e = refl
-no-over true false r s e = refl
-no-over false q r s e = refl
-
-all-four : (p q r s : Bool) → ((p && q) && (r && s)) ≡ true → (p ≡ true) × (q ≡ true) × (r ≡ true) × (s ≡ true)
-all-four true true true true e = (refl, refl, refl, refl)
-all-four true true true false e = absurd (apart e)
-all-four true true false s e = absurd (apart e)
-all-four true false r s e = absurd (apart e)
-all-four false q r s e = absurd (apart e)
-
 module _ (x0 y0 x1 y1 k : ℕ) where
-  pub left-out : columnOf k < x0 → inWindow x0 y0 x1 y1 k ≡ false
+  -- the four comparisons of the window's test
+  abbrev Inside : Type 0
+  Inside = ((x0 ≤ columnOf k) × (columnOf k ≤ x1)) × ((y0 ≤ lineOf k) × (lineOf k ≤ y1))
+
+  window-says : Says (inWindow x0 y0 x1 y1 k) Inside
   unfolding inWindow
-  left-out h = no-left (leb x0 (columnOf k)) (leb (columnOf k) x1) (leb y0 (lineOf k)) (leb (lineOf k) y1) (lt-leb x0 (columnOf k) h)
+  window-says = says-and _ _ (says-and _ _ (leb-says x0 (columnOf k)) (leb-says (columnOf k) x1)) (says-and _ _ (leb-says y0 (lineOf k)) (leb-says (lineOf k) y1))
+
+  out : (Inside → ⊥) → inWindow x0 y0 x1 y1 k ≡ false
+  out n = not-said window-says n
+
+  pub left-out : columnOf k < x0 → inWindow x0 y0 x1 y1 k ≡ false
+  left-out h = out (λ f. omega arith)
 
   pub right-out : x1 < columnOf k → inWindow x0 y0 x1 y1 k ≡ false
-  unfolding inWindow
-  right-out h = no-right (leb x0 (columnOf k)) (leb (columnOf k) x1) (leb y0 (lineOf k)) (leb (lineOf k) y1) (lt-leb (columnOf k) x1 h)
+  right-out h = out (λ f. omega arith)
 
   pub under-out : lineOf k < y0 → inWindow x0 y0 x1 y1 k ≡ false
-  unfolding inWindow
-  under-out h = no-under (leb x0 (columnOf k)) (leb (columnOf k) x1) (leb y0 (lineOf k)) (leb (lineOf k) y1) (lt-leb y0 (lineOf k) h)
+  under-out h = out (λ f. omega arith)
 
   pub over-out : y1 < lineOf k → inWindow x0 y0 x1 y1 k ≡ false
-  unfolding inWindow
-  over-out h = no-over (leb x0 (columnOf k)) (leb (columnOf k) x1) (leb y0 (lineOf k)) (leb (lineOf k) y1) (lt-leb (lineOf k) y1 h)
+  over-out h = out (λ f. omega arith)
 
   pub inside : x0 ≤ columnOf k → columnOf k ≤ x1 → y0 ≤ lineOf k → lineOf k ≤ y1 → inWindow x0 y0 x1 y1 k ≡ true
-  unfolding inWindow
-  inside a b c d = rw (le-leb x0 (columnOf k) a, le-leb (columnOf k) x1 b, le-leb y0 (lineOf k) c, le-leb (lineOf k) y1 d)
+  inside a b c d = window-says .no ((a, b), (c, d))
 
 module _ (x0 y0 x1 y1 key : ℕ) where
   -- ---- the next key, case by case
@@ -91,12 +72,6 @@ module _ (x0 y0 x1 y1 key : ℕ) where
   pub next-here : inWindow x0 y0 x1 y1 key ≡ true → NextKey x0 y0 x1 y1 key key
   next-here h = record { onward = omega arith; skipped = λ k p q. absurd (omega arith); here = λ e. h }
 
-  facts : inWindow x0 y0 x1 y1 key ≡ true → (x0 ≤ columnOf key) × (columnOf key ≤ x1) × (y0 ≤ lineOf key) × (lineOf key ≤ y1)
-  unfolding inWindow
-  facts h =
-      let f = all-four (leb x0 (columnOf key)) (leb (columnOf key) x1) (leb y0 (lineOf key)) (leb (lineOf key) y1) h in
-      (leb-true x0 (columnOf key) (f .0), leb-true (columnOf key) x1 (f .1), leb-true y0 (lineOf key) (f .2), leb-true (lineOf key) y1 (f .3))
-
   -- past the window's last key there is none
   pub past-out : x1 < 4294967296 → y1 * 4294967296 + x1 < key → inWindow x0 y0 x1 y1 key ≡ false
   past-out b h =
@@ -107,7 +82,7 @@ module _ (x0 y0 x1 y1 key : ℕ) where
 
   -- from a key of the window on, up to the last column of its row, all are in it
   pub same-line : (k : ℕ) → x1 < 4294967296 → inWindow x0 y0 x1 y1 key ≡ true → key ≤ k → k ≤ lineOf key * 4294967296 + x1 → inWindow x0 y0 x1 y1 k ≡ true
-  same-line k b h p q = let f = facts h in inside x0 y0 x1 y1 k (omega (arith, f .0)) (omega (arith, f .1)) (omega (arith, f .2)) (omega (arith, f .3))
+  same-line k b h p q = let f = window-says x0 y0 x1 y1 key .yes h in inside x0 y0 x1 y1 k (omega arith) (omega arith) (omega arith) (omega arith)
 
 -- ---- the same of the places of a sorted pool
 module _ (pool : List (List ℕ)) (used : ℕ) (room : used ≤ length pool) (s : Sorted rowKey (take used pool)) (x0 y0 x1 y1 : ℕ) where

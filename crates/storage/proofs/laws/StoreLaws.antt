@@ -4,11 +4,14 @@ use Prim.Native.Nat.{ℕ, _≤_, _<_}
 use mathlib.Core.Path.{_≡_, refl, sym, _∙_, ap, ap₂, subst}
 use mathlib.Core.List.{List, [], _∷_}
 use native.Mathlib.Omega.{arith}
-use borrow.Author.Tests.{lt-ltb, le-ltb, eq-eqb, ne-eqb}
+use lib.Dec.{eqb}
+use mathlib.Core.Logic.{⊎-elim}
+use borrow.Author.Tests.{lt-ltb, le-ltb, eq-eqb, ne-eqb, eqb-true}
+use Rattle.basics.proofs.laws.Says.{d-eq}
 use Rattle.storage.specs.Meaning.Keyed.{All}
 use Rattle.storage.specs.Inner.Store.{Filled, Row, Listed, emptyRow, WellFormed, rowAt, inFront, putRow}
 use Rattle.storage.proofs.laws.Tables.{tidyBy, tidy, Keyed}
-use Rattle.storage.proofs.laws.FilterLaws.{by-order, all-map}
+use Rattle.storage.proofs.laws.FilterLaws.{by-test, by-order, all-map}
 
 module _ {A : Type 0} where
   -- ---- looking up
@@ -29,10 +32,9 @@ module _ {A : Type 0} where
   unfolding rowAt
   rowAt-tidy [] w j = refl
   rowAt-tidy (r ∷ rs) w j =
-      by-order (r .key) j
-      (λ h. rw (ne-eqb (r .key) j (λ e. omega arith)) (rowAt-tidy rs (w .2) j))
-      (λ h. rw (eq-eqb (r .key) j h) (filled (r .row) (r .row .entries) (w .0)))
-      (λ h. rw (ne-eqb (r .key) j (λ e. omega arith)) (rowAt-tidy rs (w .2) j))
+      by-test (eqb (r .key) j)
+      (λ e. rw e (filled (r .row) (r .row .entries) (w .0)))
+      (λ e. rw e (rowAt-tidy rs (w .2) j))
     where
       filled : (w : Row A) (es : List A) → Filled es → tidyBy w es ≡ w
       filled w [] f = absurd f
@@ -57,10 +59,10 @@ module _ {A : Type 0} where
 
     rest-same : r .key ≡ q .key → All (λ p. r .key < p .key) a → All (λ p. q .key < p .key) b → (j : ℕ) → rowAt a j ≡ rowAt b j
     rest-same e u v j =
-        by-order (r .key) j
-        (λ l. sym (rowAt-there r a j (λ i. omega arith)) ∙ h j ∙ rowAt-there q b j (λ i. omega arith))
+        ⊎-elim
         (λ l. rowAt-none a j (above-less j (r .key) a (omega arith) u) ∙ sym (rowAt-none b j (above-less j (q .key) b (omega arith) v)))
-        (λ l. sym (rowAt-there r a j (λ i. omega arith)) ∙ h j ∙ rowAt-there q b j (λ i. omega arith))
+        (λ n. sym (rowAt-there r a j n) ∙ h j ∙ rowAt-there q b j (λ i. n (e ∙ i)))
+        (d-eq (r .key) j)
 
     first-same : r .key ≡ q .key → r ≡ q
     first-same e =
@@ -125,10 +127,10 @@ module _ {A : Type 0} where
         by-order (r .key) k
         (λ h.
         rw (put-past r rs h)
-        (by-order (r .key) j
-        (λ l. rowAt-there r (putRow k w rs) j (λ e. omega arith) ∙ put-other rs j n ∙ sym (rowAt-there r rs j (λ e. omega arith)))
+        (⊎-elim
         (λ l. rowAt-here r (putRow k w rs) j l ∙ sym (rowAt-here r rs j l))
-        (λ l. rowAt-there r (putRow k w rs) j (λ e. omega arith) ∙ put-other rs j n ∙ sym (rowAt-there r rs j (λ e. omega arith)))))
+        (λ m. rowAt-there r (putRow k w rs) j m ∙ put-other rs j n ∙ sym (rowAt-there r rs j m))
+        (d-eq (r .key) j)))
         (λ h. rw (put-here r rs h) (front-other (w .entries) rs j n ∙ sym (rowAt-there r rs j (λ e. n (sym e ∙ h)))))
         (λ h. rw (put-before r rs h) (front-other (w .entries) (r ∷ rs) j n))
 
@@ -155,7 +157,6 @@ module _ {A : Type 0} where
   unfolding rowAt
   rowAt-keyed key [] a j = tt
   rowAt-keyed key (r ∷ rs) a j =
-      by-order (r .key) j
-      (λ h. rw (ne-eqb (r .key) j (λ e. omega arith)) (rowAt-keyed key rs (a .1) j))
-      (λ h. rw (eq-eqb (r .key) j h) (all-map (λ x. key x ≡ r .key) (λ x. key x ≡ j) (λ x e. e ∙ h) (r .row .entries) (a .0)))
-      (λ h. rw (ne-eqb (r .key) j (λ e. omega arith)) (rowAt-keyed key rs (a .1) j))
+      by-test (eqb (r .key) j)
+      (λ e. rw e (all-map (λ x. key x ≡ r .key) (λ x. key x ≡ j) (λ x q. q ∙ eqb-true (r .key) j e) (r .row .entries) (a .0)))
+      (λ e. rw e (rowAt-keyed key rs (a .1) j))

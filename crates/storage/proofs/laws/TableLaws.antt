@@ -54,12 +54,12 @@ module _ {A : Type 0} where
   unfolding tableOf rowAt
   table-under [] f j = refl
   table-under (r ∷ rs) f j =
-      by-order (r .key) j
-      (λ h. rw (ne-eqb (r .key) j (λ e. omega arith)) (table-under rs (f .2) j))
-      (λ h.
+      by-test (eqb (r .key) j)
+      (λ e.
+      let h : r .key ≡ j = eqb-true (r .key) j e in
       let n : rowAt rs j ≡ emptyRow = rowAt-none rs j (all-map (λ q. r .key < q .key) (λ q. j < q .key) (λ q g. omega arith) rs (f .1)) in
-      rw (eq-eqb (r .key) j h, table-under rs (f .2) j, n, h) (one (r .row) (r .row .entries) (f .0)))
-      (λ h. rw (ne-eqb (r .key) j (λ e. omega arith)) (table-under rs (f .2) j))
+      rw (e, table-under rs (f .2) j, n, h) (one (r .row) (r .row .entries) (f .0)))
+      (λ e. rw e (table-under rs (f .2) j))
     where
       one : (w : Row A) (es : List A) → Filled es → (j ∷ markOf (w .dirty) ∷ []) ∷ [] ≡ rowsBy j w es
       one w [] u = absurd u

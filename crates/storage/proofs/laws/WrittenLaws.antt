@@ -1,9 +1,9 @@
 -- A table whose first places are written one after the other. Assumes nothing.
-use Prim.Native.Nat.{ℕ, suc, _+_, _<_, _≤_}
-use mathlib.Core.Path.{_≡_, refl, sym, ap, _∙_}
+use Prim.Native.Nat.{suc, _<_, _≤_}
+use mathlib.Core.Path.{_≡_, sym, _∙_}
 use mathlib.Core.List.{List, [], _∷_, _++_, append-assoc}
 use native.Mathlib.Omega.{arith}
-use lib.ListN.{length, getD, set, take, drop, length-append, length-drop}
+use lib.ListN.{length, getD, set, drop, length-append, length-drop}
 use lib.Seq.{set-append-seam, drop-cons}
 use Rattle.storage.specs.Meaning.Keyed.{written}
 
@@ -15,7 +15,4 @@ module _ {A : Type 0} where
   pub written-next : (d : A) (l o : List A) (x : A) → length l < length o → set (written l o) (length l) x ≡ written (l ++ (x ∷ [])) o
   written-next d l o x h =
       let n : length (l ++ (x ∷ [])) ≡ suc (length l) = length-append l (x ∷ []) ∙ omega arith in
-      ap (λ (m : List A). set (l ++ m) (length l) x) (drop-cons o (length l) d h)
-      ∙ set-append-seam l (getD o (length l) d) (drop (suc (length l)) o) x
-      ∙ sym (append-assoc l (x ∷ []) (drop (suc (length l)) o))
-      ∙ ap (λ (n : ℕ). (l ++ (x ∷ [])) ++ drop n o) (sym n)
+      rw (n, drop-cons o (length l) d h, set-append-seam l (getD o (length l) d) (drop (suc (length l)) o) x) (sym (append-assoc l (x ∷ []) (drop (suc (length l)) o)))

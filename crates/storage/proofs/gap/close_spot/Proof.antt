@@ -1,24 +1,16 @@
 -- `storage::gap::close_spot` meets its contract, by the laws of `GapLaws`. The measure is what is left up to k. Assumes nothing.
-use Prim.Native.Nat.{_+_, _-_, _≤_}
-use mathlib.Core.Path.{_≡_, refl, _∙_}
+use Prim.Native.Nat.{_-_}
 use mathlib.Core.List.{[]}
-use lib.ListN.{length, length-set}
 use native.Mathlib.Omega.{arith}
-use Rattle.storage.proofs.laws.GapLaws.{shut, close-start, close-step, close-end}
+use Rattle.storage.proofs.laws.GapLaws.{Closing, closing-start, closing-turn, closing-end}
 use Rattle.storage.proofs.gap.close_spot.Statement.{statement}
 use Rattle.storage.proofs.gap.close_spot.Tie as tie
 
 abbrev Inv-loop : tie.InvT-loop
-Inv-loop s₀ p k j₀ s j = (length s ≡ length s₀) × (p ≤ j) × (j + 1 ≤ k) × (s ≡ shut s₀ p j)
+Inv-loop s₀ p k j₀ s j = Closing [] s₀ p k s j
 
 abbrev μ-loop : tie.MeasureT-loop
 μ-loop s₀ p k j₀ s j = k - j
-
-loop-again : tie.Need-loop-again Inv-loop μ-loop
-loop-again c =
-    let l = c .before .before .loop in
-    let a = c .before .before .before .args in
-    (length-set (l .s) (l .j) _ ∙ l .inv .0, omega arith, omega arith, close-step [] (a .s .now) (l .s) (a .p) (l .j) (l .inv .1) (omega arith) (l .inv .3))
 
 pub close-spot-spec : {M : Type 1} → statement M
 close-spot-spec =
@@ -26,7 +18,7 @@ close-spot-spec =
     (tie.spec
     Inv-loop
     μ-loop
-    (λ c. (refl, omega arith, omega arith, close-start [] (c .args .s .now) (c .args .p)))
+    (λ c. closing-start [] (c .args .s .now) (c .args .p) (c .args .k) (c .pre .0))
     (λ c. omega arith)
     (λ c. omega arith)
     (λ c. omega arith)
@@ -35,6 +27,6 @@ close-spot-spec =
     (λ c. omega arith)
     (λ c. omega arith)
     (λ c. omega arith)
-    loop-again
+    (λ c. let s = c .before .before .before in let l = c .before .before .loop in closing-turn [] (s .args .s .now) (s .args .p) (s .args .k) (l .s) (l .j) (s .pre .1) (omega arith) (l .inv))
     (λ c. c .before .loop .inv .0)
-    (λ c. close-end [] (c .before .before .args .s .now) (c .before .loop .s) (c .before .before .args .p) (c .before .loop .j) (c .before .before .args .k) (omega arith) (c .before .loop .inv .3)))
+    (λ c. let s = c .before .before in let l = c .before .loop in closing-end [] (s .args .s .now) (s .args .p) (s .args .k) (l .s) (l .j) (omega arith) (l .inv)))

@@ -1,31 +1,16 @@
 -- `storage::gap::open_row` meets its contract, by the laws of `GapLaws`: the list is the first one with the element at j twice. The measure is j. Assumes nothing.
-use Prim.Native.Nat.{_≤_}
-use mathlib.Core.Path.{_≡_, refl, _∙_}
 use mathlib.Core.List.{[]}
-use lib.ListN.{length, getD, length-set}
+use lib.ListN.{length-set}
 use native.Mathlib.Omega.{arith}
-use Rattle.storage.specs.Inner.Places.{opened}
-use Rattle.storage.proofs.laws.GapLaws.{open-start, open-step, open-end}
+use Rattle.storage.proofs.laws.GapLaws.{Opening, opening-start, opening-turn, opening-end}
 use Rattle.storage.proofs.gap.open_row.Statement.{statement}
 use Rattle.storage.proofs.gap.open_row.Tie as tie
 
 abbrev Inv-loop : tie.InvT-loop
-Inv-loop s₀ p k v j₀ s j = (length s ≡ length s₀) × (p ≤ j) × (j ≤ k) × (s ≡ opened s₀ j k (getD s₀ j []))
+Inv-loop s₀ p k v j₀ s j = Opening [] s₀ p k s j
 
 abbrev μ-loop : tie.MeasureT-loop
 μ-loop s₀ p k v j₀ s j = j
-
-loop-again : tie.Need-loop-again Inv-loop μ-loop
-loop-again c =
-    let l = c .before .before .loop in
-    let a = c .before .before .before .args in
-    (length-set (l .s) (l .j) _ ∙ l .inv .0, omega arith, omega arith, open-step [] (a .s .now) (l .s) (l .j) (a .k) _ (omega arith) (l .inv .2) (c .before .before .before .pre .1) (l .inv .3))
-
-returns : tie.Need-returns Inv-loop μ-loop
-returns c =
-    let l = c .before .loop in
-    let a = c .before .before .args in
-    open-end [] (a .s .now) (l .s) (a .p) (l .j) (a .k) _ (a .v) (l .inv .1) (c .loop-test .left) (c .before .before .pre .0) (c .before .before .pre .1) (l .inv .3)
 
 pub open-row-spec : {M : Type 1} → statement M
 open-row-spec =
@@ -33,7 +18,7 @@ open-row-spec =
     (tie.spec
     Inv-loop
     μ-loop
-    (λ c. (refl, c .pre .0, omega arith, open-start [] (c .args .s .now) (c .args .k) (c .pre .1)))
+    (λ c. opening-start [] (c .args .s .now) (c .args .p) (c .args .k) (c .pre .0) (c .pre .1))
     (λ c. omega arith)
     (λ c. omega arith)
     (λ c. omega arith)
@@ -41,8 +26,8 @@ open-row-spec =
     (λ c. omega arith)
     (λ c. omega arith)
     (λ c. omega arith)
-    loop-again
+    (λ c. let s = c .before .before .before in let l = c .before .before .loop in opening-turn [] (s .args .s .now) (s .args .p) (s .args .k) (l .s) (l .j) (s .pre .1) (omega arith) (l .inv))
     (λ c. omega arith)
     (λ c. omega arith)
     (λ c. simp length-set (c .before .loop .inv .0))
-    returns)
+    (λ c. let s = c .before .before in let l = c .before .loop in opening-end [] (s .args .s .now) (s .args .p) (s .args .k) (l .s) (l .j) (s .args .v) (s .pre .1) (c .loop-test .left) (l .inv)))
