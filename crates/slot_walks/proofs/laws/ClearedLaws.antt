@@ -7,7 +7,7 @@ use native.Mathlib.Omega.{arith}
 use native.Mathlib.Numerals.{add-one}
 use lib.Dec.{eqb}
 use mathlib.Core.Logic.{⊎-elim}
-use lib.ListN.{length, getD, set, take, drop, length-append, length-map, List·getD-map, take-append-drop}
+use lib.ListN.{length, getD, take, drop, length-append, length-map, List·getD-map, take-append-drop}
 use lib.Seq.{take-suc, take-length, drop-length, drop-cons, length-take-le, getD-at, set-at}
 use borrow.Author.Tests.{eqb-true, eq-eqb, ne-eqb}
 use Rattle.basics.specs.Meaning.Refusals.{pick}
@@ -63,10 +63,7 @@ pub map-whole : (nums : List (List ℕ)) (m : List ℕ) → mapTo (length nums) 
 map-whole nums m = rw (take-length nums)
 
 pub nums-length : (i : ℕ) (nums : List (List ℕ)) → length (numsTo i nums) ≡ length nums
-nums-length i nums =
-    length-append (map clearedRow (take i nums)) (drop i nums)
-    ∙ ap (λ (n : ℕ). n + length (drop i nums)) (length-map (take i nums) clearedRow)
-    ∙ sym (length-append (take i nums) (drop i nums)) ∙ ap length (take-append-drop i nums)
+nums-length i nums = rw (length-append, length-map (take i nums) clearedRow, ← length-append (take i nums) (drop i nums), take-append-drop)
 
 module _ (nums : List (List ℕ)) (m : List ℕ) (i : ℕ) (h : i < length nums) where
   in-front : length (map clearedRow (take i nums)) ≡ i
@@ -79,50 +76,30 @@ module _ (nums : List (List ℕ)) (m : List ℕ) (i : ℕ) (h : i < length nums)
   nums-at = ap (λ (l : List (List ℕ)). getD l i []) split ∙ getD-at (map clearedRow (take i nums)) (getD nums i []) (drop (suc i) nums) [] i in-front
 
   nums-next : numsTo (i + 1) nums ≡ map clearedRow (take i nums) ++ (clearedRow (getD nums i []) ∷ drop (suc i) nums)
-  nums-next =
-      ap (λ (n : ℕ). numsTo n nums) (add-one i)
-      ∙ ap (λ (l : List (List ℕ)). map clearedRow l ++ drop (suc i) nums) (take-suc nums i [] h)
-      ∙ ap (λ (l : List (List ℕ)). l ++ drop (suc i) nums) (map-append clearedRow (take i nums) (getD nums i [] ∷ []))
-      ∙ append-assoc (map clearedRow (take i nums)) (clearedRow (getD nums i []) ∷ []) (drop (suc i) nums)
+  nums-next = rw (add-one i, take-suc nums i [] h, map-append) (append-assoc (map clearedRow (take i nums)) (clearedRow (getD nums i []) ∷ []) (drop (suc i) nums))
 
   map-next : mapTo (i + 1) nums m ≡ clearedBit i (getD nums i []) (mapTo i nums m)
   map-next =
       let n : 0 + length (take i nums) ≡ i = omega (arith, length-take-le i nums (omega arith)) in
-      ap (λ (n : ℕ). mapTo n nums m) (add-one i)
-      ∙ ap (λ (l : List (List ℕ)). clearedMap 0 l m) (take-suc nums i [] h)
-      ∙ map-append-rows (take i nums) (getD nums i [] ∷ []) 0 m
-      ∙ ap (λ (n : ℕ). clearedBit n (getD nums i []) (mapTo i nums m)) n
+      rw (add-one i, take-suc nums i [] h, map-append-rows (take i nums) (getD nums i [] ∷ []) 0 m, n)
 
   -- a live slot is emptied
   module _ (e : rowLive (getD nums i []) ≡ true) where
     pub nums-live : emptiedNums (numsTo i nums) i ≡ numsTo (i + 1) nums
     unfolding emptiedNums
-    nums-live =
-        ap (λ (r : List ℕ). set (numsTo i nums) i (emptiedRow r)) nums-at
-        ∙ ap (λ (l : List (List ℕ)). set l i (emptiedRow (getD nums i []))) split
-        ∙ set-at (map clearedRow (take i nums)) (getD nums i []) (drop (suc i) nums) (emptiedRow (getD nums i [])) i in-front
-        ∙ ap (λ (b : Bool). map clearedRow (take i nums) ++ (pick b (emptiedRow (getD nums i [])) (getD nums i []) ∷ drop (suc i) nums)) (sym e)
-        ∙ sym nums-next
+    nums-live = rw (nums-next, nums-at, split, set-at (map clearedRow (take i nums)) (getD nums i []) (drop (suc i) nums) (emptiedRow (getD nums i [])) i in-front, e)
 
     pub map-live : emptiedMap (numsTo i nums) (mapTo i nums m) i ≡ mapTo (i + 1) nums m
     unfolding emptiedMap
-    map-live =
-        ap (λ (r : List ℕ). pick (eqb (getD r 0 0) lastVersion) (mapTo i nums m) (givenBack (mapTo i nums m) i)) nums-at
-        ∙ ap (λ (b : Bool). pick b (pick (eqb (getD (getD nums i []) 0 0) lastVersion) (mapTo i nums m) (givenBack (mapTo i nums m) i)) (mapTo i nums m)) (sym e)
-        ∙ sym map-next
+    map-live = rw (map-next, nums-at, e)
 
   -- any other stays
   module _ (e : rowLive (getD nums i []) ≡ false) where
     pub nums-idle : numsTo i nums ≡ numsTo (i + 1) nums
-    nums-idle =
-        split
-        ∙ ap (λ (b : Bool). map clearedRow (take i nums) ++ (pick b (emptiedRow (getD nums i [])) (getD nums i []) ∷ drop (suc i) nums)) (sym e)
-        ∙ sym nums-next
+    nums-idle = rw (nums-next, split, e)
 
     pub map-idle : mapTo i nums m ≡ mapTo (i + 1) nums m
-    map-idle =
-        ap (λ (b : Bool). pick b (pick (eqb (getD (getD nums i []) 0 0) lastVersion) (mapTo i nums m) (givenBack (mapTo i nums m) i)) (mapTo i nums m)) (sym e)
-        ∙ sym map-next
+    map-idle = rw (map-next, e)
 
 -- ---- a turn of the walk, with the rows and the map so far
 module _ (nums : List (List ℕ)) (m : List ℕ) (i : ℕ) (h : i < length nums) (ns : List (List ℕ)) (k : List ℕ) (en : ns ≡ numsTo i nums) (em : k ≡ mapTo i nums m) where

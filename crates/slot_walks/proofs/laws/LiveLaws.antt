@@ -49,10 +49,7 @@ module _ (nums : List (List ℕ)) (i : ℕ) (h : i < length nums) where
   live-next =
       let m : length (take i nums) ≡ i = length-take-le i nums (omega arith) in
       let n : 0 + length (take i nums) ≡ i = omega arith in
-      ap (λ (m : ℕ). liveFrom 0 (take m nums)) (add-one i)
-      ∙ ap (liveFrom 0) (take-suc nums i [] h)
-      ∙ live-append (take i nums) (getD nums i [] ∷ []) 0
-      ∙ ap (λ (m : ℕ). liveTo i nums ++ pick (rowLive (getD nums i [])) (m ∷ []) []) n
+      rw (add-one i, take-suc nums i [] h, live-append (take i nums) (getD nums i [] ∷ []) 0, n)
 
   pub live-one : rowLive (getD nums i []) ≡ true → liveTo (i + 1) nums ≡ liveTo i nums ++ (i ∷ [])
   live-one e = live-next ∙ ap (λ (q : Bool). liveTo i nums ++ pick q (i ∷ []) []) e
