@@ -1,12 +1,11 @@
 // The calls of the point grid for C and Rust: each is the call of `points` with its numbers taken apart, and has its promise.
 ghost use mathlib.Core.Path.{_≡_};
 ghost use Rattle.basics.specs.Meaning.Lent.{was, is};
-ghost use Rattle.point_tables.specs.Meaning.Lent.{before};
+ghost use Rattle.point_tables.specs.Meaning.Lent.{before, Gives};
 ghost use Rattle.point_insert.specs.Meaning.New.{newOf};
 ghost use Rattle.point_insert.specs.Meaning.Insert.{insertOf};
 ghost use Rattle.point_deferred.specs.Meaning.Moves.{setPositionOf, removeOf};
 ghost use Rattle.point_deferred.specs.Meaning.Batch.{batchOf};
-ghost use Rattle.point_deferred.specs.Meaning.Gives.{Gives};
 ghost use Rattle.point_remove.specs.Meaning.RemoveMaintain.{removeMaintainOf};
 ghost use Rattle.point_remove.specs.Meaning.Clear.{clearOf};
 ghost use Rattle.point_get.specs.Meaning.{got, getOf, lenOf, handlesOf, listing};
