@@ -15,42 +15,16 @@ Inv-loop out₀ at handles places n next₀ i₀ out next i = (i ≤ n) × Puts 
 abbrev μ-loop : tie.MeasureT-loop
 μ-loop out₀ at handles places n next₀ i₀ out next i = n - i
 
-loop-holds : tie.Need-loop-holds Inv-loop μ-loop
-loop-holds c = (omega arith, puts-none _ _)
-
-mul-put-point : tie.Need-mul-put-point Inv-loop μ-loop
-mul-put-point c = omega arith
-
-shared-slice-copy-out-put-point : tie.Need-shared-slice-copy-out-put-point Inv-loop μ-loop
-shared-slice-copy-out-put-point c = omega arith
-
-mul-put-point-2 : tie.Need-mul-put-point-2 Inv-loop μ-loop
-mul-put-point-2 c = omega arith
-
-shared-slice-copy-out-put-point-2 : tie.Need-shared-slice-copy-out-put-point-2 Inv-loop μ-loop
-shared-slice-copy-out-put-point-2 c = omega arith
-
 put-point-requires : tie.Need-put-point-requires Inv-loop μ-loop
 put-point-requires c κs =
     let l = c .before .before .before .before in
     omega (arith, l .loop .inv .1 .short, puts-length (l .loop .inv .1) (omega arith))
-
-add-i : tie.Need-add-i Inv-loop μ-loop
-add-i c = omega arith
-
-loop-less : tie.Need-loop-less Inv-loop μ-loop
-loop-less c = omega arith
 
 loop-again : tie.Need-loop-again Inv-loop μ-loop
 loop-again c =
     let l = c .before .before .before .before .before .before .before in
     let s = l .before .before in
     (omega arith, puts-as (puts-then (l .loop .inv .1) (omega arith) (c .before .before .put-point .ensures)) (ap (pointsText (s .args .handles .now) (s .args .places .now)) (sym (add-one (l .loop .i)))) (omega arith))
-
-same-length : tie.Need-same-length Inv-loop μ-loop
-same-length c =
-    let l = c .before in
-    puts-length (l .loop .inv .1) (omega arith)
 
 returns : tie.Need-returns Inv-loop μ-loop
 returns c =
@@ -65,14 +39,14 @@ put-points-spec =
     (tie.spec
     Inv-loop
     μ-loop
-    loop-holds
-    mul-put-point
-    shared-slice-copy-out-put-point
-    mul-put-point-2
-    shared-slice-copy-out-put-point-2
+    (λ c. (omega arith, puts-none _ _))
+    (λ c. omega arith)
+    (λ c. omega arith)
+    (λ c. omega arith)
+    (λ c. omega arith)
     put-point-requires
-    add-i
-    loop-less
+    (λ c. omega arith)
+    (λ c. omega arith)
     loop-again
-    same-length
+    (λ c. puts-length (c .before .loop .inv .1) (omega arith))
     returns)
