@@ -29,37 +29,6 @@ pub fn put_handles(
     }
 }
 
-// The four numbers of the box.
-fn put_boxes(
-    reals: &[[f32; 4]],
-    found: &[u32; basics::MOST_BOXES],
-    n: usize,
-    boxes: &mut [[f32; 4]],
-)
-    requires { ⌜ Found (length (now reals)) (now found) n × (n ≤ length (now boxes)) ⌝ }
-    ensures { λ _. ⌜ is boxes ≡ written (map (boxRow (was reals)) (take n (was found))) (was boxes) ⌝ }
-{
-    let mut k = 0;
-    while k < n {
-        let row = reals[basics::wide(found[k])];
-        boxes[k] = [row[0], row[1], row[2], row[3]];
-        k += 1;
-    }
-}
-
-// The data.
-fn put_objs(nums: &[Row], found: &[u32; basics::MOST_BOXES], n: usize, objs: &mut [u32])
-    requires { ⌜ Found (length (now nums)) (now found) n × (n ≤ length (now objs)) ⌝ }
-    ensures { λ _. ⌜ is objs ≡ written (map (objAt (was nums)) (take n (was found))) (was objs) ⌝ }
-{
-    let mut k = 0;
-    while k < n {
-        let row = nums[basics::wide(found[k])];
-        objs[k] = row[2];
-        k += 1;
-    }
-}
-
 // Handle, box and data.
 pub fn put_findings(
     nums: &[Row],
@@ -73,7 +42,15 @@ pub fn put_findings(
     requires { ⌜ Reportable (now nums) (now reals) (now found) n (now handles) (now boxes) (now objs) ⌝ }
     ensures { λ _. ⌜ Reported (was nums) (was reals) (take n (was found)) (was handles) (was boxes) (was objs) (is handles) (is boxes) (is objs) ⌝ }
 {
-    put_handles(nums, found, n, handles);
-    put_boxes(reals, found, n, boxes);
-    put_objs(nums, found, n, objs);
+    let mut k = 0;
+    while k < n {
+        let s = found[k];
+        let j = basics::wide(s);
+        let row = nums[j];
+        let q = reals[j];
+        handles[k] = [s, row[0]];
+        boxes[k] = [q[0], q[1], q[2], q[3]];
+        objs[k] = row[2];
+        k += 1;
+    }
 }

@@ -5,9 +5,8 @@ use mathlib.Core.Bool.{Bool}
 use mathlib.Core.List.{List, _++_, append-nil, append-assoc}
 use native.Mathlib.Omega.{arith}
 use lib.Ieee.{Float}
-use native.Mathlib.Numerals.{add-one}
-use lib.ListN.{length, getD, set, take, length-append, length-take}
-use lib.Seq.{length-take-le, take-suc}
+use lib.ListN.{length, getD, take, length-append, length-take}
+use lib.Seq.{length-take-le}
 use Rattle.cells.specs.declared.Cell.{Cell}
 use Rattle.cells.specs.Inner.Numbers.{Near}
 use Rattle.cells.specs.Meaning.Key.{keyOf}
@@ -16,7 +15,7 @@ use Rattle.storage.specs.declared.Run.{Run}
 use Rattle.storage.specs.Meaning.Keyed.{written}
 use Rattle.storage.specs.Inner.Run.{NextRun}
 use Rattle.storage.proofs.laws.FilterLaws.{all-map}
-use Rattle.storage.proofs.laws.WrittenLaws.{length-written, written-next}
+use Rattle.storage.proofs.laws.WrittenLaws.{length-written}
 use Rattle.storage.proofs.laws.KeepsLaws.{written-take}
 use Rattle.storage.proofs.laws.PlaceLaws.{written-same}
 use Rattle.storage.proofs.laws.RunLaws.{run-onward}
@@ -122,15 +121,3 @@ module _ (a b : Cell) (test : Test) (pool : List (List ℕ)) (spots : List (List
           counted = omega (arith, g .counted, h .counted, ap length e ∙ length-append (placesOf a b test pool spots i) stretch);
           collected = g .collected ∙ ap (λ (l : List ℕ). l ++ stretch) (h .collected) ∙ sym e;
         }
-
--- ---- the first k of an array written to another
-module _ (few all : List ℕ) (k : ℕ) where
-  pub copy-length : k ≤ length few → k ≤ length all → length (written (take k few) all) ≡ length all
-  copy-length h r = length-written (take k few) all (omega (arith, length-take-le k few h))
-
-  pub copy-next : (now : List ℕ) → now ≡ written (take k few) all → k < length few → k < length all → set now k (getD few k 0) ≡ written (take (k + 1) few) all
-  copy-next now w h r =
-      let n : length (take k few) ≡ k = length-take-le k few (omega arith) in
-      (λ z. set (w z) (sym n z) (getD few k 0))
-      ∙ written-next 0 (take k few) all (getD few k 0) (omega (arith, n))
-      ∙ ap (λ (l : List ℕ). written l all) (sym (ap (λ (m : ℕ). take m few) (add-one k) ∙ take-suc few k 0 h))

@@ -1,84 +1,67 @@
 -- `box_get::clearing::put_boxes` meets its contract: what the slots passed have stands in the first places. Assumes nothing.
-use Prim.Native.Nat.{_≤_, _<_, _-_, _+_}
-use mathlib.Core.Path.{_≡_, refl, sym, ap, _∙_}
-use mathlib.Core.List.{[], map}
+use Prim.Native.Nat.{_≤_, _<_, _-_}
+use mathlib.Core.Path.{_≡_, sym, _∙_}
 use mathlib.Core.Logic.{⊎-elim}
 use native.Mathlib.Omega.{arith}
-use lib.ListN.{length, set}
+use lib.ListN.{length}
 use lib.Seq.{take-all}
 use borrow.Author.Needs.{needs}
-use Rattle.storage.specs.Meaning.Keyed.{written}
 use Rattle.slot_walks.specs.Meaning.Live.{liveFrom, objAt}
-use Rattle.slot_walks.proofs.laws.LiveLaws.{liveTo, live-most, live-within}
+use Rattle.slot_walks.proofs.laws.LiveLaws.{liveTo, live-within, live-one, live-none, live-room}
 use Rattle.box_get.specs.Meaning.Clear.{boxAt}
-use Rattle.slot_walks.proofs.laws.FillLaws.{filled-length, filled-room, filled-next, filled-same, one-more, as-many}
+use Rattle.storage.proofs.laws.PutLaws.{Rows, rows-none, rows-kept, rows-room, rows-next, rows-same}
 use Rattle.box_get.proofs.clearing.put_boxes.Statement.{statement}
 use Rattle.box_get.proofs.clearing.put_boxes.Tie as tie
 
 abbrev Inv-loop : tie.InvT-loop
 Inv-loop nums reals boxes₀ objs₀ k₀ i₀ boxes objs k i =
-    (i ≤ length nums) × (k ≡ length (liveTo i nums)) × (boxes ≡ written (map (boxAt reals) (liveTo i nums)) boxes₀) × (objs ≡ written (map (objAt nums) (liveTo i nums)) objs₀)
+    let n = length (liveFrom 0 nums) in
+    (i ≤ length nums) × Rows (boxAt reals) (liveTo i nums) n boxes₀ boxes k × Rows (objAt nums) (liveTo i nums) n objs₀ objs k
 
 abbrev μ-loop : tie.MeasureT-loop
 μ-loop nums reals boxes₀ objs₀ k₀ i₀ boxes objs k i = length nums - i
 
--- the slot at hand is live: both outputs have room for it
-room : (c : tie.Then1 Inv-loop μ-loop) → (c .before .before .before .before .loop .k < length (c .before .before .before .before .before .before .args .boxes .now)) × (c .before .before .before .before .loop .k < length (c .before .before .before .before .before .before .args .objs .now))
-room c =
-    let l = c .before .before .before .before in
-    let s = l .before .before in
-    let h = c .before .before .before .loop-test .taken in
-    let e = sym (c .before .is-live .ensures) ∙ c .if1 .taken in
-    (omega (arith, l .loop .inv .1, filled-room [] (boxAt (s .args .reals .now)) (s .args .nums .now) (s .args .boxes .now) (s .pre .2) (l .loop .i) h e), omega (arith, l .loop .inv .1, filled-room 0 (objAt (s .args .nums .now)) (s .args .nums .now) (s .args .objs .now) (s .pre .3) (l .loop .i) h e))
+abbrev start : tie.At-loop Inv-loop μ-loop → tie.Start Inv-loop μ-loop
+start l = l .before .before
 
-least : (c : tie.Then1 Inv-loop μ-loop) → c .before .before .before .before .loop .k ≤ 256
-least c =
-    let l = c .before .before .before .before in
-    let s = l .before .before in
-    omega (arith, l .loop .inv .1, live-within (s .args .nums .now) 0, live-most (s .args .nums .now) (l .loop .i), s .pre .1)
+-- the slot at hand is live: it is one of the objects
+module _ (c : tie.Then1 Inv-loop μ-loop) where
+  abbrev head : tie.At-loop Inv-loop μ-loop
+  head = c .before .before .before .before
 
--- the outputs keep their lengths
-long-boxes : (c : tie.At-loop Inv-loop μ-loop) → length (c .loop .boxes) ≡ length (c .before .before .args .boxes .now)
-long-boxes c =
-    let s = c .before .before in
-    ap length (c .loop .inv .2) ∙ filled-length [] (boxAt (s .args .reals .now)) (s .args .nums .now) (s .args .boxes .now) (s .pre .2) (c .loop .i)
+  room : head .loop .k < length (liveFrom 0 (start head .args .nums .now))
+  room =
+      let e = sym (c .before .is-live .ensures) ∙ c .if1 .taken in
+      omega (arith, head .loop .inv .1 .count, live-room (start head .args .nums .now) (head .loop .i) (c .before .before .before .loop-test .taken) e)
 
-long-objs : (c : tie.At-loop Inv-loop μ-loop) → length (c .loop .objs) ≡ length (c .before .before .args .objs .now)
-long-objs c =
-    let s = c .before .before in
-    ap length (c .loop .inv .3) ∙ filled-length 0 (objAt (s .args .nums .now)) (s .args .nums .now) (s .args .objs .now) (s .pre .3) (c .loop .i)
+  least : head .loop .k ≤ 256
+  least = omega (arith, room, live-within (start head .args .nums .now) 0, start head .pre .1)
 
 loop-again : tie.Need-loop-again Inv-loop μ-loop
 loop-again c =
     let t = c .before .before .before in
     let l = t .before in
-    let s = l .before .before in
+    let nums = start l .args .nums .now in
+    let p = start l .pre in
     let h = t .loop-test .taken in
     let i = l .loop .i in
+    let v = l .loop .inv in
     let e = c .before .is-live .ensures in
     ⊎-elim
     (λ w.
-    let g = sym e ∙ w .0 .taken in (
-      omega arith,
-      w .4 ∙ ap (λ n. n + 1) (l .loop .inv .1) ∙ one-more (s .args .nums .now) i h g,
-      w .2 ∙ (λ z. set (l .loop .inv .2 z) (l .loop .inv .1 z) (boxAt (s .args .reals .now) i)) ∙ filled-next [] (boxAt (s .args .reals .now)) (s .args .nums .now) (s .args .boxes .now) (s .pre .2) i h g,
-      w .3 ∙ (λ z. set (l .loop .inv .3 z) (l .loop .inv .1 z) (objAt (s .args .nums .now) i)) ∙ filled-next 0 (objAt (s .args .nums .now)) (s .args .nums .now) (s .args .objs .now) (s .pre .3) i h g,
-    ))
+    let g = sym e ∙ w .0 .taken in
+    let r : l .loop .k < length (liveFrom 0 nums) = omega (arith, v .1 .count, live-room nums i h g) in
+    (omega arith, rows-next (v .1) i (p .2) r (live-one nums i h g) (w .2) (w .4), rows-next (v .2) i (p .3) r (live-one nums i h g) (w .3) (w .4)))
     (λ w.
-    let g = sym e ∙ w .0 .left in (
-      omega arith,
-      w .3 ∙ l .loop .inv .1 ∙ as-many (s .args .nums .now) i h g,
-      w .1 ∙ l .loop .inv .2 ∙ filled-same [] (boxAt (s .args .reals .now)) (s .args .nums .now) (s .args .boxes .now) (s .pre .2) i h g,
-      w .2 ∙ l .loop .inv .3 ∙ filled-same 0 (objAt (s .args .nums .now)) (s .args .nums .now) (s .args .objs .now) (s .pre .3) i h g,
-    ))
+    let m = live-none nums i h (sym e ∙ w .0 .left) in
+    (omega arith, rows-same (v .1) m (w .1) (w .3), rows-same (v .2) m (w .2) (w .3)))
     (c .if1 .came)
 
 returns : tie.Need-returns Inv-loop μ-loop
 returns c =
     let l = c .before in
-    let s = l .before .before in
-    let e = take-all (l .loop .i) (s .args .nums .now) (omega arith) in
-    (l .loop .inv .2 ∙ ap (λ r. written (map (boxAt (s .args .reals .now)) (liveFrom 0 r)) (s .args .boxes .now)) e, l .loop .inv .3 ∙ ap (λ r. written (map (objAt (s .args .nums .now)) (liveFrom 0 r)) (s .args .objs .now)) e)
+    let e = take-all (l .loop .i) (start l .args .nums .now) (omega arith) in
+    (rw e at (l .loop .inv .1 .first), rw e at (l .loop .inv .2 .first))
 
 pub put-boxes-spec : {M : Type 1} → statement M
 put-boxes-spec =
@@ -86,7 +69,7 @@ put-boxes-spec =
     (tie.spec
     Inv-loop
     μ-loop
-    (λ c. (omega arith, refl, refl, refl))
+    (λ c. (omega arith, rows-none, rows-none))
     (λ c. search needs)
     (λ c. omega arith)
     (λ c κs. search needs)
@@ -96,15 +79,15 @@ put-boxes-spec =
     (λ c. search needs)
     (λ c. search needs)
     (λ c. search needs)
-    (λ c. omega (arith, room (c .before) .0, least (c .before)))
-    (λ c. omega (arith, room (c .before) .0, long-boxes (c .before .before .before .before .before)))
+    (λ c. omega (arith, least (c .before)))
+    (λ c. rows-room (head (c .before) .loop .inv .1) (start (head (c .before)) .pre .2) (room (c .before)))
     (λ c. search needs)
-    (λ c. omega (arith, room (c .before) .0, least (c .before)))
-    (λ c. omega (arith, room (c .before) .1, long-objs (c .before .before .before .before .before)))
-    (λ c. omega (arith, room (c .before) .0))
+    (λ c. omega (arith, least (c .before)))
+    (λ c. rows-room (head (c .before) .loop .inv .2) (start (head (c .before)) .pre .3) (room (c .before)))
+    (λ c. omega (arith, least (c .before)))
     (λ c. omega arith)
     (λ c. omega arith)
     loop-again
-    (λ c. long-boxes (c .before))
-    (λ c. long-objs (c .before))
+    (λ c. rows-kept (c .before .loop .inv .1) (start (c .before) .pre .2))
+    (λ c. rows-kept (c .before .loop .inv .2) (start (c .before) .pre .3))
     returns)

@@ -1,61 +1,35 @@
--- `point_query::fill::copy` meets its contract. Assumes nothing.
+-- `point_query::fill::copy` meets its contract: each row is the place itself. Assumes nothing.
 use Prim.Native.Nat.{_≤_, _-_}
-use mathlib.Core.Path.{_≡_, refl, ap, _∙_}
+use mathlib.Core.Path.{refl, ap, _∙_}
+use mathlib.Core.List.{map-id}
 use native.Mathlib.Omega.{arith}
-use lib.ListN.{length, take}
+use lib.ListN.{take}
 use borrow.Author.Needs.{needs}
 use Rattle.storage.specs.Meaning.Keyed.{written}
-use Rattle.point_query.proofs.laws.BegunLaws.{copy-length, copy-next}
+use Rattle.storage.proofs.laws.PutLaws.{Rows, rows-none, rows-kept, rows-room, put-next, put-done}
 use Rattle.point_query.proofs.fill.copy.Statement.{statement}
 use Rattle.point_query.proofs.fill.copy.Tie as tie
 
 abbrev Inv-loop : tie.InvT-loop
-Inv-loop few n all₀ k₀ all k = (k ≤ n) × (all ≡ written (take k few) all₀)
+Inv-loop few n all₀ k₀ all k = Rows (λ j. j) (take k few) n all₀ all k
 
 abbrev μ-loop : tie.MeasureT-loop
 μ-loop few n all₀ k₀ all k = n - k
 
-keeps : (l : tie.At-loop Inv-loop μ-loop) → length (l .loop .all) ≡ length (l .before .args .all .now)
-keeps l =
-    let s = l .before in
-    ap length (l .loop .inv .1)
-    ∙ copy-length (s .args .few .now) (s .args .all .now) (l .loop .k) (omega (arith, l .loop .inv .0, s .pre .0)) (omega (arith, l .loop .inv .0, s .pre .1))
-
-loop-holds : tie.Need-loop-holds Inv-loop μ-loop
-loop-holds c = (omega arith, refl)
-
-mul-all : tie.Need-mul-all Inv-loop μ-loop
-mul-all c = let h : c .before .loop .k ≤ 4096 = omega (arith, c .before .before .pre) in search needs
-
-in-few : tie.Need-shared-slice-read-all Inv-loop μ-loop
-in-few c = omega (arith, c .before .before .before .pre)
-
-mul-all-2 : tie.Need-mul-all-2 Inv-loop μ-loop
-mul-all-2 c = let h : c .before .before .loop .k ≤ 4096 = omega (arith, c .before .before .before .pre) in search needs
-
-in-all : tie.Need-slice-write-all Inv-loop μ-loop
-in-all c = omega (arith, keeps (c .before .before), c .before .before .before .pre)
-
-add-k : tie.Need-add-k Inv-loop μ-loop
-add-k c = let h : c .before .before .loop .k ≤ 4096 = omega (arith, c .before .before .before .pre) in search needs
+most : (c : tie.In-loop Inv-loop μ-loop) → c .before .loop .k ≤ 4096
+most c = omega (arith, c .before .before .pre)
 
 loop-again : tie.Need-loop-again Inv-loop μ-loop
 loop-again c =
     let l = c .before .before in
-    let s = l .before in (
-      omega arith,
-      copy-next (s .args .few .now) (s .args .all .now) (l .loop .k) (l .loop .all) (l .loop .inv .1) (omega (arith, s .pre)) (omega (arith, s .pre)),
-    )
-
-same-length : tie.Need-same-length Inv-loop μ-loop
-same-length c = keeps (c .before)
+    let s = l .before in
+    put-next (s .args .few .now) (l .loop .inv) (s .pre .0) (s .pre .1) (c .before .loop-test .taken) refl refl
 
 returns : tie.Need-returns Inv-loop μ-loop
 returns c =
     let l = c .before in
     let a = l .before .args in
-    let e : l .loop .k ≡ a .n = omega arith in
-    (l .loop .inv .1 ∙ ap (λ k. written (take k (a .few .now)) (a .all .now)) e, keeps l)
+    (put-done (a .few .now) (l .loop .inv) (omega arith) ∙ ap (λ r. written r (a .all .now)) (map-id (take (a .n) (a .few .now))), rows-kept (l .loop .inv) (l .before .pre .1))
 
 pub copy-spec : {M : Type 1} → statement M
 copy-spec =
@@ -63,13 +37,13 @@ copy-spec =
     (tie.spec
     Inv-loop
     μ-loop
-    loop-holds
-    mul-all
-    in-few
-    mul-all-2
-    in-all
-    add-k
+    (λ c. rows-none)
+    (λ c. let h = most c in search needs)
+    (λ c. omega (arith, c .before .before .before .pre))
+    (λ c. let h = most (c .before) in search needs)
+    (λ c. rows-room (c .before .before .loop .inv) (c .before .before .before .pre .1) (c .before .loop-test .taken))
+    (λ c. let h = most (c .before) in search needs)
     (λ c. omega arith)
     loop-again
-    same-length
+    (λ c. rows-kept (c .before .loop .inv) (c .before .before .pre .1))
     returns)

@@ -10,42 +10,19 @@ use Rattle.storage.specs.Meaning.Keyed.{written}
 use Rattle.point_records.specs.declared.Entry.{Entry}
 use Rattle.point_query.specs.Meaning.Queries.{handleOf, placeOf, outputs, filling}
 use Rattle.point_query.specs.Inner.Fill.{findingOf, findingAt, handleAt, placeAt, Findable}
-use Rattle.storage.proofs.laws.PutLaws.{put-length, put-next}
+use Rattle.storage.proofs.laws.PutLaws.{Rows, rows-none, rows-kept, rows-room, put-next, put-done}
 use Rattle.point_query.proofs.fill.put_findings.Statement.{statement}
 use Rattle.point_query.proofs.fill.put_findings.Tie as tie
 
 abbrev Inv-loop : tie.InvT-loop
 Inv-loop nums pool spots found r handles₀ places₀ k₀ handles places k =
-    (k ≤ r)
-    × (handles ≡ written (map (handleAt nums pool spots) (take k found)) handles₀)
-    × (places ≡ written (map (placeAt nums pool spots) (take k found)) places₀)
+    Rows (handleAt nums pool spots) (take k found) r handles₀ handles k × Rows (placeAt nums pool spots) (take k found) r places₀ places k
 
 abbrev μ-loop : tie.MeasureT-loop
 μ-loop nums pool spots found r handles₀ places₀ k₀ handles places k = r - k
 
-loop-holds : tie.Need-loop-holds Inv-loop μ-loop
-loop-holds c = (omega arith, refl, refl)
-
--- the rows of the place of an entry, and the lengths of the outputs at the loop's head
-module _ (l : tie.At-loop Inv-loop μ-loop) where
-  abbrev start : tie.Start Inv-loop μ-loop
-  start = l .before .before
-
-  abbrev handle : ℕ → List ℕ
-  handle = handleAt (start .args .nums .now) (start .args .pool .now) (start .args .spots .now)
-
-  abbrev place : ℕ → List Float
-  place = placeAt (start .args .nums .now) (start .args .pool .now) (start .args .spots .now)
-
-  handles-kept : length (l .loop .handles) ≡ length (start .args .handles .now)
-  handles-kept =
-      ap length (l .loop .inv .1)
-      ∙ put-length handle (start .args .found .now) (start .args .handles .now) (l .loop .k) (omega (arith, start .pre .0 .0)) (omega (arith, start .pre .1))
-
-  places-kept : length (l .loop .places) ≡ length (start .args .places .now)
-  places-kept =
-      ap length (l .loop .inv .2)
-      ∙ put-length place (start .args .found .now) (start .args .places .now) (l .loop .k) (omega (arith, start .pre .0 .0)) (omega (arith, start .pre .2))
+abbrev start : tie.At-loop Inv-loop μ-loop → tie.Start Inv-loop μ-loop
+start l = l .before .before
 
 -- the place at hand is one of an entry
 here : (w : tie.After-wide Inv-loop μ-loop)
@@ -67,12 +44,6 @@ reported c =
     ∙ ap (findingOf (a .nums .now)) (c .before .entry-at .ensures)
     ∙ ap (findingAt (a .nums .now) (a .pool .now) (a .spots .now)) (c .before .before .wide .ensures)
 
-mul-wide : tie.Need-mul-wide Inv-loop μ-loop
-mul-wide c = let h : c .before .loop .k < length (start (c .before) .args .found .now) = omega (arith, start (c .before) .pre .0 .0) in search needs
-
-in-found : tie.Need-shared-slice-read-wide Inv-loop μ-loop
-in-found c = omega (arith, start (c .before .before) .pre .0 .0)
-
 in-columns : tie.Need-entry-at-requires Inv-loop μ-loop
 in-columns c κs = (here c .in-pool, here c .in-spots)
 
@@ -83,8 +54,9 @@ in-nums c κs =
 
 in-outputs : tie.Need-put-finding-requires Inv-loop μ-loop
 in-outputs c κs =
-    let l = c .before .before .before .before .before .before .before in
-    (omega (arith, handles-kept l, start l .pre .1), omega (arith, places-kept l, start l .pre .2))
+    let i = c .before .before .before .before .before .before in
+    let l = i .before in
+    (rows-room (l .loop .inv .0) (start l .pre .1) (i .loop-test .taken), rows-room (l .loop .inv .1) (start l .pre .2) (i .loop-test .taken))
 
 loop-again : tie.Need-loop-again Inv-loop μ-loop
 loop-again c =
@@ -93,30 +65,13 @@ loop-again c =
     let i = f .before .before .before .before in
     let l = i .before in
     let s = start l in
-    let a = s .args in
-    let k = l .loop .k in
-    let more = i .loop-test .taken in
-    let in-found : k < length (a .found .now) = omega (arith, more, s .pre .0 .0) in (
-      omega arith,
-      p .put-finding .ensures .0
-          ∙ put-next (handle l) (a .found .now) (a .handles .now) k (l .loop .handles) _ (l .loop .inv .1) (ap handleOf (reported f)) in-found (omega (arith, s .pre .1)),
-      p .put-finding .ensures .1
-          ∙ put-next (place l) (a .found .now) (a .places .now) k (l .loop .places) _ (l .loop .inv .2) (ap placeOf (reported f)) in-found (omega (arith, s .pre .2)),
+    let h = i .loop-test .taken in (
+      put-next (s .args .found .now) (l .loop .inv .0) (s .pre .0 .0) (s .pre .1) h (p .put-finding .ensures .0) (ap handleOf (reported f)),
+      put-next (s .args .found .now) (l .loop .inv .1) (s .pre .0 .0) (s .pre .2) h (p .put-finding .ensures .1) (ap placeOf (reported f)),
     )
 
-same-length : tie.Need-same-length Inv-loop μ-loop
-same-length c = handles-kept (c .before)
-
-same-length-2 : tie.Need-same-length-2 Inv-loop μ-loop
-same-length-2 c = places-kept (c .before)
-
 returns : tie.Need-returns Inv-loop μ-loop
-returns c =
-    let l = c .before in
-    let a = start l .args in
-    let e : l .loop .k ≡ a .r = omega arith in
-    (λ z. outputs (l .loop .inv .1 z) (l .loop .inv .2 z))
-    ∙ ap (λ k. filling (findingAt (a .nums .now) (a .pool .now) (a .spots .now)) (take k (a .found .now)) (outputs (a .handles .now) (a .places .now))) e
+returns c = let v = c .before .loop .inv in let found = start (c .before) .args .found .now in λ z. outputs (put-done found (v .0) (omega arith) z) (put-done found (v .1) (omega arith) z)
 
 pub put-findings-spec : {M : Type 1} → statement M
 put-findings-spec =
@@ -124,9 +79,9 @@ put-findings-spec =
     (tie.spec
     Inv-loop
     μ-loop
-    loop-holds
-    mul-wide
-    in-found
+    (λ c. (rows-none, rows-none))
+    (λ c. let h : c .before .loop .k < length (start (c .before) .args .found .now) = omega (arith, start (c .before) .pre .0 .0) in search needs)
+    (λ c. omega (arith, start (c .before .before) .pre .0 .0))
     (λ c κs. search needs)
     in-columns
     in-nums
@@ -134,6 +89,6 @@ put-findings-spec =
     (λ c. omega arith)
     (λ c. omega arith)
     loop-again
-    same-length
-    same-length-2
+    (λ c. rows-kept (c .before .loop .inv .0) (start (c .before) .pre .1))
+    (λ c. rows-kept (c .before .loop .inv .1) (start (c .before) .pre .2))
     returns)
