@@ -1,13 +1,27 @@
 // Slots that are all free: what building a grid starts from, whatever the tables held.
 ghost use mathlib.Core.Path.{_≡_};
-ghost use mathlib.Core.List.{_∷_, _++_};
+ghost use mathlib.Core.List.{[], _∷_, _++_};
 ghost use Prim.Native.Nat.{_+_, _≤_};
 ghost use lib.ListN.{length, take, drop};
 ghost use Rattle.basics.specs.Meaning.Limits.{mostSlots};
 ghost use Rattle.basics.specs.Meaning.Lent.{was, is};
+ghost use Rattle.basics.specs.Meaning.Refusals.{unless, firstOf};
 ghost use Rattle.slots.specs.Meaning.Map.{wordsFor};
-ghost use Rattle.blank.specs.Meaning.Blank.{freeWord, freeWords, blankNums, blankMap};
+ghost use Rattle.blank.specs.Meaning.Blank.{freeWord, freeWords, blankNums, blankMap, sizeOk};
 use slots::Row;
+
+// The answer of building: 3 where the tables have not the lengths of a grid, 2 for a size of cells outside its limits, else 0.
+pub fn answer(sized: bool, size: u32) -> u32
+    ensures { λ r. ⌜ r ≡ firstOf (unless sized 3 ∷ unless (sizeOk size) 2 ∷ []) ⌝ }
+{
+    if !sized {
+        return 3;
+    }
+    if !cells::size_in_domain(size as u64) {
+        return 2;
+    }
+    0
+}
 
 // Every slot is free at version 1.
 pub fn free_slots(nums: &mut [Row])

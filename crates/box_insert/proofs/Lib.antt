@@ -1,5 +1,4 @@
 -- What the proofs of box_insert share.
-mod Built
 mod Placed
 mod Chosen
 pub mod laws

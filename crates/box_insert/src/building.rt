@@ -2,21 +2,8 @@
 ghost use mathlib.Core.Path.{_≡_};
 ghost use Rattle.box_tables.specs.Meaning.Lent.{after, before};
 ghost use Rattle.box_tables.specs.Meaning.Outcome.{outcome};
-ghost use Rattle.box_insert.specs.Meaning.New.{newAnswer, newOf};
+ghost use Rattle.box_insert.specs.Meaning.New.{newOf};
 use slots::Row;
-
-// The answer: the first refusal that applies, or 0.
-fn answer(nums: &[Row], reals: &[[f32; 4]], map: &[u64], pool: &[[u64; 2]], size: u32) -> u32
-    ensures { λ r. ⌜ r ≡ newAnswer (before nums reals map pool) size ⌝ }
-{
-    if !box_tables::lengths_ok(nums.len(), reals.len(), map.len(), pool.len()) {
-        return 3;
-    }
-    if !cells::size_in_domain(size as u64) {
-        return 2;
-    }
-    0
-}
 
 // A grid of cells of `size` with no object, in tables of the right lengths, whatever they held.
 pub fn new(
@@ -28,7 +15,8 @@ pub fn new(
 ) -> u32
     ensures { λ r. ⌜ outcome r (after nums reals map pool) ≡ newOf (before nums reals map pool) size ⌝ }
 {
-    let a = answer(nums, reals, map, pool, size);
+    let sized = box_tables::lengths_ok(nums.len(), reals.len(), map.len(), pool.len());
+    let a = blank::answer(sized, size);
     if a != 0 {
         return a;
     }

@@ -2,38 +2,8 @@
 ghost use mathlib.Core.Path.{_≡_};
 ghost use Rattle.point_tables.specs.Meaning.Lent.{after, before};
 ghost use Rattle.point_tables.specs.Meaning.Outcome.{outcome};
-ghost use Rattle.point_insert.specs.Meaning.New.{newAnswer, newOf};
+ghost use Rattle.point_insert.specs.Meaning.New.{newOf};
 use slots::Row;
-
-// The answer: the first refusal that applies, or 0.
-fn answer(
-    nums: &[Row],
-    reals: &[[f32; 4]],
-    ints: &[[i32; 4]],
-    map: &[u64],
-    pool: &[[u64; 2]],
-    spots: &[[f32; 2]],
-    cells: &[[u64; 2]],
-    size: u32,
-) -> u32
-    ensures { λ r. ⌜ r ≡ newAnswer (before nums reals ints map pool spots cells) size ⌝ }
-{
-    if !point_tables::lengths_ok(
-        nums.len(),
-        reals.len(),
-        ints.len(),
-        map.len(),
-        pool.len(),
-        spots.len(),
-        cells.len(),
-    ) {
-        return 3;
-    }
-    if !cells::size_in_domain(size as u64) {
-        return 2;
-    }
-    0
-}
 
 // A grid of cells of `size` with no object, in tables of the right lengths, whatever they held.
 pub fn new(
@@ -48,7 +18,16 @@ pub fn new(
 ) -> u32
     ensures { λ r. ⌜ outcome r (after nums reals ints map pool spots cells) ≡ newOf (before nums reals ints map pool spots cells) size ⌝ }
 {
-    let a = answer(nums, reals, ints, map, pool, spots, cells, size);
+    let sized = point_tables::lengths_ok(
+        nums.len(),
+        reals.len(),
+        ints.len(),
+        map.len(),
+        pool.len(),
+        spots.len(),
+        cells.len(),
+    );
+    let a = blank::answer(sized, size);
     if a != 0 {
         return a;
     }

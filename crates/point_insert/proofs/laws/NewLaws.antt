@@ -1,97 +1,46 @@
 -- Freshly built tables hold a grid; building that is refused leaves the tables. Assumes nothing.
-use Prim.Native.Nat.{ℕ, _<_}
-use mathlib.Core.Path.{_≡_, refl}
-use mathlib.Core.Bool.{Bool, true, false}
+use Prim.Native.Nat.{ℕ}
+use mathlib.Core.Path.{_≡_}
 use native.Mathlib.Omega.{arith}
-use lib.Dec.{eqb}
 use lib.ListN.{length-replicate}
-use Rattle.basics.specs.Meaning.Refusals.{orElse, pick}
-use Rattle.basics.proofs.laws.Says.{not-said}
 use Rattle.cells.specs.Meaning.Size.{SizeInDomain}
-use Rattle.slots.specs.Meaning.Slot.{live, phaseAt, SlotsHold}
-use Rattle.storage.specs.Meaning.Packed.{Packed}
 use Rattle.blank.specs.Meaning.Blank.{sizeOk}
 use Rattle.blank.proofs.laws.BlankLaws.{blank-length, blank-holds, blank-not-live, size-says}
-use Rattle.point_tables.specs.Meaning.Tables.{Tables, usedOf, rowsOf, slotsOf, Sized}
-use Rattle.point_tables.specs.Meaning.Holds.{Counted, ListsHold, Holds}
+use Rattle.blank.proofs.laws.BuildLaws.{build-leaves, build-gives}
+use Rattle.point_tables.specs.Meaning.Tables.{Tables, slotsOf, Sized}
+use Rattle.point_tables.specs.Meaning.Holds.{Holds}
 use Rattle.point_tables.specs.Meaning.Decide.{sized, sized-says}
-use Rattle.point_tables.specs.Meaning.Outcome.{Outcome, outcome}
 use Rattle.point_insert.specs.Meaning.New.{built, newAnswer, newOf}
 
--- ---- the tables
 module _ (t : Tables) (size : ℕ) where
-  slots-hold : SlotsHold (built t size .nums) (built t size .map)
-  unfolding built
-  slots-hold = blank-holds (slotsOf t) size
-
-  not-live : (s : ℕ) → s < slotsOf (built t size) → phaseAt (built t size .nums) s ≡ live → ⊥
-  unfolding built
-  not-live s h e = blank-not-live (slotsOf t) size s h e
-
-  lengths : Sized t → Sized (built t size)
-  unfolding built
-  lengths z =
-      rw length-replicate
-      (record { some = z .some; most = z .most; of-reals = z .of-reals; of-ints = z .of-ints; of-map = blank-length (slotsOf t) size; of-pool = z .of-pool; of-spots = z .of-spots; of-cells = z .of-cells })
-
-  counts : SizeInDomain size → Counted (built t size)
-  unfolding built
-  counts d = record { size = d; used-most = omega arith; rows-most = omega arith }
-
-  nothing-packed : Packed (usedOf (built t size)) (rowsOf (built t size)) (built t size .pool) (built t size .cells)
-  unfolding built
-  nothing-packed =
-      record {
-        ordered = λ i j h l. absurd (omega arith);
-        ascending = λ i j h l. absurd (omega arith);
-        has-row = λ j h. absurd (omega arith);
-        has-list = λ r h. absurd (omega arith);
-        marks = λ r h. absurd (omega arith);
-      }
-
-  no-lists : ListsHold (built t size)
-  unfolding built
-  no-lists =
-      record {
-        each = λ j h. absurd (omega arith);
-        once = λ i j h l e. absurd (omega arith);
-        every = λ s h e. absurd (not-live s h e);
-      }
-
+  -- no entry is in use, and no slot is occupied
   pub built-holds : Sized t → SizeInDomain size → Holds (built t size)
+  unfolding built
   built-holds z d =
+      let not-live = blank-not-live (slotsOf t) size in
       record {
-        sized = lengths z;
-        counted = counts d;
-        slots = slots-hold;
+        sized =
+            rw length-replicate
+            (record { some = z .some; most = z .most; of-reals = z .of-reals; of-ints = z .of-ints; of-map = blank-length (slotsOf t) size; of-pool = z .of-pool; of-spots = z .of-spots; of-cells = z .of-cells });
+        counted = record { size = d; used-most = omega arith; rows-most = omega arith };
+        slots = blank-holds (slotsOf t) size;
         records = λ s h e. absurd (not-live s h e);
-        packed = nothing-packed;
-        lists = no-lists;
+        packed =
+            record {
+              ordered = λ i j h l. absurd (omega arith);
+              ascending = λ i j h l. absurd (omega arith);
+              has-row = λ j h. absurd (omega arith);
+              has-list = λ r h. absurd (omega arith);
+              marks = λ r h. absurd (omega arith);
+            };
+        lists = record { each = λ j h. absurd (omega arith); once = λ i j h l e. absurd (omega arith); every = λ s h e. absurd (not-live s h e) };
         dirty = λ s h p. absurd (not-live s h (p .occupied));
       }
 
--- ---- the answer
-module _ (t : Tables) (size : ℕ) where
-  -- the outcome by the two tests
-  abbrev newBy : Bool → Bool → Outcome ℕ
-  newBy a b = pick (eqb (orElse a 3 (orElse b 2 0)) 0) (outcome 0 (built t size)) (outcome (orElse a 3 (orElse b 2 0)) t)
-
-  by-tests : newOf t size ≡ newBy (sized t) (sizeOk size)
-  unfolding newOf newAnswer built
-  by-tests = refl
-
   pub new-refused : (newOf t size .result ≡ 0 → ⊥) → newOf t size .after ≡ t
-  new-refused = rw by-tests (go (sized t) (sizeOk size))
-    where
-      go : (a b : Bool) → (newBy a b .result ≡ 0 → ⊥) → newBy a b .after ≡ t
-      go true true n = absurd (n refl)
-      go true false n = refl
-      go false b n = refl
+  unfolding newOf newAnswer built
+  new-refused = build-leaves t (built t size) (sized t) (sizeOk size)
 
   pub new-holds : newOf t size .result ≡ 0 → Holds (newOf t size .after)
-  new-holds = rw by-tests (go (sized t) (sizeOk size) (λ e. sized-says t .yes e) (λ e. size-says size .yes e))
-    where
-      go : (a b : Bool) → (a ≡ true → Sized t) → (b ≡ true → SizeInDomain size) → newBy a b .result ≡ 0 → Holds (newBy a b .after)
-      go true true f g e = built-holds t size (f refl) (g refl)
-      go true false f g e = absurd (omega arith)
-      go false b f g e = absurd (omega arith)
+  unfolding newOf newAnswer built
+  new-holds = build-gives t (built t size) Holds (sized t) (sizeOk size) (λ e f. built-holds (sized-says t .yes e) (size-says size .yes f))
