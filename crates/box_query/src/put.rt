@@ -5,9 +5,8 @@ ghost use Prim.Native.Nat.{_≤_};
 ghost use lib.ListN.{length, take};
 ghost use Rattle.basics.specs.Meaning.Lent.{was, is};
 ghost use Rattle.storage.specs.Meaning.Keyed.{written};
-ghost use Rattle.box_query.specs.Meaning.Queries.{boxRow};
 ghost use Rattle.box_query.specs.Inner.Put.{Found, Reportable, Reported};
-ghost use Rattle.slot_walks.specs.Meaning.Live.{objAt, handleAt};
+ghost use Rattle.slot_walks.specs.Meaning.Live.{handleAt};
 use slots::Row;
 
 // Slot and version.

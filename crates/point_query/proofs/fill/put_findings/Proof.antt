@@ -1,14 +1,11 @@
 -- `point_query::fill::put_findings` meets its contract: the rows of the places passed stand in the first places of the outputs. Assumes nothing.
-use Prim.Native.Nat.{ℕ, _≤_, _<_, _-_}
-use mathlib.Core.Path.{_≡_, refl, sym, ap, _∙_, subst}
-use mathlib.Core.List.{List, map}
+use Prim.Native.Nat.{_<_, _-_}
+use mathlib.Core.Path.{_≡_, sym, ap, _∙_, subst}
 use native.Mathlib.Omega.{arith}
-use lib.Ieee.{Float}
 use lib.ListN.{length, getD, take}
 use borrow.Author.Needs.{needs}
-use Rattle.storage.specs.Meaning.Keyed.{written}
 use Rattle.point_records.specs.declared.Entry.{Entry}
-use Rattle.point_query.specs.Meaning.Queries.{handleOf, placeOf, outputs, filling}
+use Rattle.point_query.specs.Meaning.Queries.{handleOf, placeOf, outputs}
 use Rattle.point_query.specs.Inner.Fill.{findingOf, findingAt, handleAt, placeAt, Findable}
 use Rattle.storage.proofs.laws.PutLaws.{Rows, rows-none, rows-kept, rows-room, put-next, put-done}
 use Rattle.point_query.proofs.fill.put_findings.Statement.{statement}
