@@ -50,12 +50,6 @@ returns-2 c =
     let s = start (e .before) in
     looked-6 (lent s) (s .args .q) (s .args .found .now) (s .pre) (c .refused2 .result) (c .refused2 .ensures) (held e) (sym (c .before .before .aabb-in-domain .ensures) ∙ not-true _ (c .before .if2 .taken))
 
-in-map : tie.Need-shared-slice-read-size
-in-map c = omega (arith, whole (c .before .before .before) .sized .of-map)
-
-span-of-requires : tie.Need-span-of-requires
-span-of-requires c κs = let e = c .before in (whole (e .before .before) .counted .size, subst T (sym (fine e)) tt)
-
 -- the number of cells of the range
 number : (c : tie.After-span-of) → let s = start (c .before .before .before .before .before) in c .span-of .result .cells ≡ covers (sizeOf (lent s)) (s .args .q)
 number c = ap (λ (p : Span). p .cells) (c .span-of .ensures)
@@ -106,8 +100,8 @@ look-spec =
     (λ c κs. search needs)
     (λ c κs. search needs)
     returns-2
-    in-map
-    span-of-requires
+    (λ c. omega (arith, whole (c .before .before .before) .sized .of-map))
+    (λ c κs. let e = c .before in (whole (e .before .before) .counted .size, subst T (sym (fine e)) tt))
     (λ c κs. search needs)
     returns-3
     in-map-2

@@ -56,23 +56,11 @@ returns-2 c =
     ap (λ (k : Count). findings k (a .handles .now) (a .places .now)) (c .refused2 .ensures)
     ∙ search-6 (lent s) (a .ok) (a .ll) (a .ur) (a .test) (a .handles .now) (a .places .now) (held e) (not-true _ (c .before .if2 .taken))
 
-in-map : tie.Need-shared-slice-read-size
-in-map c = omega (arith, whole (c .before .before) .sized .of-map)
-
-cell-at-requires : tie.Need-cell-at-requires
-cell-at-requires c κs = (whole (c .before .before) .counted .size, reached (c .before) .0)
-
-cell-at-requires-2 : tie.Need-cell-at-requires-2
-cell-at-requires-2 c κs = (whole (c .before .before .before) .counted .size, reached (c .before .before) .1)
-
 near-a : (c : tie.After-cell-at2) → Near (c .before .cell-at .result)
 near-a c = let s = start (c .before .before .before .before) in subst Near (sym (c .before .cell-at .ensures)) (cell-near (sizeOf (lent s)) (s .args .ll) (reached (c .before .before .before) .0))
 
 near-b : (c : tie.After-cell-at2) → Near (c .cell-at2 .result)
 near-b c = let s = start (c .before .before .before .before) in subst Near (sym (c .cell-at2 .ensures)) (cell-near (sizeOf (lent s)) (s .args .ur) (reached (c .before .before .before) .1))
-
-cells-in-requires : tie.Need-cells-in-requires
-cells-in-requires c κs = (near-a c, near-b c)
 
 -- the number of cells of the range
 number : (c : tie.After-cells-in) → let s = start (c .before .before .before .before .before) in c .cells-in .result ≡ cellsIn (cellAt (sizeOf (lent s)) (s .args .ll)) (cellAt (sizeOf (lent s)) (s .args .ur))
@@ -86,9 +74,6 @@ returns-3 c =
     let a = s .args in
     ap (λ (k : Count). findings k (a .handles .now) (a .places .now)) (c .refused3 .ensures)
     ∙ search-7 (lent s) (a .ok) (a .ll) (a .ur) (a .test) (a .handles .now) (a .places .now) (held (e .before)) (fine e) (omega (arith, number n, c .before .if3 .taken))
-
-in-map-2 : tie.Need-shared-slice-read-index-of
-in-map-2 c = omega (arith, whole (c .before .before .before .before .before .before .before) .sized .of-map)
 
 fill-requires : tie.Need-fill-requires
 fill-requires c κs =
@@ -127,13 +112,13 @@ search-spec =
     returns
     (λ c κs. search needs)
     returns-2
-    in-map
-    cell-at-requires
-    cell-at-requires-2
-    cells-in-requires
+    (λ c. omega (arith, whole (c .before .before) .sized .of-map))
+    (λ c κs. (whole (c .before .before) .counted .size, reached (c .before) .0))
+    (λ c κs. (whole (c .before .before .before) .counted .size, reached (c .before .before) .1))
+    (λ c κs. (near-a c, near-b c))
     (λ c κs. search needs)
     returns-3
-    in-map-2
+    (λ c. omega (arith, whole (c .before .before .before .before .before .before .before) .sized .of-map))
     (λ c κs. search needs)
     fill-requires
     (λ c. search needs)

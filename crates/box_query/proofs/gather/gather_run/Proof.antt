@@ -53,18 +53,6 @@ room c =
     collected-room (s .args .marks .now) (s .args .found .now) (s .args .n) (so-far l) (l .loop .marks) (l .loop .found) (l .loop .k) (c .before .before .index-of .result) (l .loop .inv .2)
     (s .pre .4) (below l) (s .pre .3) (slot-in (c .before .before)) (new c)
 
-mul-row : tie.Need-mul-row Inv-loop μ-loop
-mul-row c = let h = in-pool c in search needs
-
-cast-found : tie.Need-cast-found Inv-loop μ-loop
-cast-found c = let h = slot-in (c .before .before) in search needs
-
-mul-found : tie.Need-mul-found Inv-loop μ-loop
-mul-found c = let h = room c in search needs
-
-add-k : tie.Need-add-k Inv-loop μ-loop
-add-k c = let h = room c in search needs
-
 loop-again : tie.Need-loop-again Inv-loop μ-loop
 loop-again c =
     let l = c .before .before .before .before .before in
@@ -103,15 +91,15 @@ gather-run-spec =
     Inv-loop
     μ-loop
     loop-holds
-    mul-row
+    (λ c. let h = in-pool c in search needs)
     in-pool
     (λ c. omega arith)
     (λ c κs. search needs)
     slot-in
-    cast-found
-    mul-found
+    (λ c. let h = slot-in (c .before .before) in search needs)
+    (λ c. let h = room c in search needs)
     room
-    add-k
+    (λ c. let h = room c in search needs)
     (λ c. slot-in (c .before .before))
     (λ c. omega arith)
     (λ c. omega arith)

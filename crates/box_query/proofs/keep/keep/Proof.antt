@@ -34,14 +34,8 @@ module _ (l : tie.At-loop Inv-loop μ-loop) where
   here : l .loop .j < start .args .n → getD (l .loop .found) (l .loop .j) 0 ≡ getD (start .args .found .now) (l .loop .j) 0
   here h = kept-here test (start .args .found .now) (l .loop .found) (l .loop .k) (l .loop .j) (l .loop .inv .1) (inside h)
 
-loop-holds : tie.Need-loop-holds Inv-loop μ-loop
-loop-holds c = (omega arith, kept-none _ (c .args .found .now))
-
 in-found : (c : tie.In-loop Inv-loop μ-loop) → c .before .loop .j < 256
 in-found c = omega (arith, c .loop-test .taken, c .before .before .pre .most)
-
-mul-s : tie.Need-mul-s Inv-loop μ-loop
-mul-s c = let h = in-found c in search needs
 
 load-box-requires : tie.Need-load-box-requires Inv-loop μ-loop
 load-box-requires c κs =
@@ -55,12 +49,6 @@ room : (c : tie.Then1 Inv-loop μ-loop) → c .before .before .before .before .b
 room c =
     let l = c .before .before .before .before .before .before in
     omega (arith, l .loop .inv .1 .few, in-found (c .before .before .before .before .before))
-
-mul-found : tie.Need-mul-found Inv-loop μ-loop
-mul-found c = let h = room c in search needs
-
-add-k : tie.Need-add-k Inv-loop μ-loop
-add-k c = let h = room c in search needs
 
 -- what the test said of it
 said : (c : tie.After-intersects Inv-loop μ-loop) → let l = c .before .before .before .before .before in c .intersects .result ≡ test l (getD (l .loop .found) (l .loop .j) 0)
@@ -96,15 +84,15 @@ keep-spec =
     (tie.spec
     Inv-loop
     μ-loop
-    loop-holds
-    mul-s
+    (λ c. (omega arith, kept-none _ (c .args .found .now)))
+    (λ c. let h = in-found c in search needs)
     in-found
     (λ c κs. search needs)
     load-box-requires
     (λ c κs. search needs)
-    mul-found
+    (λ c. let h = room c in search needs)
     room
-    add-k
+    (λ c. let h = room c in search needs)
     (λ c. omega arith)
     (λ c. omega arith)
     loop-again

@@ -39,12 +39,6 @@ fresh e =
     let s = start k in
     chosen (at-entry s) (s .args .at) (s .args .obj) (k .check .result) (k .check .ensures) (f .choose .result .answer) (f .choose .ensures .0) (e .if1 .left) (f .choose .result .slot) (f .choose .ensures .1 (e .if1 .left))
 
-accepted-requires : tie.Need-accepted-requires
-accepted-requires c κs = let f = fresh (c .before) in (f .inside, f .holds .sized .most)
-
-put-requires : tie.Need-put-requires
-put-requires c κs = fresh (c .before .before .before .before .before .before .before .before .before)
-
 returns-2 : tie.Need-returns-2
 returns-2 c =
     let p = c .before .before .before .before .before .before .before .before in
@@ -71,8 +65,8 @@ insert-spec =
     (λ c. search needs)
     (λ c. search needs)
     returns
-    accepted-requires
-    put-requires
+    (λ c κs. let f = fresh (c .before) in (f .inside, f .holds .sized .most))
+    (λ c κs. fresh (c .before .before .before .before .before .before .before .before .before))
     (λ c. search needs)
     (λ c. search needs)
     (λ c. search needs)

@@ -55,9 +55,6 @@ add-count c =
     let s = start e in
     omega (arith, few (at-entry s) (s .args .s) (s .args .at) (s .pre) (used-read e .index-of .result) (used-read e .index-of .ensures))
 
-count-requires : tie.Need-count-requires
-count-requires c κs = let s = start (before-count c) in in-map (at-entry s) (s .args .s) (s .args .at) (s .pre)
-
 returns : tie.Need-returns
 returns c =
     let n = c .before .before in
@@ -92,7 +89,7 @@ put-spec =
     append-entry-requires
     enter-cell-requires
     add-count
-    count-requires
+    (λ c κs. let s = start (before-count c) in in-map (at-entry s) (s .args .s) (s .args .at) (s .pre))
     (λ c. search needs)
     (λ c. search needs)
     (λ c. search needs)

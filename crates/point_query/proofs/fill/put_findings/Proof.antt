@@ -41,9 +41,6 @@ reported c =
     ∙ ap (findingOf (a .nums .now)) (c .before .entry-at .ensures)
     ∙ ap (findingAt (a .nums .now) (a .pool .now) (a .spots .now)) (c .before .before .wide .ensures)
 
-in-columns : tie.Need-entry-at-requires Inv-loop μ-loop
-in-columns c κs = (here c .in-pool, here c .in-spots)
-
 in-nums : tie.Need-finding-of-requires Inv-loop μ-loop
 in-nums c κs =
     let s = start (c .before .before .before .before) in
@@ -80,7 +77,7 @@ put-findings-spec =
     (λ c. let h : c .before .loop .k < length (start (c .before) .args .found .now) = omega (arith, start (c .before) .pre .0 .0) in search needs)
     (λ c. omega (arith, start (c .before .before) .pre .0 .0))
     (λ c κs. search needs)
-    in-columns
+    (λ c κs. (here c .in-pool, here c .in-spots))
     in-nums
     in-outputs
     (λ c. omega arith)

@@ -131,12 +131,6 @@ loop-again c =
     ))
     (c .if1 .came)
 
-same-length : tie.Need-same-length Inv-loop μ-loop
-same-length c = handles-kept (c .before)
-
-same-length-2 : tie.Need-same-length-2 Inv-loop μ-loop
-same-length-2 c = places-kept (c .before)
-
 returns : tie.Need-returns Inv-loop μ-loop
 returns c =
     let l = c .before in
@@ -164,6 +158,6 @@ put-run-spec =
     (λ c. search needs)
     (λ c. omega arith)
     loop-again
-    same-length
-    same-length-2
+    (λ c. handles-kept (c .before))
+    (λ c. places-kept (c .before))
     returns)

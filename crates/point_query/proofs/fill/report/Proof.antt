@@ -28,12 +28,6 @@ module _ (s : tie.Start) where
       let a = s .args in
       ap (λ (n : ℕ). findings (count 9 n) (a .handles .now) (a .places .now)) number ∙ filled-9 (a .nums .now) (a .pool .now) (a .spots .now) js (a .handles .now) (a .places .now) (omega (arith, number))
 
-returns : tie.Need-returns
-returns c = short (c .before .before) (omega (arith, c .if1 .taken))
-
-returns-2 : tie.Need-returns-2
-returns-2 c = short (c .before .before .before) (omega (arith, c .if2 .taken))
-
 returns-3 : tie.Need-returns-3
 returns-3 c =
     let p = c .before .before in
@@ -48,8 +42,8 @@ report-spec =
     tie.close
     (tie.spec
     (λ c. search needs)
-    returns
-    returns-2
+    (λ c. short (c .before .before) (omega (arith, c .if1 .taken)))
+    (λ c. short (c .before .before .before) (omega (arith, c .if2 .taken)))
     (λ c κs. search needs)
     (λ c. search needs)
     (λ c. search needs)

@@ -38,12 +38,6 @@ room l = let a = l .before .before .before .before .args in begun-room (a .a) (a
 left : (c : tie.Else1 Inv-loop μ-loop) → c .before .before .loop .n < length (c .before .before .loop .places)
 left c = omega (arith, room (c .before .before), c .if1 .left)
 
-loop-holds : tie.Need-loop-holds Inv-loop μ-loop
-loop-holds c = (c .before .before .before .pre .3, refl, λ a b na nb el eh h. h)
-
-same-length : tie.Need-same-length Inv-loop μ-loop
-same-length c = c .before .before .loop .inv .1
-
 returns : tie.Need-returns Inv-loop μ-loop
 returns c =
     let l = c .before .before in
@@ -89,9 +83,6 @@ loop-again c =
           (x .used) (l .before .before .key-of .result) (l .before .key-of2 .result) (r .number) (r .place) (n .next-run .result) (p .gather-part .last .1 .1 .1 .1 .1 .0) na nb el eh (n .next-run .ensures) g (left e),
     )
 
-same-length-2 : tie.Need-same-length-2 Inv-loop μ-loop
-same-length-2 c = c .before .loop .inv .1
-
 returns-2 : tie.Need-returns-2 Inv-loop μ-loop
 returns-2 c = let l = c .before in (begun l, l .loop .inv .0, λ h. omega (arith, l .loop .inv .0, c .loop-test .left))
 
@@ -103,12 +94,12 @@ gather-spec =
     μ-loop
     (λ c κs. search needs)
     (λ c κs. search needs)
-    loop-holds
-    same-length
+    (λ c. (c .before .before .before .pre .3, refl, λ a b na nb el eh h. h))
+    (λ c. c .before .before .loop .inv .1)
     returns
     next-run-requires
     gather-part-requires
     loop-less
     loop-again
-    same-length-2
+    (λ c. c .before .loop .inv .1)
     returns-2)

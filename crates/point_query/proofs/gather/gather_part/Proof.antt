@@ -47,12 +47,6 @@ loop-holds c =
       stretch-none (test-of s) (a .from) (a .n) (a .places .now) (s .pre .3),
     )
 
-sub-room : tie.Need-sub-room Inv-loop μ-loop
-sub-room c = let h = fits-in (c .before) in search needs
-
-same-length : tie.Need-same-length Inv-loop μ-loop
-same-length c = c .before .before .loop .inv .2
-
 returns : tie.Need-returns Inv-loop μ-loop
 returns c =
     let l = c .before .before in
@@ -95,9 +89,6 @@ gather-run-requires c κs =
       omega (arith, head e .loop .inv .2, s .pre .4),
     )
 
-loop-less : tie.Need-loop-less Inv-loop μ-loop
-loop-less c = let e = c .before .before .before .before in omega (arith, further e, within e)
-
 loop-again : tie.Need-loop-again Inv-loop μ-loop
 loop-again c =
     let r = c .before .before in
@@ -117,9 +108,6 @@ loop-again c =
       stretch-first (test-of s) (a .from) (a .n) (a .places .now) (s .pre .3) (l .loop .j) (l .loop .k) (l .loop .places) (v .3) (v .4) (end e) (r .gather-run .result) last (v .0) on (g .0) (g .1),
     )
 
-same-length-2 : tie.Need-same-length-2 Inv-loop μ-loop
-same-length-2 c = c .before .loop .inv .2
-
 returns-2 : tie.Need-returns-2 Inv-loop μ-loop
 returns-2 c =
     let v = c .before .loop .inv in
@@ -132,13 +120,13 @@ gather-part-spec =
     Inv-loop
     μ-loop
     loop-holds
-    sub-room
-    same-length
+    (λ c. let h = fits-in (c .before) in search needs)
+    (λ c. c .before .before .loop .inv .2)
     returns
     add-lesser
     (λ c κs. search needs)
     gather-run-requires
-    loop-less
+    (λ c. let e = c .before .before .before .before in omega (arith, further e, within e))
     loop-again
-    same-length-2
+    (λ c. c .before .loop .inv .2)
     returns-2)

@@ -62,12 +62,6 @@ mul-places c =
     let m : l .loop .k < 4096 = omega (arith, up-most (test-of s) (s .args .from) (s .args .n) (s .args .places .now) (size s) (l .loop .j), s .pre) in
     search needs
 
-slice-write-places : tie.Need-slice-write-places Inv-loop μ-loop
-slice-write-places c = omega (arith, room c, keeps (c .before .before .before .before))
-
-add-k : tie.Need-add-k Inv-loop μ-loop
-add-k c = let r = room c in search needs
-
 -- what the test says of the place at hand
 tested : (c : tie.After-passes Inv-loop μ-loop) → let l = c .before .before .before in c .passes .result ≡ test-of (l .before .before) (l .loop .j)
 tested c = c .passes .ensures ∙ ap (passes (c .before .before .before .before .before .args .test)) (c .before .spot-at .ensures)
@@ -94,9 +88,6 @@ loop-again c =
     (omega arith, omega arith, w .2 ∙ l .loop .inv .2 ∙ ap length (sym e), w .1 ∙ l .loop .inv .3 ∙ ap (λ m. written m o) (sym e)))
     (c .if1 .came)
 
-same-length : tie.Need-same-length Inv-loop μ-loop
-same-length c = keeps (c .before)
-
 returns : tie.Need-returns Inv-loop μ-loop
 returns c =
     let l = c .before in
@@ -118,10 +109,10 @@ gather-run-spec =
     (λ c κs. search needs)
     (λ c. search needs)
     mul-places
-    slice-write-places
-    add-k
+    (λ c. omega (arith, room c, keeps (c .before .before .before .before)))
+    (λ c. let r = room c in search needs)
     (λ c. search needs)
     (λ c. omega arith)
     loop-again
-    same-length
+    (λ c. keeps (c .before))
     returns)

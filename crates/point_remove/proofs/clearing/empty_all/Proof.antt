@@ -5,9 +5,6 @@ use borrow.Author.Needs.{needs}
 use Rattle.point_remove.proofs.clearing.empty_all.Statement.{statement}
 use Rattle.point_remove.proofs.clearing.empty_all.Tie as tie
 
-slice-write-map-2 : tie.Need-slice-write-map-2
-slice-write-map-2 c = simp length-set (omega arith)
-
 returns : tie.Need-returns
 returns c = (c .before .before .before .empty-slots .ensures .0, cc (c .before .before .before .empty-slots .ensures .1))
 
@@ -17,7 +14,7 @@ empty-all-spec =
     (tie.spec
     (λ c κs. search needs)
     (λ c. search needs)
-    slice-write-map-2
+    (λ c. simp length-set (omega arith))
     (λ c. search needs)
     (λ c. search needs)
     returns)

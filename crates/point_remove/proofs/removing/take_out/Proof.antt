@@ -13,9 +13,6 @@ start w = w .before .before .before .before .before .before .before .before .bef
 abbrev at-entry : tie.Start → Tables
 at-entry s = tables (s .args .nums .now) (s .args .reals .now) (s .args .ints .now) (s .args .map .now) (s .args .pool .now) (s .args .spots .now) (s .args .cells .now)
 
-load-requires : tie.Need-load-requires
-load-requires c κs = let s = c .before .before in in-columns (at-entry s) (s .args .s) (s .pre)
-
 take-entry-requires : tie.Need-take-entry-requires
 take-entry-requires c κs =
     let w = c .before .before in
@@ -55,7 +52,7 @@ pub take-out-spec : {M : Type 1} → statement M
 take-out-spec =
     tie.close
     (tie.spec
-    load-requires
+    (λ c κs. let s = c .before .before in in-columns (at-entry s) (s .args .s) (s .pre))
     (λ c κs. search needs)
     (λ c. search needs)
     (λ c κs. search needs)
