@@ -19,7 +19,8 @@ use Rattle.storage.specs.Inner.Keyed.{Sorted}
 use Rattle.storage.specs.Meaning.Keyed.{written}
 use Rattle.storage.specs.Meaning.Entries.{rowKey}
 use Rattle.storage.proofs.laws.WrittenLaws.{length-written}
-use Rattle.box_cover.specs.Meaning.Coverage.{entered, left, Stands}
+use Rattle.box_cover.specs.Meaning.Coverage.{entered, left}
+use Rattle.box_cover.specs.Inner.Taken.{Leaving}
 use Rattle.box_cover.proofs.laws.EnterLaws.{entered-length}
 use Rattle.box_cover.proofs.laws.LeaveLaws.{left-sorted, left-length}
 use Rattle.box_tables.specs.Meaning.Tables.{Tables, tables, sizeOf, counting, aabbOn, cornersOf}
@@ -60,8 +61,8 @@ module _ (m : List ℕ) (pool : List (List ℕ)) (s : ℕ) (p q : Span) (f : Shi
   less = left-length (p .low) (p .high) (f .old-low) (f .old-high) (itemIn s p) rows (f .stands) ∙ rows-length
 
   module _ (u : ℕ) (eu : u ≡ getD m 1 0) (i : ℕ) (ei : i ≡ itemIn s p) where
-    pub leave-asks : (u ≤ length pool) × Sorted rowKey (take u pool) × Near (p .low) × Near (p .high) × Stands (p .low) (p .high) i (take u pool)
-    leave-asks = rw (eu, ei) (f .used-most, f .sorted, f .old-low, f .old-high, f .stands)
+    pub leave-asks : Leaving (p .low) (p .high) i u pool
+    leave-asks = rw (eu, ei) (record { fits = f .used-most; sorted = f .sorted; near-low = f .old-low; near-high = f .old-high; stands = f .stands })
 
     -- the pool after leaving
     module _ (k : ℕ) (pool₁ : List (List ℕ)) (e : (k ≡ length (left (p .low) (p .high) i (take u pool))) × (pool₁ ≡ written (left (p .low) (p .high) i (take u pool)) pool)) where

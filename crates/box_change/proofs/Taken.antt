@@ -1,5 +1,5 @@
 -- What taking a box out asks of its calls, and what they leave, put together; and `remove` by its answer. Assumes nothing.
-use Prim.Native.Nat.{ℕ, _≤_}
+use Prim.Native.Nat.{ℕ}
 use mathlib.Core.Path.{_≡_, refl, sym, _∙_, ap}
 use mathlib.Core.Bool.{Bool, true, false}
 use mathlib.Core.List.{List, [], _∷_}
@@ -8,14 +8,12 @@ use lib.Dec.{eqb}
 use lib.ListN.{length, take}
 use borrow.Author.Tests.{ne-eqb}
 use Rattle.basics.specs.Meaning.Refusals.{unless, firstOf}
-use Rattle.cells.specs.Inner.Numbers.{Near}
 use Rattle.slots.specs.declared.Handle.{Handle}
 use Rattle.slots.specs.Meaning.Slot.{handleTest, handleRefusal, emptiedNums, emptiedMap}
 use Rattle.slots.proofs.laws.HandleLaws.{not-refused}
-use Rattle.storage.specs.Inner.Keyed.{Sorted}
 use Rattle.storage.specs.Meaning.Keyed.{written}
-use Rattle.storage.specs.Meaning.Entries.{rowKey}
-use Rattle.box_cover.specs.Meaning.Coverage.{left, Stands}
+use Rattle.box_cover.specs.Meaning.Coverage.{left}
+use Rattle.box_cover.specs.Inner.Taken.{Leaving}
 use Rattle.box_tables.specs.Meaning.Tables.{Tables, tables, sizeOf, usedOf, counting, aabbOn, objOn, itemOf}
 use Rattle.box_tables.specs.Meaning.Decide.{holds, holds-says}
 use Rattle.box_tables.proofs.laws.HoldsLaws.{entries-sorted, low-near, high-near}
@@ -28,10 +26,12 @@ use Rattle.box_change.specs.Inner.Steps.{Object}
 use Rattle.replies.specs.Meaning.Replies.{reply}
 
 module _ (t : Tables) (s : ℕ) (o : Object t s) (u : ℕ) (eu : u ≡ usedOf t) (p : Span) (ep : p ≡ spanOf (sizeOf t) (aabbOn t s)) (i : ℕ) (ei : i ≡ itemOf s (eqb (p .cells) 1)) where
-  pub leave-asks : (u ≤ length (t .pool)) × Sorted rowKey (take u (t .pool)) × Near (p .low) × Near (p .high) × Stands (p .low) (p .high) i (take u (t .pool))
+  pub leave-asks : Leaving (p .low) (p .high) i u (t .pool)
   leave-asks =
       let h = o .held in
-      rw (eu, ei, ep) (h .counted .used-most, entries-sorted t h, low-near t h s (o .inside) (o .occupied), high-near t h s (o .inside) (o .occupied), h .every s (o .inside) (o .occupied))
+      let l = o .inside in
+      let v = o .occupied in
+      rw (eu, ei, ep) (record { fits = h .counted .used-most; sorted = entries-sorted t h; near-low = low-near t h s l v; near-high = high-near t h s l v; stands = h .every s l v })
 
   pub taken-is :
       (k : ℕ) (ns : List (List ℕ)) (m : List ℕ) (pool : List (List ℕ)) (d : ℕ)

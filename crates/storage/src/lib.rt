@@ -11,6 +11,7 @@ pub use find::lower_bound_from;
 pub use find::upper_bound;
 pub use pool::append_entry;
 pub use pool::append_row;
+pub use pool::find_item;
 pub use pool::take_entry;
 pub use table::drop_cell;
 pub use table::enter_cell;

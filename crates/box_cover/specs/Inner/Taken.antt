@@ -2,10 +2,16 @@
 use Prim.Native.Nat.{ℕ, _<_, _≤_}
 use mathlib.Core.Path.{_≡_}
 use mathlib.Core.Bool.{false}
-use mathlib.Core.List.{List, [], _∷_, map}
-use lib.ListN.{getD}
+use mathlib.Core.List.{List, [], _∷_, _++_, map}
+use lib.ListN.{length, getD, take}
+use lib.Seq.{slice}
+use Rattle.cells.specs.declared.Cell.{Cell}
+use Rattle.cells.specs.Inner.Numbers.{Near}
+use Rattle.cells.specs.Inner.Rising.{Rising}
+use Rattle.storage.specs.Inner.Keyed.{Sorted}
 use Rattle.storage.specs.Meaning.Keyed.{filter, onList, takeOut}
 use Rattle.storage.specs.Meaning.Entries.{rowKey, isItem}
+use Rattle.box_cover.specs.Meaning.Coverage.{Stands}
 
 -- out of the lists of some keys
 abbrev pub takenFrom : List ℕ → ℕ → List (List ℕ) → List (List ℕ)
@@ -18,6 +24,25 @@ keysWith item rows = map rowKey (filter (isItem item) rows)
 
 abbrev pub takenFromAll : ℕ → List (List ℕ) → List (List ℕ)
 takenFromAll item rows = takenFrom (keysWith item rows) item rows
+
+-- it can leave the lists of the cells from a to b, at the first rows of the pool: it stands in them and in no other
+pub record Leaving (a b : Cell) (item used : ℕ) (pool : List (List ℕ)) : Type 0 where
+  pub fits : used ≤ length pool
+  pub sorted : Sorted rowKey (take used pool)
+  pub near-low : Near a
+  pub near-high : Near b
+  pub stands : Stands a b item (take used pool)
+
+-- rows that can be swept: they are in order, and no list has it twice
+pub record Sweepable (item from to : ℕ) (pool : List (List ℕ)) : Type 0 where
+  pub upward : from ≤ to
+  pub fits : to ≤ length pool
+  pub sorted : Sorted rowKey (slice from to pool)
+  pub rising : Rising (keysWith item (slice from to pool))
+
+-- the rows up to a place, without it in those from another on
+abbrev pub swept : ℕ → ℕ → ℕ → List (List ℕ) → List (List ℕ)
+swept item from to pool = take from pool ++ takenFromAll item (slice from to pool)
 
 -- no row from a place up to another has it
 abbrev pub Without : ℕ → List (List ℕ) → ℕ → ℕ → Type 0
