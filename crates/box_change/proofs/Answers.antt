@@ -25,13 +25,9 @@ use Rattle.box_change.proofs.laws.RemoveLaws.{isGood, Names, names}
 use Rattle.box_change.proofs.laws.SetAabbLaws.{answerBy, room-for-says}
 use Rattle.box_change.specs.declared.placing.Change.{Change}
 use Rattle.box_change.proofs.laws.Steps.{Movable}
-use Rattle.box_change.specs.Inner.Steps.{Judged}
+use Rattle.box_change.specs.Inner.Steps.{oldSpan, newSpan, Judged}
 
--- ---- what is told with an answer
-pub refuses : (t : Tables) (h : Handle) (b : Aabb) (k : ℕ) (c : Change) → c .answer ≡ k → 0 < k → k ≡ setAabbAnswer t h b → Judged t h b c
-refuses t h b k c e l q = record { answers = e ∙ q; spans = λ z. absurd (omega arith) }
-
-pub cells-are : {p q : Span} → p ≡ q → p .cells ≡ q .cells
+cells-are : {p q : Span} → p ≡ q → p .cells ≡ q .cells
 cells-are e = ap (λ (x : Span). x .cells) e
 
 -- a test that does not pass gives the answer, whatever comes after it
@@ -42,64 +38,73 @@ first-lost r rs = go (r .passes)
     go true n = absurd (n refl)
     go false n = refl
 
-module _ (t : Tables) (h : Handle) (b : Aabb) (held : Bool) (eh : held ≡ holds t) where
-  by-five : answerBy held (aabbInDomain b) (isGood t h) (fewCells (sizeOf t) b) (hasRoomFor t (h .slot) b) ≡ setAabbAnswer t h b
-  unfolding setAabbAnswer
-  by-five = rw eh
+by-five : (t : Tables) (h : Handle) (b : Aabb) → answerBy (holds t) (aabbInDomain b) (isGood t h) (fewCells (sizeOf t) b) (hasRoomFor t (h .slot) b) ≡ setAabbAnswer t h b
+unfolding setAabbAnswer
+by-five t h b = refl
 
-  -- ---- the answer, test by test
-  pub answer-3 : held ≡ false → 3 ≡ setAabbAnswer t h b
-  answer-3 e = rw e at by-five
+-- the tests of the tables, the box and the handle passed
+pub record Passed (t : Tables) (h : Handle) (b : Aabb) : Type 0 where
+  pub held : holds t ≡ true
+  pub inside : aabbInDomain b ≡ true
+  pub good : isGood t h ≡ true
 
-  module _ (e : held ≡ true) where
-    pub holding : Holds t
-    holding = holds-says t .yes (sym eh ∙ e)
+module _ {t : Tables} {h : Handle} {b : Aabb} (w : Passed t h b) where
+  holding : Holds t
+  holding = holds-says t .yes (w .held)
 
-    pub answer-6 : aabbInDomain b ≡ false → 6 ≡ setAabbAnswer t h b
-    answer-6 i = rw (e, i) at by-five
+  object : Names t h
+  object = names t h (w .good)
 
-    module _ (i : aabbInDomain b ≡ true) where
-      pub answer-lost : (a : ℕ) → a ≡ handleRefusal (t .nums) h → (a ≡ 0 → ⊥) → a ≡ setAabbAnswer t h b
-      answer-lost a q n =
-          q
-          ∙ sym (first-lost (handleTest (t .nums) h) (unless (fewCells (sizeOf t) b) 7 ∷ unless (hasRoomFor t (h .slot) b) 8 ∷ []) (λ z. n (q ∙ z)))
-          ∙ (rw (e, i) at by-five)
+  pub slot-inside : h .slot < length (t .reals)
+  slot-inside = rw (holding .sized .of-reals) (object .inside)
 
-      module _ (g : isGood t h ≡ true) (n : ℕ) (en : n ≡ covers (sizeOf t) b) where
-        object : Names t h
-        object = names t h g
+  pub old-inside : T (aabbInDomain (aabbOn t (h .slot)))
+  old-inside = holding .boxes (h .slot) (object .inside) (object .occupied) .in-domain
 
-        pub slot-inside : h .slot < length (t .reals)
-        slot-inside = rw (holding .sized .of-reals) (object .inside)
+  -- the sums are small
+  pub used-small : {q : Span} → q ≡ newSpan (t .map) b → q .cells ≤ 4096 → usedOf t + q .cells ≤ 12288
+  used-small eq l = omega (arith, holding .counted .used-most, holding .sized .pool-most)
 
-        pub old-inside : T (aabbInDomain (aabbOn t (h .slot)))
-        old-inside = holding .boxes (h .slot) (object .inside) (object .occupied) .in-domain
+  pub room-small : {p : Span} → p ≡ oldSpan (t .reals) (t .map) (h .slot) → length (t .pool) + p .cells ≤ 12288
+  room-small ep = omega (arith, cells-are ep, holding .boxes (h .slot) (object .inside) (object .occupied) .cells-most, holding .sized .pool-most)
 
-        pub answer-7 : 4096 < n → 7 ≡ setAabbAnswer t h b
-        answer-7 l =
-            let w : fewCells (sizeOf t) b ≡ false = lt-leb (covers (sizeOf t) b) 4096 (omega arith) in
-            rw (e, i, g, w) at by-five
+few : (t : Tables) (b : Aabb) {q : Span} → q ≡ newSpan (t .map) b → q .cells ≤ 4096 → fewCells (sizeOf t) b ≡ true
+few t b eq l = le-leb (covers (sizeOf t) b) 4096 (omega (arith, cells-are eq))
 
-        module _ (l : n ≤ 4096) (o : ℕ) (eo : o ≡ covers (sizeOf t) (aabbOn t (h .slot))) where
-          few : fewCells (sizeOf t) b ≡ true
-          few = le-leb (covers (sizeOf t) b) 4096 (omega arith)
+-- ---- the answer, test by test
+module _ {t : Tables} {h : Handle} {b : Aabb} {c : Change} where
+  refuses : (k : ℕ) → c .answer ≡ k → 0 < k → k ≡ setAabbAnswer t h b → Judged t h b c
+  refuses k e l q = record { answers = e ∙ q; spans = λ z. absurd (omega arith) }
 
-          -- the sums are small
-          pub used-small : usedOf t + n ≤ 12288
-          used-small = omega (arith, holding .counted .used-most, holding .sized .pool-most)
+  pub told-3 : c .answer ≡ 3 → holds t ≡ false → Judged t h b c
+  told-3 a e = refuses 3 a (omega arith) (rw e at (by-five t h b))
 
-          pub room-small : length (t .pool) + o ≤ 12288
-          room-small = omega (arith, holding .boxes (h .slot) (object .inside) (object .occupied) .cells-most, holding .sized .pool-most)
+  pub told-6 : c .answer ≡ 6 → holds t ≡ true → aabbInDomain b ≡ false → Judged t h b c
+  told-6 a e i = refuses 6 a (omega arith) (rw (e, i) at (by-five t h b))
 
-          pub answer-8 : length (t .pool) + o < usedOf t + n → 8 ≡ setAabbAnswer t h b
-          answer-8 m =
-              let w : hasRoomFor t (h .slot) b ≡ false = lt-leb (usedOf t + covers (sizeOf t) b) (length (t .pool) + covers (sizeOf t) (aabbOn t (h .slot))) (omega arith) in
-              rw (e, i, g, few, w) at by-five
+  pub told-lost : {k : ℕ} → c .answer ≡ k → holds t ≡ true → aabbInDomain b ≡ true → k ≡ handleRefusal (t .nums) h → (k ≡ 0 → ⊥) → Judged t h b c
+  told-lost {k} a e i q n =
+      refuses k a (omega (arith, n))
+      (q
+      ∙ sym (first-lost (handleTest (t .nums) h) (unless (fewCells (sizeOf t) b) 7 ∷ unless (hasRoomFor t (h .slot) b) 8 ∷ []) (λ z. n (q ∙ z)))
+      ∙ (rw (e, i) at (by-five t h b)))
 
-          pub answer-0 : usedOf t + n ≤ length (t .pool) + o → 0 ≡ setAabbAnswer t h b
-          answer-0 m =
-              let w : hasRoomFor t (h .slot) b ≡ true = le-leb (usedOf t + covers (sizeOf t) b) (length (t .pool) + covers (sizeOf t) (aabbOn t (h .slot))) (omega arith) in
-              rw (e, i, g, few, w) at by-five
+  module _ (w : Passed t h b) {q : Span} (eq : q ≡ newSpan (t .map) b) where
+    pub told-7 : c .answer ≡ 7 → 4096 < q .cells → Judged t h b c
+    told-7 a l =
+        let x : fewCells (sizeOf t) b ≡ false = lt-leb (covers (sizeOf t) b) 4096 (omega (arith, cells-are eq)) in
+        refuses 7 a (omega arith) (rw (w .held, w .inside, w .good, x) at (by-five t h b))
+
+    module _ (l : q .cells ≤ 4096) {p : Span} (ep : p ≡ oldSpan (t .reals) (t .map) (h .slot)) where
+      pub told-8 : c .answer ≡ 8 → length (t .pool) + p .cells < usedOf t + q .cells → Judged t h b c
+      told-8 a m =
+          let x : hasRoomFor t (h .slot) b ≡ false = lt-leb (usedOf t + covers (sizeOf t) b) (length (t .pool) + covers (sizeOf t) (aabbOn t (h .slot))) (omega (arith, cells-are eq, cells-are ep)) in
+          refuses 8 a (omega arith) (rw (w .held, w .inside, w .good, few t b eq l, x) at (by-five t h b))
+
+      pub told-0 : c .answer ≡ 0 → c .old ≡ p → c .new ≡ q → usedOf t + q .cells ≤ length (t .pool) + p .cells → Judged t h b c
+      told-0 a eo en m =
+          let x : hasRoomFor t (h .slot) b ≡ true = le-leb (usedOf t + covers (sizeOf t) b) (length (t .pool) + covers (sizeOf t) (aabbOn t (h .slot))) (omega (arith, cells-are eq, cells-are ep)) in
+          record { answers = a ∙ (rw (w .held, w .inside, w .good, few t b eq l, x) at (by-five t h b)); spans = λ z. (eo ∙ ep, en ∙ eq) }
 
 -- ---- the outcome
 all-passed : (a i g f r : Bool) → answerBy a i g f r ≡ 0 → (a ≡ true) × (i ≡ true) × (g ≡ true) × (f ≡ true) × (r ≡ true)

@@ -78,16 +78,7 @@ module _ (t : Tables) (h : Holds t) (s : ℕ) (inside : s < slotsOf t) (is-live 
 
   taken-sized : Sized (takenOut t s)
   unfolding takenOut
-  taken-sized =
-      rw (emptied-length (t .nums) s, pool-length)
-      (record {
-        some = h .sized .some;
-        most = h .sized .most;
-        of-reals = h .sized .of-reals;
-        of-map = counted-length (emptiedMap (t .nums) (t .map) s) _ ∙ emptied-map-length (t .nums) (t .map) s ∙ h .sized .of-map;
-        pool-some = h .sized .pool-some;
-        pool-most = h .sized .pool-most;
-      })
+  taken-sized = rw (emptied-length (t .nums) s, counted-length (emptiedMap (t .nums) (t .map) s) (length (entriesWithout t s)), emptied-map-length (t .nums) (t .map) s, pool-length) (h .sized)
 
   taken-counted : Counted (takenOut t s)
   taken-counted = record { size = rw taken-size (h .counted .size); used-most = rw (taken-used, pool-length) (without-fits t h s inside is-live) }
