@@ -11,7 +11,7 @@ use lib.ListN.{length}
 use borrow.Author.Tests.{eqb-true, ne-eqb}
 use Rattle.basics.specs.Meaning.Refusals.{pick}
 use Rattle.basics.specs.Meaning.Says.{Decided}
-use Rattle.basics.proofs.laws.Says.{apart, d-lt}
+use Rattle.basics.proofs.laws.Says.{d-lt}
 use Rattle.geometry.specs.Meaning.Domain.{aabbInDomain}
 use Rattle.cells.specs.declared.Cell.{Cell}
 use Rattle.cells.proofs.laws.Numbers.{Fits, near-fits}

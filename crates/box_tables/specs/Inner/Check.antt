@@ -1,5 +1,5 @@
 -- What the parts of the check ask: each slot and its box, and each entry of the pool as the next on the way of its box. Assumes nothing.
-use Prim.Native.Nat.{ℕ, _+_, _<_, _≤_}
+use Prim.Native.Nat.{ℕ, _+_, _/_, _<_, _≤_}
 use mathlib.Core.Path.{_≡_}
 use mathlib.Core.List.{List, [], _∷_, _++_, map}
 use lib.Dec.{T}
@@ -57,11 +57,22 @@ module _ (nums : List (List ℕ)) (reals : List (List Float)) where
     pub of-map : length map ≡ head + wordsFor (length nums)
     pub size : SizeInDomain (getD map 0 0)
 
+  -- slot s can be read, and its bit
+  pub record Readable (map : List ℕ) (s : ℕ) : Type 0 where
+    pub of-nums : s < length nums
+    pub of-reals : s < length reals
+    pub of-map : head + s / 64 < length map
+    pub small : s < mostBoxes
+
   -- the ways of the first i slots are those of their boxes, each at its item; at no other item does a key come
   pub record Ways (size : ℕ) (nexts stops jumps ends : List ℕ) (i : ℕ) : Type 0 where
     pub long : Long nexts stops jumps ends
     pub are : (s : ℕ) → s < i → rowAt nexts stops jumps ends (itemIn (wayAt nums reals size s)) ≡ trackOf (wayAt nums reals size s)
     pub blank : (k : ℕ) → ((s : ℕ) → s < i → itemIn (wayAt nums reals size s) ≡ k → ⊥) → k < 512 → rowAt nexts stops jumps ends k ≡ blankRow
+
+  -- by the cell size that the map's head word has
+  abbrev pub WaysTo : List ℕ → List ℕ → List ℕ → List ℕ → List ℕ → ℕ → Type 0
+  WaysTo map nexts stops jumps ends i = Ways (getD map 0 0) nexts stops jumps ends i
 
 -- the way that is wanted, where P holds; else one whose step is 0
 pub record Given (P : Type 0) (want way : List ℕ) : Type 0 where
