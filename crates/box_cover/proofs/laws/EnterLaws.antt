@@ -18,6 +18,7 @@ use Rattle.storage.specs.Meaning.Keyed.{All, filter, appendAll}
 use Rattle.storage.specs.Inner.Keyed.{Sorted}
 use Rattle.storage.specs.Meaning.Entries.{rowKey, isItem}
 use Rattle.storage.proofs.laws.FilterLaws.{all-any, all-over, filter-whole, filter-none}
+use Rattle.storage.proofs.laws.KeepsLaws.{sorted-map}
 use Rattle.storage.proofs.laws.AppendLaws.{sorted-appendAll, length-appendAll, all-appendAll}
 use Rattle.storage.proofs.laws.MergeLaws.{appendAll-sort, sort-sorted}
 use Rattle.box_cover.specs.Meaning.Coverage.{rowIn, entered, Stands}
@@ -36,13 +37,16 @@ module _ (i : ℕ) where
   rows-other j n cs = filter-none (isItem j) (rowsIn i cs) (all-over (λ r. isItem j r ≡ false) (rowIn i) cs (all-any (λ c. isItem j (rowIn i c) ≡ false) (λ c. ne-eqb i j (λ e. n (sym e))) cs))
 
 -- in the lists of keys that rise
-keys-above : (i k : ℕ) (ks : List ℕ) → Above k ks → All (λ r. k ≤ rowKey r) (map (rowAt i) ks)
-keys-above i k [] a = tt
-keys-above i k (j ∷ ks) a = (omega (arith, a .0), keys-above i k ks (a .1))
+keys-above : (k : ℕ) (ks : List ℕ) → Above k ks → All (λ j. k ≤ j) ks
+keys-above k [] a = tt
+keys-above k (j ∷ ks) a = (omega (arith, a .0), keys-above k ks (a .1))
+
+pub rising-sorted : (ks : List ℕ) → Rising ks → Sorted (λ k. k) ks
+rising-sorted [] r = tt
+rising-sorted (k ∷ ks) r = (keys-above k ks (r .0), rising-sorted ks (r .1))
 
 pub rows-sorted : (i : ℕ) (ks : List ℕ) → Rising ks → Sorted rowKey (map (rowAt i) ks)
-rows-sorted i [] r = tt
-rows-sorted i (k ∷ ks) r = (keys-above i k ks (r .0), rows-sorted i ks (r .1))
+rows-sorted i ks r = sorted-map (rowAt i) (λ k. k) rowKey (λ k. refl) ks (rising-sorted ks r)
 
 pub range-sorted : (a b : Cell) → Near a → Near b → (i : ℕ) → Sorted rowKey (rowsIn i (rangeCells a b))
 range-sorted a b na nb i = rw (map-map (rowAt i) keyOf (rangeCells a b)) at (rows-sorted i (map keyOf (rangeCells a b)) (range-rising a b (near-fits a na) (near-fits b nb)))
