@@ -8,4 +8,3 @@ pub mod HoldsLaws
 pub mod PassLaws
 pub mod CornerLaws
 pub mod NumberLaws
-pub mod Way

@@ -21,11 +21,10 @@ use Rattle.box_tables.specs.Meaning.Tables.{Tables, sizeOf, usedOf, slot
 use Rattle.box_tables.specs.Meaning.Tables.{Sized}
 use Rattle.box_tables.specs.Meaning.Holds.{Holds}
 use Rattle.box_tables.specs.Inner.Way.{itemIn, trackOf, OnTrack, spanOf, wayOf, noWay, wayAt}
-use Rattle.box_tables.proofs.laws.Way.{Bounded}
 use Rattle.box_tables.specs.Inner.Check.{Counts, SlotsOk, Room, rowAt, blankRow, Ways, keysOf, Passes, Ready}
 use Rattle.box_tables.proofs.laws.BoxLaws.{item-slot}
 use Rattle.box_tables.proofs.laws.HoldsLaws.{Named, StandsOn, entries-named, unnamed}
-use Rattle.box_tables.proofs.laws.WayLaws.{to-come-one, way-of-box, way-live, way-none, way-slot, slot-bounded}
+use Rattle.box_tables.proofs.laws.WayLaws.{Bounded, to-come-one, way-of-box, way-live, way-none, way-slot, slot-bounded}
 use Rattle.box_tables.proofs.laws.PassLaws.{keys-some}
 
 module _ (t : Tables) where
@@ -62,7 +61,7 @@ module _ (t : Tables) where
   pub slot-room : Sized t → CountsOf → Room (t .nums) (t .reals) (t .map)
   slot-room s c = record { most = s .most; of-reals = s .of-reals; of-map = s .of-map; size = c .in-domain }
 
-  module _ (z : Sized t) (c : CountsOf) (o : SlotsOf) (nexts stops jumps ends : List ℕ) (w : WaysOf nexts stops jumps ends) where
+  module _ (z : Sized t) (c : CountsOf) (o : SlotsOf) {nexts stops jumps ends : List ℕ} (w : WaysOf nexts stops jumps ends) where
     abbrev row : ℕ → List ℕ
     row i = rowAt nexts stops jumps ends i
 
@@ -154,7 +153,7 @@ module _ (t : Tables) where
     pub slots-of : SlotsOf
     slots-of = record { each = λ s l. record { slot = h .slots .each s l; if-live = λ p. let b = h .boxes s l p in record { in-domain = b .in-domain; cells-most = b .cells-most } }; past = h .slots .past }
 
-    module _ (nexts stops jumps ends : List ℕ) (w : WaysOf nexts stops jumps ends) where
+    module _ {nexts stops jumps ends : List ℕ} (w : WaysOf nexts stops jumps ends) where
       -- an item that is no slot's has no entry
       nobody : (i : ℕ) → (Of i → ⊥) → filter (isItem i) (entriesIn t) ≡ []
       nobody i n =
@@ -172,16 +171,16 @@ module _ (t : Tables) where
           let s = i / 2 in
           let e : itemOn t s ≡ i = sym (live-item s q) ∙ p .1 in
           subst (λ (k : ℕ). OnTrack (rowAt nexts stops jumps ends k) (keysOf (t .pool) (usedOf t) k)) e
-          (subst (OnTrack (rowAt nexts stops jumps ends (itemOn t s))) (sym (h .every s (p .0) q)) (range-on (h .sized) counts-of slots-of nexts stops jumps ends w s (p .0) q))
+          (subst (OnTrack (rowAt nexts stops jumps ends (itemOn t s))) (sym (h .every s (p .0) q)) (range-on (h .sized) counts-of slots-of w s (p .0) q))
       every-own i p (inr n) =
           let s = i / 2 in
           let e : itemOf s false ≡ i = sym (ap itemIn (way-none (t .nums) (t .reals) (sizeOf t) s n)) ∙ p .1 in
-          none-on i (subst (λ (k : ℕ). filter (isItem k) (entriesIn t) ≡ []) e (unnamed t h s n false)) (idle-none (h .sized) counts-of slots-of nexts stops jumps ends w i p n)
+          none-on i (subst (λ (k : ℕ). filter (isItem k) (entriesIn t) ≡ []) e (unnamed t h s n false)) (idle-none (h .sized) counts-of slots-of w i p n)
 
       pub passes-of : PassesOf nexts stops jumps ends
       passes-of =
           record {
             ordered = h .ordered;
             inside = λ j l. let e = h .each j l in omega (arith, e .inside, h .sized .most, ap (λ (k : ℕ). k / 2) (e .item) ∙ item-slot (e .slot) (eqb (covers (sizeOf t) (aabbOn t (e .slot))) 1));
-            every = λ i l. elim (d-of i) [ inl p ↦ every-own i p (d-eq (phaseAt (t .nums) (i / 2)) live) | inr n ↦ none-on i (nobody i n) (idle-blank (h .sized) counts-of slots-of nexts stops jumps ends w i l n) ];
+            every = λ i l. elim (d-of i) [ inl p ↦ every-own i p (d-eq (phaseAt (t .nums) (i / 2)) live) | inr n ↦ none-on i (nobody i n) (idle-blank (h .sized) counts-of slots-of w i l n) ];
           }

@@ -54,7 +54,28 @@ module _ (a b c d : Cell) (e : a ≡ c) (f : b ≡ d) where
       (subst (λ (k : Cell). Given (cellsIn k b ≤ mostCells) (wayOf s (spanBy k b)) way) e g)
 
 -- ---- the cells between two corners, where their keys, columns and lines are known by equations
-module _ (a b : Cell) (u : Upright a b) (l h ch cl rh rl : ℕ) (el : l ≡ keyOf a) (eh : h ≡ keyOf b) (ech : ch ≡ columnOf h) (ecl : cl ≡ columnOf l) (erh : rh ≡ lineOf h) (erl : rl ≡ lineOf l) where
+column-is : (c : Cell) {k x : ℕ} → Fits c → k ≡ keyOf c → x ≡ columnOf k → x ≡ upward (c .x)
+column-is c f e g = g ∙ ap columnOf e ∙ key-column c f
+
+line-is : (c : Cell) {k y : ℕ} → Fits c → k ≡ keyOf c → y ≡ lineOf k → y ≡ upward (c .y)
+line-is c f e g = g ∙ ap lineOf e ∙ key-row c f
+
+pub wide-some : {a b : Cell} {l h ch cl : ℕ} → Upright a b → l ≡ keyOf a → h ≡ keyOf b → ch ≡ columnOf h → cl ≡ columnOf l → cl ≤ ch
+wide-some {a} {b} u el eh ech ecl = omega (arith, column-is a (near-fits a (u .low)) el ecl, column-is b (near-fits b (u .high)) eh ech, u .x)
+
+pub record Between (a b : Cell) (l h ch cl rh rl : ℕ) : Type 0 where
+  pub upright : Upright a b
+  pub low-key : l ≡ keyOf a
+  pub high-key : h ≡ keyOf b
+  pub high-column : ch ≡ columnOf h
+  pub low-column : cl ≡ columnOf l
+  pub high-line : rh ≡ lineOf h
+  pub low-line : rl ≡ lineOf l
+
+module _ {a b : Cell} {l h ch cl rh rl : ℕ} (k : Between a b l h ch cl rh rl) where
+  abbrev u : Upright a b
+  u = k .upright
+
   fa : Fits a
   fa = near-fits a (u .low)
 
@@ -62,19 +83,16 @@ module _ (a b : Cell) (u : Upright a b) (l h ch cl rh rl : ℕ) (el : l ≡ keyO
   fb = near-fits b (u .high)
 
   column-low : cl ≡ upward (a .x)
-  column-low = ecl ∙ ap columnOf el ∙ key-column a fa
+  column-low = column-is a fa (k .low-key) (k .low-column)
 
   column-high : ch ≡ upward (b .x)
-  column-high = ech ∙ ap columnOf eh ∙ key-column b fb
+  column-high = column-is b fb (k .high-key) (k .high-column)
 
   row-low : rl ≡ upward (a .y)
-  row-low = erl ∙ ap lineOf el ∙ key-row a fa
+  row-low = line-is a fa (k .low-key) (k .low-line)
 
   row-high : rh ≡ upward (b .y)
-  row-high = erh ∙ ap lineOf eh ∙ key-row b fb
-
-  pub wide-some : cl ≤ ch
-  wide-some = omega (arith, column-low, column-high, u .x)
+  row-high = line-is b fb (k .high-key) (k .high-line)
 
   pub tall-some : rl ≤ rh
   tall-some = omega (arith, row-low, row-high, u .y)
@@ -104,7 +122,7 @@ module _ (a b : Cell) (u : Upright a b) (l h ch cl rh rl : ℕ) (el : l ≡ keyO
   pub way-by : (s i : ℕ) → i ≡ itemOf s (eqb ((ch - cl + 1) * (rh - rl + 1)) 1) → l ∷ h ∷ (4294967296 - (ch - cl)) ∷ i ∷ [] ≡ wayOf s (spanBy a b)
   way-by s i ei =
       let item = ei ∙ ap (λ (n : ℕ). itemOf s (eqb n 1)) many in
-      λ z. el z ∷ eh z ∷ jump-is z ∷ item z ∷ []
+      λ z. k .low-key z ∷ k .high-key z ∷ jump-is z ∷ item z ∷ []
 
 -- ---- a box of one cell
 count-one : (z : ℤ) → mag z < 2147483648 → countFrom z z ≡ 1

@@ -22,7 +22,7 @@ use Rattle.cells.specs.Meaning.Key.{keyOf}
 use Rattle.cells.specs.Inner.Key.{cellOfKey}
 use Rattle.cells.proofs.laws.KeyLaws.{key-lt, key-cell, cell-key-fits}
 use Rattle.cells.proofs.laws.RangeKeyLaws.{range-rising}
-use Rattle.cells.specs.Inner.Rising.{Above, Rising}
+use Rattle.cells.specs.Inner.Rising.{Rising}
 use Rattle.slots.specs.Meaning.Slot.{live, phaseAt, SlotsHold}
 use Rattle.storage.specs.Meaning.Keyed.{All, filter, under}
 use Rattle.storage.specs.Inner.Keyed.{Sorted}
@@ -33,6 +33,7 @@ use Rattle.storage.proofs.laws.KeepsLaws.{sorted-map}
 use Rattle.storage.proofs.laws.TakeOutLaws.{has}
 use Rattle.storage.proofs.laws.WindowLaws.{member-has, keyIn, range-fits, window-cell, window-key, key-window}
 use Rattle.box_cover.specs.Meaning.Coverage.{Stands}
+use Rattle.box_cover.proofs.laws.EnterLaws.{rising-sorted}
 use Rattle.box_cover.proofs.laws.ListLaws.{filter-swap, filter-empty, has-map, rising-once}
 use Rattle.box_tables.specs.Meaning.Tables.{Tables, sizeOf, slotsOf, entriesIn, aabbOn, lowCell, highCell, itemOn, slotOf, Sized}
 use Rattle.box_tables.specs.Meaning.Holds.{Counted, BoxHolds, Holds}
@@ -58,14 +59,6 @@ rising-filter k (x ∷ ks) r =
     let h : length (filter (λ y. eqb y k) ks) ≤ 0 = omega (arith, rw e at one) in
     rw (e, filter-none (λ y. eqb y k) ks (filter-empty (λ y. eqb y k) ks h)) (ap (λ (n : ℕ). n ∷ []) (eqb-true x k e)))
     (λ e. rw e (rising-filter k ks (r .1)))
-
-above-all : (k : ℕ) (ks : List ℕ) → Above k ks → All (λ j. k ≤ j) ks
-above-all k [] a = tt
-above-all k (j ∷ ks) a = (omega (arith, a .0), above-all k ks (a .1))
-
-rising-sorted : (ks : List ℕ) → Rising ks → Sorted (λ k. k) ks
-rising-sorted [] r = tt
-rising-sorted (k ∷ ks) r = (above-all k ks (r .0), rising-sorted ks (r .1))
 
 -- of rows that are alike in two ways, one way tells whether there is one of them or none, and so does the other
 module _ {A : Type 0} (f g : A → ℕ) (v w : ℕ) where

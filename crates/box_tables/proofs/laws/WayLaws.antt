@@ -7,7 +7,7 @@ use mathlib.Core.List.{List, [], _∷_, _++_, map}
 use native.Mathlib.Numerals.{add-one}
 use native.Mathlib.Omega.{arith}
 use lib.Dec.{T, eqb, leb→le}
-use lib.IntN.{ℤ, pos, negsuc}
+use lib.IntN.{ℤ}
 use lib.Signed.{mag, leZ}
 use lib.Ieee.{Float}
 use borrow.Author.Tests.{eq-eqb, ne-eqb}
@@ -27,8 +27,14 @@ use Rattle.geometry.specs.declared.Aabb.{Aabb}
 use Rattle.geometry.specs.Meaning.Domain.{aabbInDomain}
 use Rattle.box_tables.specs.Meaning.Tables.{aabbAt, lowCell, highCell, covers}
 use Rattle.box_tables.proofs.laws.BoxLaws.{low-near, high-near, corners-x, corners-y, item-slot}
-use Rattle.box_tables.specs.Inner.Way.{itemIn, behind, ToCome, trackOf, OnTrack, keyMost, spanOf, wayOf, noWay, wayAt}
-use Rattle.box_tables.proofs.laws.Way.{Bounded}
+use Rattle.box_tables.specs.Inner.Way.{nextIn, lastIn, jumpIn, itemIn, behind, ToCome, trackOf, OnTrack, keyMost, spanOf, wayOf, noWay, wayAt}
+
+-- keys and a step from which a whole pool of steps fits 64 bits
+pub record Bounded (way : List ℕ) : Type 0 where
+  pub next : nextIn way ≤ keyMost
+  pub last : lastIn way ≤ keyMost
+  pub jump-some : 1 ≤ jumpIn way
+  pub jump : jumpIn way ≤ 4294967296
 
 -- ---- a step goes on, so that what is to come is one list
 behind-up : (stop jump k : ℕ) → 1 ≤ jump → k < behind stop jump k

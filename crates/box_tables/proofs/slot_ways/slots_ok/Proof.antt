@@ -7,9 +7,8 @@ use borrow.Author.Count.{below-none, below-more}
 use borrow.Author.Needs.{needs}
 use Rattle.basics.proofs.laws.Says.{says-no, apart}
 use Rattle.box_tables.specs.Inner.Way.{itemIn, wayAt}
-use Rattle.box_tables.proofs.laws.Way.{Bounded}
 use Rattle.box_tables.specs.Inner.Check.{SlotOk, Ways}
-use Rattle.box_tables.proofs.laws.WayLaws.{slot-bounded}
+use Rattle.box_tables.proofs.laws.WayLaws.{Bounded, slot-bounded}
 use Rattle.box_tables.proofs.Shared.{item-of-slot, ways-more}
 use Rattle.box_tables.proofs.slot_ways.slots_ok.Statement.{statement}
 use Rattle.box_tables.proofs.slot_ways.slots_ok.Tie as tie
