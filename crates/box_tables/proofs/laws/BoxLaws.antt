@@ -17,11 +17,20 @@ use Rattle.cells.specs.Inner.Numbers.{Near}
 use Rattle.box_tables.specs.Meaning.Tables.{lowCell, highCell, itemOf}
 
 module _ (b : Aabb) (h : T (aabbInDomain b)) where
+  corners : T (positionInDomain (b .ll) && positionInDomain (b .ur))
+  corners = and-l (positionInDomain (b .ll) && positionInDomain (b .ur)) (le (b .ll .x) (b .ur .x) && le (b .ll .y) (b .ur .y)) h
+
+  pub low-inside : T (positionInDomain (b .ll))
+  low-inside = and-l (positionInDomain (b .ll)) (positionInDomain (b .ur)) corners
+
+  pub high-inside : T (positionInDomain (b .ur))
+  high-inside = and-r (positionInDomain (b .ll)) (positionInDomain (b .ur)) corners
+
   pub low-reached : Reached (b .ll)
-  low-reached = position-reached (b .ll) (and-l (positionInDomain (b .ll)) (positionInDomain (b .ur)) (and-l (positionInDomain (b .ll) && positionInDomain (b .ur)) (le (b .ll .x) (b .ur .x) && le (b .ll .y) (b .ur .y)) h))
+  low-reached = position-reached (b .ll) low-inside
 
   pub high-reached : Reached (b .ur)
-  high-reached = position-reached (b .ur) (and-r (positionInDomain (b .ll)) (positionInDomain (b .ur)) (and-l (positionInDomain (b .ll) && positionInDomain (b .ur)) (le (b .ll .x) (b .ur .x) && le (b .ll .y) (b .ur .y)) h))
+  high-reached = position-reached (b .ur) high-inside
 
   upright : T (le (b .ll .x) (b .ur .x) && le (b .ll .y) (b .ur .y))
   upright = and-r (positionInDomain (b .ll) && positionInDomain (b .ur)) (le (b .ll .x) (b .ur .x) && le (b .ll .y) (b .ur .y)) h

@@ -2,18 +2,16 @@
 -- keys; and the way of a box of one cell. Assumes nothing.
 use Prim.Native.Nat.{ℕ, _+_, _-_, _*_, _≤_, _<_}
 use mathlib.Core.Path.{_≡_, sym, ap, ap₂, _∙_, subst}
-use mathlib.Core.Bool.{true, _&&_}
+use mathlib.Core.Bool.{true}
 use mathlib.Core.List.{List, [], _∷_}
 use native.Mathlib.Omega.{arith}
 use lib.Dec.{T, eqb}
 use lib.IntN.{ℤ}
 use lib.Signed.{mag}
-use lib.Ieee.{le}
-use lib.Ieee.Fits.{and-l, and-r}
 use borrow.Author.Tests.{eq-eqb}
 use Rattle.basics.specs.Meaning.Limits.{mostCells}
 use Rattle.geometry.specs.declared.Aabb.{Aabb}
-use Rattle.geometry.specs.Meaning.Domain.{inDomain, positionInDomain, aabbInDomain}
+use Rattle.geometry.specs.Meaning.Domain.{inDomain, aabbInDomain}
 use Rattle.geometry.proofs.laws.DomainLaws.{position-parts}
 use Rattle.cells.specs.declared.Cell.{Cell}
 use Rattle.cells.specs.Inner.Numbers.{Near}
@@ -26,19 +24,16 @@ use Rattle.cells.proofs.laws.RangeKeyLaws.{count-up, near-cells}
 use Rattle.box_tables.specs.Meaning.Tables.{lowCell, highCell, covers, itemOf}
 use Rattle.box_tables.specs.Inner.Way.{spanOf, spanBy, Upright, wayOf}
 use Rattle.box_tables.specs.Inner.Check.{Given}
-use Rattle.box_tables.proofs.laws.BoxLaws.{low-near, high-near}
+use Rattle.box_tables.proofs.laws.BoxLaws.{low-inside, high-inside, low-near, high-near}
 use Rattle.box_tables.proofs.laws.WayLaws.{rises-x, rises-y}
 
 -- ---- a box of the domain
 module _ (b : Aabb) (h : T (aabbInDomain b)) where
-  corners : T (positionInDomain (b .ll) && positionInDomain (b .ur))
-  corners = and-l (positionInDomain (b .ll) && positionInDomain (b .ur)) (le (b .ll .x) (b .ur .x) && le (b .ll .y) (b .ur .y)) h
-
   pub low-domain : T (inDomain (b .ll .x)) × T (inDomain (b .ll .y))
-  low-domain = position-parts (b .ll) (and-l (positionInDomain (b .ll)) (positionInDomain (b .ur)) corners)
+  low-domain = position-parts (b .ll) (low-inside b h)
 
   pub high-domain : T (inDomain (b .ur .x)) × T (inDomain (b .ur .y))
-  high-domain = position-parts (b .ur) (and-r (positionInDomain (b .ll)) (positionInDomain (b .ur)) corners)
+  high-domain = position-parts (b .ur) (high-inside b h)
 
   pub corners-upright : (size : ℕ) → 1 ≤ size → Upright (lowCell size b) (highCell size b)
   corners-upright size s = record { low = low-near b h size; high = high-near b h size; x = rises-x size s b h; y = rises-y size s b h }

@@ -1,7 +1,7 @@
 -- Laws of the pass over the entries: each goes one key on in the way of its item. Assumes nothing.
 use Prim.Native.Nat.{ℕ, _+_, _-_, _*_, _<_, _≤_}
 use mathlib.Core.Path.{_≡_, refl, sym, ap, _∙_, subst}
-use mathlib.Core.Logic.{inl, inr}
+use mathlib.Core.Logic.{inl, inr, _↔_, Iff·rfl, Iff·trans}
 use mathlib.Core.Bool.{Bool, true, false}
 use mathlib.Core.List.{List, [], _∷_, _++_, map, map-append, append-assoc, append-nil}
 use native.Mathlib.Numerals.{add-one}
@@ -19,8 +19,8 @@ use Rattle.storage.specs.Meaning.Keyed.{filter}
 use Rattle.storage.specs.Meaning.Entries.{rowKey, isItem}
 use Rattle.storage.specs.Meaning.Packed.{first, second}
 use Rattle.storage.proofs.laws.FilterLaws.{filter-append}
-use Rattle.box_tables.specs.Inner.Way.{behind, ToCome, keyMost}
-use Rattle.box_tables.specs.Inner.Check.{keysOf, Passes, Ready, Gone, Met}
+use Rattle.box_tables.specs.Inner.Way.{behind, keyMost}
+use Rattle.box_tables.specs.Inner.Check.{keysOf, Passes, Ready, ComesAt, Gone, Met}
 
 -- ---- the keys of an item, with one entry more
 module _ (pool : List (List ℕ)) (j i : ℕ) (h : j < length pool) where
@@ -77,10 +77,10 @@ going-none pool stops jumps nexts used r =
       at-first = λ e. refl;
       at-last = λ h. absurd (omega arith);
       reach = λ i h. omega (arith, r .reach i h);
-      gone = record { ordered = λ a b h. absurd (omega arith); inside = below-none _; forth = λ i h end l p. p; back = λ i h end l p. p };
+      gone = record { ordered = λ a b h. absurd (omega arith); inside = below-none _; comes = λ i h end l. Iff·rfl };
     }
 
-module _ (pool : List (List ℕ)) (stops jumps nexts₀ nexts : List ℕ) (j before : ℕ) (g : Going pool stops jumps nexts₀ nexts j before) where
+module _ {pool : List (List ℕ)} {stops jumps nexts₀ nexts : List ℕ} {j before : ℕ} (g : Going pool stops jumps nexts₀ nexts j before) where
   -- an entry that is not before the last is not before any
   up-to : (a : ℕ) → a < j → first pool a ≤ before
   up-to a h = elim (d-lt a (j - 1)) [ inl q ↦ omega (arith, g .at-last (omega arith), g .gone .ordered a (j - 1) (omega arith) q) | inr q ↦ let e : a ≡ j - 1 = omega (arith, q) in omega (arith, g .at-last (omega arith), ap (first pool) e) ]
@@ -106,27 +106,17 @@ module _ (pool : List (List ℕ)) (stops jumps nexts₀ nexts : List ℕ) (j bef
     more-other : (a : ℕ) → (a ≡ i → ⊥) → (l : List ℕ) → keysOf pool (j + 1) a ++ l ≡ keysOf pool j a ++ l
     more-other a d l = ap (λ (x : List ℕ). x ++ l) (keys-other pool j a h (λ e. d (sym (own ∙ e))))
 
-    abbrev Coming : ℕ → ℕ → ℕ → List ℕ → Type 0
-    Coming a end n l = ToCome (getD stops a 0) (getD jumps a 0) end n l
-
     -- the key that is passed, and what is behind it
-    passed : (end : ℕ) (l : List ℕ) → Coming i end (getD nexts i 0) (first pool j ∷ l) → Coming i end k l
-    passed end l p = subst (λ (n : ℕ). Coming i end n l) (ap (behind (getD stops i 0) (getD jumps i 0)) (sym is-key) ∙ sym is) (p .1)
+    step : (end : ℕ) (l : List ℕ) → ComesAt stops jumps i end (getD nexts i 0) (first pool j ∷ l) ↔ ComesAt stops jumps i end k l
+    step end l =
+        let e : behind (getD stops i 0) (getD jumps i 0) (getD nexts i 0) ≡ k = ap (behind (getD stops i 0) (getD jumps i 0)) (sym is-key) ∙ sym is in
+        (λ p. subst (λ (n : ℕ). ComesAt stops jumps i end n l) e (p .1), λ p. (is-key, subst (λ (n : ℕ). ComesAt stops jumps i end n l) (sym e) p))
 
-    taken : (end : ℕ) (l : List ℕ) → Coming i end k l → Coming i end (getD nexts i 0) (first pool j ∷ l)
-    taken end l p = (is-key, subst (λ (n : ℕ). Coming i end n l) (is ∙ ap (behind (getD stops i 0) (getD jumps i 0)) is-key) p)
-
-    forth-more : (a : ℕ) → a < 512 → (end : ℕ) (l : List ℕ) → Coming a end (getD nexts₀ a 0) (keysOf pool (j + 1) a ++ l) → Coming a end (getD on a 0) l
-    forth-more =
-        every-item (λ a n. (end : ℕ) (l : List ℕ) → Coming a end (getD nexts₀ a 0) (keysOf pool (j + 1) a ++ l) → Coming a end n l)
-        (λ end l p. passed end l (g .gone .forth i inside end (first pool j ∷ l) (subst (Coming i end (getD nexts₀ i 0)) (more-own l) p)))
-        (λ a d q end l p. g .gone .forth a q end l (subst (Coming a end (getD nexts₀ a 0)) (more-other a d l) p))
-
-    back-more : (a : ℕ) → a < 512 → (end : ℕ) (l : List ℕ) → Coming a end (getD on a 0) l → Coming a end (getD nexts₀ a 0) (keysOf pool (j + 1) a ++ l)
-    back-more =
-        every-item (λ a n. (end : ℕ) (l : List ℕ) → Coming a end n l → Coming a end (getD nexts₀ a 0) (keysOf pool (j + 1) a ++ l))
-        (λ end l p. subst (Coming i end (getD nexts₀ i 0)) (sym (more-own l)) (g .gone .back i inside end (first pool j ∷ l) (taken end l p)))
-        (λ a d q end l p. subst (Coming a end (getD nexts₀ a 0)) (sym (more-other a d l)) (g .gone .back a q end l p))
+    comes-more : (a : ℕ) → a < 512 → (end : ℕ) (l : List ℕ) → ComesAt stops jumps a end (getD nexts₀ a 0) (keysOf pool (j + 1) a ++ l) ↔ ComesAt stops jumps a end (getD on a 0) l
+    comes-more =
+        every-item (λ a n. (end : ℕ) (l : List ℕ) → ComesAt stops jumps a end (getD nexts₀ a 0) (keysOf pool (j + 1) a ++ l) ↔ ComesAt stops jumps a end n l)
+        (λ end l. subst (λ (m : List ℕ). ComesAt stops jumps i end (getD nexts₀ i 0) m ↔ ComesAt stops jumps i end k l) (sym (more-own l)) (Iff·trans (g .gone .comes i inside end (first pool j ∷ l)) (step end l)))
+        (λ a d q end l. subst (λ (m : List ℕ). ComesAt stops jumps a end (getD nexts₀ a 0) m ↔ ComesAt stops jumps a end (getD nexts a 0) l) (sym (more-other a d l)) (g .gone .comes a q end l))
 
     pub going-more : Going pool stops jumps nexts₀ on (j + 1) (first pool j)
     going-more =
@@ -138,13 +128,12 @@ module _ (pool : List (List ℕ)) (stops jumps nexts₀ nexts : List ℕ) (j bef
           gone = record {
             ordered = λ a b q l. below-more (λ b. a < b → first pool a ≤ first pool b) j (λ b q. g .gone .ordered a b q) (λ l. omega (arith, up-to a l, in-order)) b q l;
             inside = below-more (λ a. second pool a < 512) j (g .gone .inside) (subst (λ (n : ℕ). n < 512) own inside);
-            forth = forth-more;
-            back = back-more;
+            comes = comes-more;
           };
         }
 
   -- ---- where the whole passes, so does the next entry
-  module _ (ends : List ℕ) (used : ℕ) (room : used ≤ length pool) (v : Passes pool nexts₀ stops jumps ends used) (l : j < used) where
+  module _ {ends : List ℕ} {used : ℕ} (room : used ≤ length pool) (v : Passes pool nexts₀ stops jumps ends used) (l : j < used) where
     pub next-ordered : before ≤ first pool j
     next-ordered = go (d-eq j 0)
       where
@@ -155,18 +144,18 @@ module _ (pool : List (List ℕ)) (stops jumps nexts₀ nexts : List ℕ) (j bef
     pub next-key : (i : ℕ) → i ≡ second pool j → first pool j ≡ getD nexts i 0
     next-key i e =
         let h : i < 512 = subst (λ (n : ℕ). n < 512) (sym e) (v .inside j l) in
-        g .gone .forth i h (getD ends i 0) (first pool j ∷ later pool j i used)
-        (subst (ToCome (getD stops i 0) (getD jumps i 0) (getD ends i 0) (getD nexts₀ i 0)) (keys-from pool j i (omega arith) used l (sym e)) (v .every i h)) .0
+        g .gone .comes i h (getD ends i 0) (first pool j ∷ later pool j i used) .0
+        (subst (ComesAt stops jumps i (getD ends i 0) (getD nexts₀ i 0)) (keys-from pool j i (omega arith) used l (sym e)) (v .every i h)) .0
 
 -- ---- at the end
-module _ (pool : List (List ℕ)) (stops jumps ends nexts₀ nexts : List ℕ) (used : ℕ) (g : Gone pool stops jumps nexts₀ nexts used) where
+module _ {pool : List (List ℕ)} {stops jumps nexts₀ nexts : List ℕ} {used : ℕ} (g : Gone pool stops jumps nexts₀ nexts used) (ends : List ℕ) where
+  -- nothing is to come behind the keys of all entries
+  none-left : (i : ℕ) → i < 512 → ComesAt stops jumps i (getD ends i 0) (getD nexts₀ i 0) (keysOf pool used i) ↔ (getD nexts i 0 ≡ getD ends i 0)
+  none-left i h =
+      subst (λ (m : List ℕ). ComesAt stops jumps i (getD ends i 0) (getD nexts₀ i 0) m ↔ (getD nexts i 0 ≡ getD ends i 0)) (append-nil (keysOf pool used i)) (g .comes i h (getD ends i 0) [])
+
   pub gone-all : Met nexts ends 512 → Passes pool nexts₀ stops jumps ends used
-  gone-all m =
-      record {
-        ordered = g .ordered;
-        inside = g .inside;
-        every = λ i h. subst (ToCome (getD stops i 0) (getD jumps i 0) (getD ends i 0) (getD nexts₀ i 0)) (append-nil (keysOf pool used i)) (g .back i h (getD ends i 0) [] (m i h));
-      }
+  gone-all m = record { ordered = g .ordered; inside = g .inside; every = λ i h. none-left i h .1 (m i h) }
 
   pub gone-met : Passes pool nexts₀ stops jumps ends used → Met nexts ends 512
-  gone-met v i h = g .forth i h (getD ends i 0) [] (subst (ToCome (getD stops i 0) (getD jumps i 0) (getD ends i 0) (getD nexts₀ i 0)) (sym (append-nil (keysOf pool used i))) (v .every i h))
+  gone-met v i h = none-left i h .0 (v .every i h)

@@ -1,6 +1,7 @@
 -- What the parts of the check ask: each slot and its box, and each entry of the pool as the next on the way of its box. Assumes nothing.
 use Prim.Native.Nat.{ℕ, _+_, _/_, _<_, _≤_}
 use mathlib.Core.Path.{_≡_}
+use mathlib.Core.Logic.{_↔_}
 use mathlib.Core.List.{List, [], _∷_, _++_, map}
 use lib.Dec.{T}
 use lib.Ieee.{Float}
@@ -98,12 +99,15 @@ pub record Ready (pool : List (List ℕ)) (nexts jumps : List ℕ) (used : ℕ) 
   pub reach : (i : ℕ) → i < 512 → getD nexts i 0 ≤ keyMost
   pub steps : (i : ℕ) → i < 512 → getD jumps i 0 ≤ 4294967296
 
+-- these keys are what is to come at an item from k on, up to an end
+abbrev pub ComesAt : List ℕ → List ℕ → ℕ → ℕ → ℕ → List ℕ → Type 0
+ComesAt stops jumps i end k l = ToCome (getD stops i 0) (getD jumps i 0) end k l
+
 -- the first j entries are in order; what is to come is what was to come behind their keys
 pub record Gone (pool : List (List ℕ)) (stops jumps nexts₀ nexts : List ℕ) (j : ℕ) : Type 0 where
   pub ordered : (a b : ℕ) → b < j → a < b → first pool a ≤ first pool b
   pub inside : (a : ℕ) → a < j → second pool a < 512
-  pub forth : (i : ℕ) → i < 512 → (end : ℕ) (l : List ℕ) → ToCome (getD stops i 0) (getD jumps i 0) end (getD nexts₀ i 0) (keysOf pool j i ++ l) → ToCome (getD stops i 0) (getD jumps i 0) end (getD nexts i 0) l
-  pub back : (i : ℕ) → i < 512 → (end : ℕ) (l : List ℕ) → ToCome (getD stops i 0) (getD jumps i 0) end (getD nexts i 0) l → ToCome (getD stops i 0) (getD jumps i 0) end (getD nexts₀ i 0) (keysOf pool j i ++ l)
+  pub comes : (i : ℕ) → i < 512 → (end : ℕ) (l : List ℕ) → ComesAt stops jumps i end (getD nexts₀ i 0) (keysOf pool j i ++ l) ↔ ComesAt stops jumps i end (getD nexts i 0) l
 
 -- nothing is to come at the first n items
 abbrev pub Met : List ℕ → List ℕ → ℕ → Type 0

@@ -8,20 +8,6 @@ use Rattle.box_tables.proofs.laws.CornerLaws.{low-domain, high-domain}
 use Rattle.box_tables.proofs.guess.one_cell.Statement.{statement}
 use Rattle.box_tables.proofs.guess.one_cell.Tie as tie
 
-stands-requires : tie.Need-stands-requires
-stands-requires c κs = let s = c .before .before .before in (s .pre .0, high-domain (s .args .b) (s .pre .1) .0)
-
-stands-requires-2 : tie.Need-stands-requires-2
-stands-requires-2 c κs = let s = c .before .before .before .before .before .before in (s .pre .0, low-domain (s .args .b) (s .pre .1) .0)
-
-stands-requires-3 : tie.Need-stands-requires-3
-stands-requires-3 c κs = let s = c .before .before .before .before .before .before .before .before .before in (s .pre .0, high-domain (s .args .b) (s .pre .1) .1)
-
-stands-requires-4 : tie.Need-stands-requires-4
-stands-requires-4 c κs =
-    let s = c .before .before .before .before .before .before .before .before .before .before .before .before in
-    (s .pre .0, low-domain (s .args .b) (s .pre .1) .1)
-
 returns-4 : tie.Need-returns-4
 returns-4 c e =
     let e3 = c .before .before in
@@ -37,11 +23,11 @@ pub one-cell-spec : {M : Type 1} → statement M
 one-cell-spec =
     tie.close
     (tie.spec
-    stands-requires
+    (λ c κs. let s = c .before .before .before in (s .pre .0, high-domain (s .args .b) (s .pre .1) .0))
     (λ c e. absurd (apart e))
-    stands-requires-2
+    (λ c κs. let s = c .before .before .before .before .before .before in (s .pre .0, low-domain (s .args .b) (s .pre .1) .0))
     (λ c e. absurd (apart e))
-    stands-requires-3
+    (λ c κs. let s = c .before .before .before .before .before .before .before .before .before in (s .pre .0, high-domain (s .args .b) (s .pre .1) .1))
     (λ c e. absurd (apart e))
-    stands-requires-4
+    (λ c κs. let s = c .before .before .before .before .before .before .before .before .before .before .before .before in (s .pre .0, low-domain (s .args .b) (s .pre .1) .1))
     returns-4)

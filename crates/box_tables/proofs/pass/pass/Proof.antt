@@ -31,7 +31,7 @@ returns c =
     let o = l .before .loop in
     let s = l .before .before in (
       λ e. absurd (omega (arith, e, l .loop-test .taken)),
-      λ ends v. absurd (omega (arith, c .if1 .taken, next-ordered (s .args .pool .now) (s .args .stops .now) (s .args .jumps .now) (s .args .nexts .now) (o .nexts) (o .j) (o .before) (o .inv .1) ends (s .args .used) (s .pre .in-pool) v (l .loop-test .taken))),
+      λ ends v. absurd (omega (arith, c .if1 .taken, next-ordered (o .inv .1) (s .pre .in-pool) v (l .loop-test .taken))),
     )
 
 returns-2 : tie.Need-returns-2 Inv-loop μ-loop
@@ -49,7 +49,7 @@ returns-3 c =
     let o = l .before .loop in
     let s = l .before .before in (
       λ e. absurd (omega (arith, e, l .loop-test .taken)),
-      λ ends v. absurd (c .if3 .taken (next-key (s .args .pool .now) (s .args .stops .now) (s .args .jumps .now) (s .args .nexts .now) (o .nexts) (o .j) (o .before) (o .inv .1) ends (s .args .used) (s .pre .in-pool) v (l .loop-test .taken) (x .index-of .result) (item-is x))),
+      λ ends v. absurd (c .if3 .taken (next-key (o .inv .1) (s .pre .in-pool) v (l .loop-test .taken) (x .index-of .result) (item-is x))),
     )
 
 next-on-requires : tie.Need-next-on-requires Inv-loop μ-loop
@@ -68,7 +68,7 @@ loop-again c =
     let l = x .before .before in
     let o = l .before .loop in
     let s = l .before .before in
-    (omega arith, going-more (s .args .pool .now) (s .args .stops .now) (s .args .jumps .now) (s .args .nexts .now) (o .nexts) (o .j) (o .before) (o .inv .1) (s .pre .steps) (in-pool l) (x .index-of .result) (item-is x) (d .if2 .left) (d .before .if1 .left) (e .if3 .left) (c .next-on .result) (c .next-on .ensures))
+    (omega arith, going-more (o .inv .1) (s .pre .steps) (in-pool l) (x .index-of .result) (item-is x) (d .if2 .left) (d .before .if1 .left) (e .if3 .left) (c .next-on .result) (c .next-on .ensures))
 
 returns-4 : tie.Need-returns-4 Inv-loop μ-loop
 returns-4 c =

@@ -12,12 +12,9 @@ returns-2 : tie.Need-returns-2
 returns-2 c =
     let e = c .before .before in
     let p = e .before in
-    let a = p .before .before .args in
+    let n = p .before .before .args .ends .now in
     let g = p .pass .ensures .0 (e .if1 .left) in
-    record {
-      yes = λ q. gone-all (a .pool .now) (a .stops .now) (a .jumps .now) (a .ends .now) (a .nexts .now) _ (a .used) g (c .all-met .ensures .yes q);
-      no = λ v. c .all-met .ensures .no (gone-met (a .pool .now) (a .stops .now) (a .jumps .now) (a .ends .now) (a .nexts .now) _ (a .used) g v);
-    }
+    record { yes = λ q. gone-all g n (c .all-met .ensures .yes q); no = λ v. c .all-met .ensures .no (gone-met g n v) }
 
 pub pool-ok-spec : {M : Type 1} → statement M
 pool-ok-spec = tie.close (tie.spec (λ c κs. c .before .pre) returns (λ c κs. search needs) returns-2)

@@ -7,18 +7,6 @@ use Rattle.box_tables.proofs.laws.CornerLaws.{low-domain, high-domain, 
 use Rattle.box_tables.proofs.way.wide_way.Statement.{statement}
 use Rattle.box_tables.proofs.way.wide_way.Tie as tie
 
-near-cell-requires : tie.Need-near-cell-requires
-near-cell-requires c κs = let s = c .before .before in (s .pre .1, low-domain (s .args .b) (s .pre .2) .0, s .pre .3)
-
-near-cell-requires-2 : tie.Need-near-cell-requires-2
-near-cell-requires-2 c κs = let s = c .before .before .before in (s .pre .1, low-domain (s .args .b) (s .pre .2) .1, s .pre .3)
-
-near-cell-requires-3 : tie.Need-near-cell-requires-3
-near-cell-requires-3 c κs = let s = c .before .before .before .before in (s .pre .1, high-domain (s .args .b) (s .pre .2) .0, s .pre .3)
-
-near-cell-requires-4 : tie.Need-near-cell-requires-4
-near-cell-requires-4 c κs = let s = c .before .before .before .before .before in (s .pre .1, high-domain (s .args .b) (s .pre .2) .1, s .pre .3)
-
 way-of-requires : tie.Need-way-of-requires
 way-of-requires c κs =
     let d = c .before .before in
@@ -41,4 +29,12 @@ returns r =
     (s .args .s) (r .way-of .result) (r .way-of .ensures)
 
 pub wide-way-spec : {M : Type 1} → statement M
-wide-way-spec = tie.close (tie.spec near-cell-requires near-cell-requires-2 near-cell-requires-3 near-cell-requires-4 way-of-requires returns)
+wide-way-spec =
+    tie.close
+    (tie.spec
+    (λ c κs. let s = c .before .before in (s .pre .1, low-domain (s .args .b) (s .pre .2) .0, s .pre .3))
+    (λ c κs. let s = c .before .before .before in (s .pre .1, low-domain (s .args .b) (s .pre .2) .1, s .pre .3))
+    (λ c κs. let s = c .before .before .before .before in (s .pre .1, high-domain (s .args .b) (s .pre .2) .0, s .pre .3))
+    (λ c κs. let s = c .before .before .before .before .before in (s .pre .1, high-domain (s .args .b) (s .pre .2) .1, s .pre .3))
+    way-of-requires
+    returns)
