@@ -24,7 +24,7 @@ use Rattle.box_change.specs.Meaning.SetAabb.{withOtherBox, hasRoomFor, s
 use Rattle.box_change.proofs.laws.RemoveLaws.{isGood, Names, names}
 use Rattle.box_change.proofs.laws.SetAabbLaws.{answerBy, room-for-says}
 use Rattle.box_change.specs.declared.placing.Change.{Change}
-use Rattle.box_change.proofs.laws.Steps.{Movable}
+use Rattle.box_change.proofs.Shifted.{Movable}
 use Rattle.box_change.specs.Inner.Steps.{oldSpan, newSpan, Judged}
 
 cells-are : {p q : Span} → p ≡ q → p .cells ≡ q .cells

@@ -4,13 +4,16 @@ use mathlib.Core.Path.{_≡_, refl, sym, _∙_, ap}
 use mathlib.Core.Bool.{Bool, true, false}
 use mathlib.Core.List.{List}
 use native.Mathlib.Omega.{arith}
+use lib.Dec.{T}
 use lib.Ieee.{Float}
 use lib.ListN.{length, getD, set, take, drop}
 use lib.Seq.{take-append-seam, length-take-le}
+use Rattle.basics.specs.Meaning.Limits.{mostCells}
 use Rattle.basics.specs.Meaning.Says.{Says}
 use Rattle.basics.proofs.laws.Says.{apart, says-via, says-same, said-says}
 use Rattle.basics.specs.Meaning.Refusals.{pick}
 use Rattle.geometry.specs.declared.Aabb.{Aabb}
+use Rattle.geometry.specs.Meaning.Domain.{aabbInDomain}
 use Rattle.cells.specs.declared.Cell.{Cell}
 use Rattle.cells.specs.Inner.Numbers.{Near}
 use Rattle.cells.proofs.laws.Numbers.{cell-ext}
@@ -23,14 +26,20 @@ use Rattle.box_cover.specs.Meaning.Coverage.{entered, left}
 use Rattle.box_cover.specs.Inner.Taken.{Leaving}
 use Rattle.box_cover.proofs.laws.EnterLaws.{entered-length}
 use Rattle.box_cover.proofs.laws.LeaveLaws.{left-sorted, left-length}
-use Rattle.box_tables.specs.Meaning.Tables.{Tables, tables, sizeOf, counting, aabbOn, cornersOf}
+use Rattle.box_tables.specs.Meaning.Tables.{Tables, tables, sizeOf, usedOf, counting, aabbOn, covers, cornersOf}
 use Rattle.box_tables.proofs.laws.BoxLaws as Box
 use Rattle.box_tables.proofs.laws.HoldsLaws.{entries-sorted, low-near, high-near}
 use Rattle.box_tables.specs.declared.Span.{Span}
 use Rattle.box_change.specs.Meaning.SetAabb.{Same, d-stay, cellsStay, boxRecorded, boxMoved, withOtherBox}
-use Rattle.box_change.proofs.laws.Steps.{Movable}
 use Rattle.box_change.specs.Inner.Steps.{itemIn, leftIn, shiftedRows, shiftedMap, shiftedPool, stayIn, relistedMap, relistedPool, oldSpan}
-use Rattle.box_change.specs.Inner.Steps.{newSpan, Shifting}
+use Rattle.box_change.specs.Inner.Steps.{newSpan, Object, Shifting}
+
+-- slot s has an object, and box b can take the place of its box
+pub record Movable (t : Tables) (s : ℕ) (b : Aabb) : Type 0 where
+  pub object : Object t s
+  pub in-domain : T (aabbInDomain b)
+  pub few : covers (sizeOf t) b ≤ mostCells
+  pub room : usedOf t + covers (sizeOf t) b ≤ length (t .pool) + covers (sizeOf t) (aabbOn t s)
 
 -- ---- both corner cells stay
 same-cells : {r : Bool} {a b : Cell} → Says r (a ≡ b) → Says r (Same a b)
@@ -50,7 +59,7 @@ module _ (p q : Span) where
       (said-says (d-stay (p .low) (p .high) (q .low) (q .high)))
 
 -- ---- out of the old lists, into the new ones
-module _ (m : List ℕ) (pool : List (List ℕ)) (s : ℕ) (p q : Span) (f : Shifting m pool s p q) where
+module _ {m : List ℕ} {pool : List (List ℕ)} {s : ℕ} {p q : Span} (f : Shifting m pool s p q) where
   abbrev rows : List (List ℕ)
   rows = take (getD m 1 0) pool
 
@@ -60,12 +69,12 @@ module _ (m : List ℕ) (pool : List (List ℕ)) (s : ℕ) (p q : Span) (f : Shi
   less : length (leftIn s p rows) + cellsIn (p .low) (p .high) ≡ getD m 1 0
   less = left-length (p .low) (p .high) (f .old-low) (f .old-high) (itemIn s p) rows (f .stands) ∙ rows-length
 
-  module _ (u : ℕ) (eu : u ≡ getD m 1 0) (i : ℕ) (ei : i ≡ itemIn s p) where
+  module _ {u i : ℕ} (eu : u ≡ getD m 1 0) (ei : i ≡ itemIn s p) where
     pub leave-asks : Leaving (p .low) (p .high) i u pool
     leave-asks = rw (eu, ei) (record { fits = f .used-most; sorted = f .sorted; near-low = f .old-low; near-high = f .old-high; stands = f .stands })
 
     -- the pool after leaving
-    module _ (k : ℕ) (pool₁ : List (List ℕ)) (e : (k ≡ length (left (p .low) (p .high) i (take u pool))) × (pool₁ ≡ written (left (p .low) (p .high) i (take u pool)) pool)) where
+    module _ {k : ℕ} {pool₁ : List (List ℕ)} (e : (k ≡ length (left (p .low) (p .high) i (take u pool))) × (pool₁ ≡ written (left (p .low) (p .high) i (take u pool)) pool)) where
       k-is : k ≡ length (leftIn s p rows)
       k-is = e .0 ∙ rw (eu, ei)
 
@@ -89,25 +98,24 @@ module _ (m : List ℕ) (pool : List (List ℕ)) (s : ℕ) (p q : Span) (f : Shi
       pub count-small : k + q .cells ≤ 12288
       count-small = omega (arith, k-is, less, f .used-most, f .pool-most, f .few)
 
-      module _ (j : ℕ) (ej : j ≡ itemIn s q) where
-        pub pool-after : (pool₂ : List (List ℕ)) → pool₂ ≡ written (entered (q .low) (q .high) j (take k pool₁)) pool₁ → pool₂ ≡ shiftedPool s p q m pool
-        pool-after pool₂ g = g ∙ rw (first-are, pool-is, ej)
+      pub pool-after : {j : ℕ} → j ≡ itemIn s q → {pool₂ : List (List ℕ)} → pool₂ ≡ written (entered (q .low) (q .high) j (take k pool₁)) pool₁ → pool₂ ≡ shiftedPool s p q m pool
+      pool-after ej g = g ∙ rw (first-are, pool-is, ej)
 
-        pub map-after : (m₁ : List ℕ) (w : ℕ) → w ≡ k → m₁ ≡ counting m (w + q .cells) → m₁ ≡ shiftedMap s p q m pool
-        map-after m₁ w ew g =
-            let n : w + q .cells ≡ length (shiftedRows s p q rows) = omega (arith, k-is, f .cells, entered-length (q .low) (q .high) (itemIn s q) (leftIn s p rows)) in
-            g ∙ rw n
+      pub map-after : {w : ℕ} → w ≡ k → counting m (w + q .cells) ≡ shiftedMap s p q m pool
+      map-after {w} ew =
+          let n : w + q .cells ≡ length (shiftedRows s p q rows) = omega (arith, k-is, f .cells, entered-length (q .low) (q .high) (itemIn s q) (leftIn s p rows)) in
+          rw n
 
 -- ---- only if a corner cell changes
-module _ (m : List ℕ) (pool : List (List ℕ)) (s : ℕ) (p q : Span) (b : Bool) (e : b ≡ stayIn p q) where
+module _ (m : List ℕ) (pool : List (List ℕ)) (s : ℕ) (p q : Span) {b : Bool} (e : b ≡ stayIn p q) where
   pub relist-stays : b ≡ true → (m ≡ relistedMap s p q m pool) × (pool ≡ relistedPool s p q m pool)
   relist-stays z = rw (← e, z) (refl, refl)
 
-  pub relist-moves : b ≡ false → (m₁ : List ℕ) (pool₁ : List (List ℕ)) → m₁ ≡ shiftedMap s p q m pool → pool₁ ≡ shiftedPool s p q m pool → (m₁ ≡ relistedMap s p q m pool) × (pool₁ ≡ relistedPool s p q m pool)
-  relist-moves z m₁ pool₁ f g = rw (← e, z) (f, g)
+  pub relist-moves : b ≡ false → {m₁ : List ℕ} {pool₁ : List (List ℕ)} → m₁ ≡ shiftedMap s p q m pool → pool₁ ≡ shiftedPool s p q m pool → (m₁ ≡ relistedMap s p q m pool) × (pool₁ ≡ relistedPool s p q m pool)
+  relist-moves z f g = rw (← e, z) (f, g)
 
 -- ---- box b in the place of the box of slot s
-module _ (t : Tables) (s : ℕ) (b : Aabb) (f : Movable t s b) where
+module _ {t : Tables} {s : ℕ} {b : Aabb} (f : Movable t s b) where
   shifting : Shifting (t .map) (t .pool) s (oldSpan (t .reals) (t .map) s) (newSpan (t .map) b)
   shifting =
       let h = f .object .held in
@@ -129,18 +137,18 @@ module _ (t : Tables) (s : ℕ) (b : Aabb) (f : Movable t s b) where
         room = f .room;
       }
 
-  module _ (p q : Span) (ep : p ≡ oldSpan (t .reals) (t .map) s) (eq : q ≡ newSpan (t .map) b) where
+  module _ {p q : Span} (ep : p ≡ oldSpan (t .reals) (t .map) s) (eq : q ≡ newSpan (t .map) b) where
     pub place-asks : (s < length (t .reals)) × Shifting (t .map) (t .pool) s p q
     place-asks = (rw (f .object .held .sized .of-reals) (f .object .inside), rw (ep, eq) shifting)
 
     pub other-box-is :
-        (qs : List (List Float)) (m : List ℕ) (pool : List (List ℕ))
+        {qs : List (List Float)} {m : List ℕ} {pool : List (List ℕ)}
         → qs ≡ set (t .reals) s (cornersOf b)
         → m ≡ relistedMap s p q (t .map) (t .pool)
         → pool ≡ relistedPool s p q (t .map) (t .pool)
         → tables (t .nums) qs m pool ≡ withOtherBox t s b
     unfolding withOtherBox boxRecorded boxMoved
-    other-box-is qs m pool e1 e2 e3 = rw (e1, e2, e3, ep, eq) (go (cellsStay (sizeOf t) (aabbOn t s) b))
+    other-box-is e1 e2 e3 = rw (e1, e2, e3, ep, eq) (go (cellsStay (sizeOf t) (aabbOn t s) b))
       where
         go : (c : Bool) → tables (t .nums) (set (t .reals) s (cornersOf b)) (pick c (t .map) (shiftedMap s (oldSpan (t .reals) (t .map) s) (newSpan (t .map) b) (t .map) (t .pool))) (pick c (t .pool) (shiftedPool s (oldSpan (t .reals) (t .map) s) (newSpan (t .map) b) (t .map) (t .pool))) ≡ pick c (boxRecorded t s b) (boxMoved t s b)
         go true = refl

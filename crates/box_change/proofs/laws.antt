@@ -4,4 +4,3 @@ pub mod WithoutLaws
 pub mod RemoveLaws
 pub mod RemoveKeeps
 pub mod SetAabbKeeps
-pub mod Steps

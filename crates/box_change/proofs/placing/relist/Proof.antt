@@ -8,7 +8,7 @@ returns : tie.Need-returns
 returns c =
     let t = c .before in
     let a = t .before .before .args in
-    relist-stays (a .map .now) (a .pool .now) (a .s) (a .p) (a .q) (t .stays .result) (t .stays .ensures) (c .if1 .taken)
+    relist-stays (a .map .now) (a .pool .now) (a .s) (a .p) (a .q) (t .stays .ensures) (c .if1 .taken)
 
 returns-2 : tie.Need-returns-2
 returns-2 c =
@@ -16,7 +16,7 @@ returns-2 c =
     let i = f .before .before .before in
     let t = i .before in
     let a = t .before .before .args in
-    relist-moves (a .map .now) (a .pool .now) (a .s) (a .p) (a .q) (t .stays .result) (t .stays .ensures) (i .if1 .left) _ _ (f .shift .ensures .0) (f .shift .ensures .1)
+    relist-moves (a .map .now) (a .pool .now) (a .s) (a .p) (a .q) (t .stays .ensures) (i .if1 .left) (f .shift .ensures .0) (f .shift .ensures .1)
 
 pub relist-spec : {M : Type 1} → statement M
 relist-spec = tie.close (tie.spec (λ c κs. search needs) returns (λ c κs. search needs) (λ c. search needs) (λ c. search needs) returns-2)

@@ -2,10 +2,9 @@
 use mathlib.Core.Path.{_≡_, sym, _∙_, ap}
 use borrow.Author.Needs.{needs}
 use Rattle.box_change.proofs.Answers.{movable, refused, done}
-use Rattle.box_change.proofs.Shifted.{place-asks, other-box-is}
+use Rattle.box_change.proofs.Shifted.{Movable, place-asks, other-box-is}
 use Rattle.box_tables.specs.Meaning.Tables.{Tables, tables}
 use Rattle.box_change.specs.Inner.Steps.{oldSpan, newSpan}
-use Rattle.box_change.proofs.laws.Steps.{Movable}
 use Rattle.box_change.proofs.placing.set_aabb.Statement.{statement}
 use Rattle.box_change.proofs.placing.set_aabb.Tie as tie
 
@@ -42,10 +41,7 @@ new-is : (w : tie.After-wide) → judged w .judge .result .new ≡ newSpan (star
 new-is w = judged w .judge .ensures .spans (left w .if1 .left) .1
 
 place-requires : tie.Need-place-requires
-place-requires c κs =
-    let s = start c in
-    let k = judged c .judge in
-    place-asks (at-entry s) (c .wide .result) (s .args .b) (can-move c) (k .result .old) (k .result .new) (old-is c) (new-is c)
+place-requires c κs = place-asks (can-move c) (old-is c) (new-is c)
 
 returns-2 : tie.Need-returns-2
 returns-2 c =
@@ -54,7 +50,7 @@ returns-2 c =
     let s = start w in
     let k = judged w .judge in
     done (at-entry s) (s .args .h) (s .args .b) (k .result .answer) (k .ensures .answers) (w .wide .result) (w .wide .ensures) (left w .if1 .left) _
-    (other-box-is (at-entry s) (w .wide .result) (s .args .b) (can-move w) (k .result .old) (k .result .new) (old-is w) (new-is w) _ _ _ (p .place .ensures .0) (p .place .ensures .1 .0) (p .place .ensures .1 .1))
+    (other-box-is (can-move w) (old-is w) (new-is w) (p .place .ensures .0) (p .place .ensures .1 .0) (p .place .ensures .1 .1))
 
 pub set-aabb-spec : {M : Type 1} → statement M
 set-aabb-spec =

@@ -1,49 +1,42 @@
 -- `box_change::placing::shift` meets its contract. Assumes nothing.
-use mathlib.Core.Path.{refl}
 use native.Mathlib.Omega.{arith}
 use borrow.Author.Needs.{needs}
 use Rattle.box_change.proofs.Shifted.{leave-asks, enter-asks, count-small, pool-after, map-after}
 use Rattle.box_change.proofs.placing.shift.Statement.{statement}
 use Rattle.box_change.proofs.placing.shift.Tie as tie
 
+-- the numbers that were read, and what was left
+abbrev read : tie.After-item-of → tie.After-index-of
+read i = i .before .before
+
+abbrev start : tie.After-item-of → tie.Start
+start i = read i .before .before .before
+
+abbrev items : tie.After-leave → tie.After-item-of
+items l = l .before .before .before .before
+
 leave-requires : tie.Need-leave-requires
-leave-requires c κs =
-    let i = c .before .before .before in
-    let u = i .before .before in
-    let s = u .before .before .before in
-    let a = s .args in
-    leave-asks (a .map .now) (a .pool .now) (a .s) (a .p) (a .q) (s .pre) (u .index-of .result) (u .index-of .ensures) (i .item-of .result) (i .item-of .ensures)
+leave-requires c κs = let i = c .before .before .before in leave-asks (start i .pre) (read i .index-of .ensures) (i .item-of .ensures)
 
 enter-requires : tie.Need-enter-requires
 enter-requires c κs =
     let l = c .before .before in
-    let i = l .before .before .before .before in
-    let u = i .before .before in
-    let s = u .before .before .before in
-    let a = s .args in
-    enter-asks (a .map .now) (a .pool .now) (a .s) (a .p) (a .q) (s .pre) (u .index-of .result) (u .index-of .ensures) (i .item-of .result) (i .item-of .ensures) (l .leave .result) _ (l .leave .ensures)
+    let i = items l in
+    enter-asks (start i .pre) (read i .index-of .ensures) (i .item-of .ensures) (l .leave .ensures)
 
 add-map : tie.Need-add-map
 add-map c =
     let l = c .before .before .before .before .before .before in
-    let i = l .before .before .before .before in
-    let u = i .before .before in
-    let s = u .before .before .before in
-    let a = s .args in
-    omega (arith, c .before .word-of .ensures, count-small (a .map .now) (a .pool .now) (a .s) (a .p) (a .q) (s .pre) (u .index-of .result) (u .index-of .ensures) (i .item-of .result) (i .item-of .ensures) (l .leave .result) _ (l .leave .ensures))
+    let i = items l in
+    omega (arith, c .before .word-of .ensures, count-small (start i .pre) (read i .index-of .ensures) (i .item-of .ensures) (l .leave .ensures))
 
 returns : tie.Need-returns
 returns c =
-    let w = c .before in
-    let e = w .before .before in
+    let e = c .before .before .before in
     let l = e .before .before .before in
-    let j = l .before .before in
-    let i = j .before .before in
-    let u = i .before .before in
-    let s = u .before .before .before in
-    let a = s .args in (
-      map-after (a .map .now) (a .pool .now) (a .s) (a .p) (a .q) (s .pre) (u .index-of .result) (u .index-of .ensures) (i .item-of .result) (i .item-of .ensures) (l .leave .result) _ (l .leave .ensures) (j .item-of2 .result) (j .item-of2 .ensures) _ (w .word-of .result) (w .word-of .ensures) refl,
-      pool-after (a .map .now) (a .pool .now) (a .s) (a .p) (a .q) (s .pre) (u .index-of .result) (u .index-of .ensures) (i .item-of .result) (i .item-of .ensures) (l .leave .result) _ (l .leave .ensures) (j .item-of2 .result) (j .item-of2 .ensures) _ (e .enter .ensures),
+    let i = items l in (
+      map-after (start i .pre) (read i .index-of .ensures) (i .item-of .ensures) (l .leave .ensures) (c .before .word-of .ensures),
+      pool-after (start i .pre) (read i .index-of .ensures) (i .item-of .ensures) (l .leave .ensures) (l .before .before .item-of2 .ensures) (e .enter .ensures),
     )
 
 pub shift-spec : {M : Type 1} → statement M
