@@ -1,25 +1,16 @@
 -- `record_get::len_for` meets its contract. Assumes nothing.
-use mathlib.Core.Path.{_≡_, _∙_}
+use mathlib.Core.Path.{_∙_}
 use lib.ListN.{length}
 use Rattle.records.proofs.laws.SeenLaws.{rows-same, rows-other}
 use borrow.Author.Needs.{needs}
 use Rattle.record_get.proofs.len_for.Statement.{statement}
 use Rattle.record_get.proofs.len_for.Tie as tie
-use Rattle.record_get.proofs.len_for.Reads as reads
-use Rattle.record_get.proofs.len_for.Lts as lts
-use Rattle.points.proofs.len.Reads as len-reads
 
--- src/lib.rt:342:9
 returns : tie.Need-returns
 returns c = let a = c .before .before .args in rows-other (a .n) (length (a .nums .now)) _ _ (c .if1 .taken)
 
--- src/lib.rt:348:5
-len-requires : tie.Need-len-requires
-len-requires c κs = search needs
-
--- src/lib.rt:328:1
 returns-2 : tie.Need-returns-2
 returns-2 c = let a = c .before .before .before .args in c .len .ensures ∙ rows-same (a .n) (length (a .nums .now)) _ _ (c .before .if1 .left)
 
 pub len-for-spec : {M : Type 1} → statement M
-len-for-spec = tie.close (tie.spec returns len-requires returns-2)
+len-for-spec = tie.close (tie.spec returns (λ c κs. search needs) returns-2)

@@ -4,7 +4,7 @@ use Rattle.cells.specs.declared.Cell.{Cell}
 use Rattle.point_records.specs.declared.Record.{Record}
 use Rattle.point_records.specs.Meaning.Columns.{targetOf, intsOf}
 use Rattle.point_records.proofs.Shared.{back}
-use mathlib.Core.Path.{_≡_, sym, ap, _∙_}
+use mathlib.Core.Path.{_≡_, sym}
 use mathlib.Core.List.{List, [], _∷_}
 use Prim.Native.Nat.{ℕ}
 use lib.ListN.{set}
@@ -12,38 +12,15 @@ use lib.Seq.{set-out}
 use borrow.Author.Needs.{needs}
 use Rattle.records.proofs.put_ints.Statement.{statement}
 use Rattle.records.proofs.put_ints.Tie as tie
-use Rattle.records.proofs.put_ints.Reads as reads
-use Rattle.records.proofs.put_ints.Lts as lts
-use Rattle.point_records.proofs.target_of.Reads as target-of-reads
 
--- src/lib.rt:94:13
-target-of-requires : tie.Need-target-of-requires
-target-of-requires c κs = search needs
-
--- src/lib.rt:95:9
-mul-t10 : tie.Need-mul-t10
-mul-t10 c = search needs
-
--- src/lib.rt:95:9
-slice-set-from-ints : tie.Need-slice-set-from-ints
-slice-set-from-ints c = search needs
-
--- src/lib.rt:88:1
-same-length : tie.Need-same-length
-same-length c = search needs
-
--- src/lib.rt:88:1
 made : (zs : List (List ℤ)) (i : ℕ) (r : Record) (d : Cell) (x y u v : ℤ) → d ≡ targetOf (r .state) (r .cell) → x ≡ r .cell .x → y ≡ r .cell .y → u ≡ d .x → v ≡ d .y → set zs i (x ∷ y ∷ u ∷ v ∷ []) ≡ set zs i (intsOf r)
 made zs i r d x y u v ed ex ey eu ev = cc
 
 returns : tie.Need-returns
 returns c = let e = c .before in let a = e .before .before .before .before .args in made (a .ints .now) (a .i) (a .r) _ _ _ _ _ (e .before .target-of .ensures) (back (e .struct-told .given .0 .1)) (back (e .struct-told .given .1 .0 .1)) (back (c .struct-told2 .given .0 .1)) (back (c .struct-told2 .given .1 .0 .1))
 
--- src/lib.rt:88:1
 returns-2 : tie.Need-returns-2
 returns-2 c = let a = c .before .args in sym (set-out (a .ints .now) (a .i) _ (c .if1 .left))
 
 pub put-ints-spec : {M : Type 1} → statement M
-put-ints-spec =
-    tie.close
-    (tie.spec target-of-requires mul-t10 slice-set-from-ints same-length returns returns-2)
+put-ints-spec = tie.close (tie.spec (λ c κs. search needs) (λ c. search needs) (λ c. search needs) (λ c. search needs) returns returns-2)
