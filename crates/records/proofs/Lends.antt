@@ -26,6 +26,10 @@ use Rattle.records.proofs.LendShared.{LentShared, lends-shared, shared-
 abbrev pub to : (R : RattleType) → ℕ → ℕ → GName → List (R .Denot) → RefT (List (R .Denot))
 to R b o γ ys = record { ptr = (b, o); name = γ; now = ys }
 
+-- the machine value of a reference to the slice ys at (b, o)
+abbrev pub pointer : {X : Type 0} → ℕ → ℕ → List X → Val
+pointer b o ys = sliceVal (b, o) (length ys)
+
 module _ {M : Type 1} {𝓤 : URA M} {H : Heap 𝓤} {A : Atoms 𝓤} {K : Type 0} {W : Given 𝓤 H A} {Γ : List (Item 𝓤)} {G : Goal 𝓤 H} where
   pub lend-mut : K → Soaks G → (R : RattleType) (ℓ ℓ′ : Lifetime) {κ : Lft} {q : Share} (γ : GName) (b o : ℕ) (ys : List (R .Denot)) (m : ℕ) → m ≡ length ys
       → ((ν : ℕ) (δ : GName) → Seq K W (‵ (flft (ν ∷ []) fullShare) ∷ ‵ (MutSlice ℓ′ (ν ∷ []) R .own (to R b o δ ys) (sliceVal (b, o) m ∷ [])) ∷ ‵ (LentAgain R κ (ν ∷ []) q γ b o δ ys) ∷ Γ) G)

@@ -6,4 +6,5 @@ pub mod LoopLaws
 pub mod Rows
 pub mod OneRecord
 pub mod AllRecords
+pub mod Calls
 pub mod laws

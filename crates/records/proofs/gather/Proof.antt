@@ -33,7 +33,7 @@ use denote.RattleType.{owns}
 use denote.Memory.{pointee}
 use denote.Builtin.{u32, i32, f32, ArrayOf}
 use denote.Ref.{RefT}
-use denote.Slice.{sliceTy, sliceVal, ShrSlice, MutSlice, Room, slice-vals, shr-slice-tells, mut-slice-tells}
+use denote.Slice.{sliceTy, ShrSlice, MutSlice, Room, slice-vals, shr-slice-tells, mut-slice-tells}
 use denote.Signature.{plain}
 use denote.Steps.{nothing}
 use denote.Struct.Laws as LL
@@ -49,10 +49,10 @@ use Rattle.point_records.proofs.Record.Laws as RT′
 use Rattle.records.specs.Inner.Spread.{noRecord, rowOr}
 use Rattle.records.specs.Meaning.Spread.{gathered}
 use Rattle.records.proofs.Rows.{R, N4, F4, Z4}
-use Rattle.records.proofs.Lends.{to}
+use Rattle.records.proofs.Lends.{to, pointer}
 use Rattle.records.proofs.laws.SpreadLaws.{gathered-length}
 use Rattle.records.proofs.LoopLaws.{firstGathered, gathered-0, gathered-all, gathered-size, gathered-next}
-use Rattle.records.proofs.OneRecord.{RecordAt-lent, calls-record-at-lent, RowOr, calls-row-or, PutRecord, calls-put-record}
+use Rattle.records.proofs.OneRecord.{RecordAt, calls-record-at-lent, RowOr, calls-row-or, PutRecord, calls-put-record}
 use Rattle.records.proofs.record_at.Symbol as record-at-def
 use Rattle.records.proofs.record_at.Symbol.{name as #records·record-at}
 use Rattle.records.proofs.record_at.Met as record-at-thm
@@ -72,23 +72,11 @@ abbrev stayed : Stays (gather.ended .signature .params) (gather.ended .kept)
 stayed = (stay-slice (0 ∷ []) tt (plain (λ _. R)), (stay-none-slice (1 ∷ []) tt (ArrayOf (plain (λ _. u32)) (λ _. tt) 4) yes, (stay-none-slice (2 ∷ []) tt (ArrayOf (plain (λ _. f32)) (λ _. tt) 4) yes, (stay-none-slice (3 ∷ []) tt (ArrayOf (plain (λ _. i32)) (λ _. tt) 4) yes, tt))))
 
 module _ {M : Type 1} (𝓤 : URA M) (H : Heap 𝓤) (A : Atoms 𝓤) (W : Given 𝓤 H A) (mem : Memory → SProp 𝓤) (run : Routine → Fun 𝓤) (κ₀ κ₁ κ₂ κ₃ : Lft) (q₀ q₁ q₂ q₃ : Share) (b₀ o₀ : ℕ) (γ₀ : GName) (y₀ : List (Record)) (room₀ : Room R (length y₀)) (b₁ o₁ : ℕ) (γ₁ : GName) (y₁ : List (List ℕ)) (room₁ : Room N4 (length y₁)) (b₂ o₂ : ℕ) (γ₂ : GName) (y₂ : List (List Float)) (room₂ : Room F4 (length y₂)) (b₃ o₃ : ℕ) (γ₃ : GName) (y₃ : List (List ℤ)) (room₃ : Room Z4 (length y₃)) where
-  abbrev s₀ : Val
-  s₀ = sliceVal (b₀, o₀) (length y₀)
-
-  abbrev s₁ : Val
-  s₁ = sliceVal (b₁, o₁) (length y₁)
-
-  abbrev s₂ : Val
-  s₂ = sliceVal (b₂, o₂) (length y₂)
-
-  abbrev s₃ : Val
-  s₃ = sliceVal (b₃, o₃) (length y₃)
-
   abbrev x : (RefT (List (Record)) × (RefT (List (List ℕ)) × (RefT (List (List Float)) × (RefT (List (List ℤ)) × Unit {0}))))
   x = (to R b₀ o₀ γ₀ y₀, (to N4 b₁ o₁ γ₁ y₁, (to F4 b₂ o₂ γ₂ y₂, (to Z4 b₃ o₃ γ₃ y₃, tt))))
 
   abbrev at : (List Val × (List Val × (List Val × (List Val × Unit {0}))))
-  at = (s₀ ∷ [], (s₁ ∷ [], (s₂ ∷ [], (s₃ ∷ [], tt))))
+  at = ((pointer b₀ o₀ y₀) ∷ [], ((pointer b₁ o₁ y₁) ∷ [], ((pointer b₂ o₂ y₂) ∷ [], ((pointer b₃ o₃ y₃) ∷ [], tt))))
 
   abbrev bound : walkOf 𝓤 H A gather.ended stayed (gather.clauses 𝓤 H A mem run) .Ghost
   bound = (((κ₀, (κ₁, (κ₂, (κ₃, tt)))), (q₀, (q₁, (q₂, (q₃, tt)))), tt, x, at), tt)
@@ -97,7 +85,7 @@ module _ {M : Type 1} (𝓤 : URA M) (H : Heap 𝓤) (A : Atoms 𝓤) (W : Given
   Post = walkOf 𝓤 H A gather.ended stayed (gather.clauses 𝓤 H A mem run) .post bound
 
   abbrev left : List (Item 𝓤)
-  left = ‵ (MutSlice (named 0) κ₀ R .own (to R b₀ o₀ γ₀ (gathered y₁ y₂ y₃ y₀)) (s₀ ∷ [])) ∷ ‵ (flft κ₀ q₀) ∷ ‵ (ShrSlice (named 1) κ₁ N4 .own (to N4 b₁ o₁ γ₁ (y₁)) (s₁ ∷ [])) ∷ ‵ (flft κ₁ q₁) ∷ ‵ (ShrSlice (named 2) κ₂ F4 .own (to F4 b₂ o₂ γ₂ (y₂)) (s₂ ∷ [])) ∷ ‵ (flft κ₂ q₂) ∷ ‵ (ShrSlice (named 3) κ₃ Z4 .own (to Z4 b₃ o₃ γ₃ (y₃)) (s₃ ∷ [])) ∷ ‵ (flft κ₃ q₃) ∷ []
+  left = ‵ (MutSlice (named 0) κ₀ R .own (to R b₀ o₀ γ₀ (gathered y₁ y₂ y₃ y₀)) ((pointer b₀ o₀ y₀) ∷ [])) ∷ ‵ (flft κ₀ q₀) ∷ ‵ (ShrSlice (named 1) κ₁ N4 .own (to N4 b₁ o₁ γ₁ (y₁)) ((pointer b₁ o₁ y₁) ∷ [])) ∷ ‵ (flft κ₁ q₁) ∷ ‵ (ShrSlice (named 2) κ₂ F4 .own (to F4 b₂ o₂ γ₂ (y₂)) ((pointer b₂ o₂ y₂) ∷ [])) ∷ ‵ (flft κ₂ q₂) ∷ ‵ (ShrSlice (named 3) κ₃ Z4 .own (to Z4 b₃ o₃ γ₃ (y₃)) ((pointer b₃ o₃ y₃) ∷ [])) ∷ ‵ (flft κ₃ q₃) ∷ []
 
   exits : ent 𝓤 (⋆ 𝓤 H A (left)) (Post (vunit))
   exits =
@@ -117,7 +105,7 @@ module _ {M : Type 1} (𝓤 : URA M) (H : Heap 𝓤) (A : Atoms 𝓤) (W : Given
   Nearer-wf : WellFounded Nearer
   Nearer-wf = InvImage·wf (λ (i : Upto). n - i .0) (Nat·lt-wfRel .wf)
 
-  module _ (𝓣 : Tables 𝓤 H) (m-record-at-lent : Triple 𝓤 (𝓣 .C #records·record-at) (RecordAt-lent 𝓤 H A mem run)) (m-row-or : Triple 𝓤 (𝓣 .C #records·row-or) (RowOr 𝓤 H A mem run)) (m-put-record : Triple 𝓤 (𝓣 .C #records·put-record) (PutRecord 𝓤 H A mem run)) (l₀ l₁ l₂ l₃ l₄ l₅ l₆ l₇ l₈ l₉ l₁₀ l₁₁ l₁₂ l₁₃ l₁₄ : ℕ) where
+  module _ (𝓣 : Tables 𝓤 H) (m-record-at-lent : Triple 𝓤 (𝓣 .C #records·record-at) (RecordAt 𝓤 H A mem run)) (m-row-or : Triple 𝓤 (𝓣 .C #records·row-or) (RowOr 𝓤 H A mem run)) (m-put-record : Triple 𝓤 (𝓣 .C #records·put-record) (PutRecord 𝓤 H A mem run)) (l₀ l₁ l₂ l₃ l₄ l₅ l₆ l₇ l₈ l₉ l₁₀ l₁₁ l₁₂ l₁₃ l₁₄ : ℕ) where
     abbrev C : Calls 𝓤 H
     C = 𝓣 .C
 
@@ -128,7 +116,7 @@ module _ {M : Type 1} (𝓤 : URA M) (H : Heap 𝓤) (A : Atoms 𝓤) (W : Given
     En = (tyUnit, l₀) ∷ (sliceTy (tyRef (named 0) mut (pointee (R .written))), l₁) ∷ (sliceTy (tyRef (named 1) imm (pointee (N4 .written))), l₂) ∷ (sliceTy (tyRef (named 2) imm (pointee (F4 .written))), l₃) ∷ (sliceTy (tyRef (named 3) imm (pointee (Z4 .written))), l₄) ∷ (tyInt w64, l₅) ∷ (RT′.mir, l₆) ∷ (RT′.mir, l₇) ∷ (tyInt w64, l₈) ∷ (tyBool, l₉) ∷ (tyRef erased imm (pointee (R .written)), l₁₀) ∷ (sliceTy (tyRef erased imm (pointee (R .written))), l₁₁) ∷ (tyUnit, l₁₂) ∷ (tyRef erased mut (pointee (R .written)), l₁₃) ∷ (sliceTy (tyRef erased mut (pointee (R .written))), l₁₄) ∷ []
 
     abbrev At : Upto → List (Item 𝓤)
-    At i = ‵ (MutSlice (named 0) κ₀ R .own (to R b₀ o₀ γ₀ (firstGathered y₁ y₂ y₃ y₀ (i .0))) (s₀ ∷ [])) ∷ ‵ (flft κ₀ q₀) ∷ ‵ (ShrSlice (named 1) κ₁ N4 .own (to N4 b₁ o₁ γ₁ y₁) (s₁ ∷ [])) ∷ ‵ (flft κ₁ q₁) ∷ ‵ (ShrSlice (named 2) κ₂ F4 .own (to F4 b₂ o₂ γ₂ y₂) (s₂ ∷ [])) ∷ ‵ (flft κ₂ q₂) ∷ ‵ (ShrSlice (named 3) κ₃ Z4 .own (to Z4 b₃ o₃ γ₃ y₃) (s₃ ∷ [])) ∷ ‵ (flft κ₃ q₃) ∷ ‵ (froom (sliceTy (tyRef erased mut (pointee (R .written)))) l₁₄ 0) ∷ ‵ (fdies (sliceTy (tyRef erased mut (pointee (R .written)))) l₁₄) ∷ ‵ (froom (tyRef erased mut (pointee (R .written))) l₁₃ 0) ∷ ‵ (fdies (tyRef erased mut (pointee (R .written))) l₁₃) ∷ ‵ (froom tyUnit l₁₂ 0) ∷ ‵ (fdies tyUnit l₁₂) ∷ ‵ (froom (sliceTy (tyRef erased imm (pointee (R .written)))) l₁₁ 0) ∷ ‵ (fdies (sliceTy (tyRef erased imm (pointee (R .written)))) l₁₁) ∷ ‵ (froom (tyRef erased imm (pointee (R .written))) l₁₀ 0) ∷ ‵ (fdies (tyRef erased imm (pointee (R .written))) l₁₀) ∷ ‵ (froom tyBool l₉ 0) ∷ ‵ (fdies tyBool l₉) ∷ ‵ (froom (tyInt w64) l₈ 0) ∷ ‵ (fdies (tyInt w64) l₈) ∷ ‵ (froom RT′.mir l₇ 0) ∷ ‵ (fdies RT′.mir l₇) ∷ ‵ (froom RT′.mir l₆ 0) ∷ ‵ (fdies RT′.mir l₆) ∷ ‵ (fat fullShare (tyInt w64) l₅ 0 (vint w64 (i .0))) ∷ ‵ (fdies (tyInt w64) l₅) ∷ ‵ (fat fullShare (sliceTy (tyRef (named 3) imm (pointee (Z4 .written)))) l₄ 0 s₃) ∷ ‵ (fdies (sliceTy (tyRef (named 3) imm (pointee (Z4 .written)))) l₄) ∷ ‵ (fat fullShare (sliceTy (tyRef (named 2) imm (pointee (F4 .written)))) l₃ 0 s₂) ∷ ‵ (fdies (sliceTy (tyRef (named 2) imm (pointee (F4 .written)))) l₃) ∷ ‵ (fat fullShare (sliceTy (tyRef (named 1) imm (pointee (N4 .written)))) l₂ 0 s₁) ∷ ‵ (fdies (sliceTy (tyRef (named 1) imm (pointee (N4 .written)))) l₂) ∷ ‵ (fat fullShare (sliceTy (tyRef (named 0) mut (pointee (R .written)))) l₁ 0 s₀) ∷ ‵ (fdies (sliceTy (tyRef (named 0) mut (pointee (R .written)))) l₁) ∷ ‵ (froom tyUnit l₀ 0) ∷ ‵ (fdies tyUnit l₀) ∷ []
+    At i = ‵ (MutSlice (named 0) κ₀ R .own (to R b₀ o₀ γ₀ (firstGathered y₁ y₂ y₃ y₀ (i .0))) ((pointer b₀ o₀ y₀) ∷ [])) ∷ ‵ (flft κ₀ q₀) ∷ ‵ (ShrSlice (named 1) κ₁ N4 .own (to N4 b₁ o₁ γ₁ y₁) ((pointer b₁ o₁ y₁) ∷ [])) ∷ ‵ (flft κ₁ q₁) ∷ ‵ (ShrSlice (named 2) κ₂ F4 .own (to F4 b₂ o₂ γ₂ y₂) ((pointer b₂ o₂ y₂) ∷ [])) ∷ ‵ (flft κ₂ q₂) ∷ ‵ (ShrSlice (named 3) κ₃ Z4 .own (to Z4 b₃ o₃ γ₃ y₃) ((pointer b₃ o₃ y₃) ∷ [])) ∷ ‵ (flft κ₃ q₃) ∷ ‵ (froom (sliceTy (tyRef erased mut (pointee (R .written)))) l₁₄ 0) ∷ ‵ (fdies (sliceTy (tyRef erased mut (pointee (R .written)))) l₁₄) ∷ ‵ (froom (tyRef erased mut (pointee (R .written))) l₁₃ 0) ∷ ‵ (fdies (tyRef erased mut (pointee (R .written))) l₁₃) ∷ ‵ (froom tyUnit l₁₂ 0) ∷ ‵ (fdies tyUnit l₁₂) ∷ ‵ (froom (sliceTy (tyRef erased imm (pointee (R .written)))) l₁₁ 0) ∷ ‵ (fdies (sliceTy (tyRef erased imm (pointee (R .written)))) l₁₁) ∷ ‵ (froom (tyRef erased imm (pointee (R .written))) l₁₀ 0) ∷ ‵ (fdies (tyRef erased imm (pointee (R .written))) l₁₀) ∷ ‵ (froom tyBool l₉ 0) ∷ ‵ (fdies tyBool l₉) ∷ ‵ (froom (tyInt w64) l₈ 0) ∷ ‵ (fdies (tyInt w64) l₈) ∷ ‵ (froom RT′.mir l₇ 0) ∷ ‵ (fdies RT′.mir l₇) ∷ ‵ (froom RT′.mir l₆ 0) ∷ ‵ (fdies RT′.mir l₆) ∷ ‵ (fat fullShare (tyInt w64) l₅ 0 (vint w64 (i .0))) ∷ ‵ (fdies (tyInt w64) l₅) ∷ ‵ (fat fullShare (sliceTy (tyRef (named 3) imm (pointee (Z4 .written)))) l₄ 0 (pointer b₃ o₃ y₃)) ∷ ‵ (fdies (sliceTy (tyRef (named 3) imm (pointee (Z4 .written)))) l₄) ∷ ‵ (fat fullShare (sliceTy (tyRef (named 2) imm (pointee (F4 .written)))) l₃ 0 (pointer b₂ o₂ y₂)) ∷ ‵ (fdies (sliceTy (tyRef (named 2) imm (pointee (F4 .written)))) l₃) ∷ ‵ (fat fullShare (sliceTy (tyRef (named 1) imm (pointee (N4 .written)))) l₂ 0 (pointer b₁ o₁ y₁)) ∷ ‵ (fdies (sliceTy (tyRef (named 1) imm (pointee (N4 .written)))) l₂) ∷ ‵ (fat fullShare (sliceTy (tyRef (named 0) mut (pointee (R .written)))) l₁ 0 (pointer b₀ o₀ y₀)) ∷ ‵ (fdies (sliceTy (tyRef (named 0) mut (pointee (R .written)))) l₁) ∷ ‵ (froom tyUnit l₀ 0) ∷ ‵ (fdies tyUnit l₀) ∷ []
 
     abbrev Turned : Upto → Out → SProp 𝓤
     Turned i = afterTurn 𝓤 H (Below 𝓤 H A Nearer At i) (afterBlock 𝓤 H (afterSeq 𝓤 H (Wp 𝓤 H C Λ En mir.t-3 (atReturn 𝓤 H En Post)) (atReturn 𝓤 H En Post)))
@@ -141,17 +129,17 @@ module _ {M : Type 1} (𝓤 : URA M) (H : Heap 𝓤) (A : Atoms 𝓤) (W : Given
         rewrite ! 18 (λ (t : Bool). ‵ (fat fullShare tyBool l₉ 0 (vbool t))) e refl $ stays ! (load ! (from ! (stop !)) (look ! 18 refl)) $
         assigns ! (addr ! (from ! (fld ! refl (hop ! (look-in ! 34 (sub ! 0 refl (whole !))) (stop !))))) (from ! (stop !)) (init ! 16 refl (tt, tt)) $
         assigns ! (agg ! (and-then ! (load ! (from ! (stop !)) (look ! 16 refl)) (and-then ! (load ! (from ! (fld ! refl (stop !))) (look-in ! 34 (sub ! 1 refl (whole !)))) (no-more !)))) (from ! (stop !)) (init ! 14 refl (tt, (tt, (record { fits = room₀ .0 }, tt)))) $
-        calls-record-at-lent ! mem run (fmOf 𝓤 H (W .laws) 𝓣) m-record-at-lent (named 0) γ₀ b₀ o₀ (firstGathered y₁ y₂ y₃ y₀ (i .0)) (length y₀) (i .0) (sym (gathered-size y₁ y₂ y₃ y₀ (i .0))) room₀ (fits) (subst (λ (m : ℕ). i .0 < m) (sym (gathered-size y₁ y₂ y₃ y₀ (i .0))) less) (λ i₀ i₁. (and-then ! (load ! (from ! (stop !)) (look ! 14 refl)) (and-then ! (load ! (from ! (stop !)) (look ! 26 refl)) (no-more !)))) (λ gr.
+        calls-record-at-lent ! mem run (fmOf 𝓤 H (W .laws) 𝓣) m-record-at-lent (named 0) γ₀ b₀ o₀ (firstGathered y₁ y₂ y₃ y₀ (i .0)) (length y₀) (i .0) (sym (gathered-size y₁ y₂ y₃ y₀ (i .0))) room₀ (fits) (subst (λ (m : ℕ). i .0 < m) (sym (gathered-size y₁ y₂ y₃ y₀ (i .0))) less) (λ i j. (and-then ! (load ! (from ! (stop !)) (look ! 14 refl)) (and-then ! (load ! (from ! (stop !)) (look ! 26 refl)) (no-more !)))) (λ gr.
         land ! (from ! (stop !)) (init ! 24 refl (LL.lawful RT.the-type RT′.the-laws 𝓤 H A W .typed (getD (firstGathered y₁ y₂ y₃ y₀ (i .0)) (i .0) noRecord) _ gr .0)) $
-        move ! (2 ∷ 3 ∷ 4 ∷ 5 ∷ 6 ∷ 7 ∷ []) $ calls-row-or ! mem run (fmOf 𝓤 H (W .laws) 𝓣) m-row-or (named 1) γ₁ b₁ o₁ (y₁) (length y₁) (named 2) γ₂ b₂ o₂ (y₂) (length y₂) (named 3) γ₃ b₃ o₃ (y₃) (length y₃) (i .0) ((getD (firstGathered y₁ y₂ y₃ y₀ (i .0)) (i .0) noRecord)) (fits) (gr) (λ i₀ i₁ i₂ i₃. (and-then ! (load ! (from ! (stop !)) (look ! 30 refl)) (and-then ! (load ! (from ! (stop !)) (look ! 28 refl)) (and-then ! (load ! (from ! (stop !)) (look ! 26 refl)) (and-then ! (load ! (from ! (stop !)) (look ! 24 refl)) (and-then ! (load ! (from ! (stop !)) (look ! 22 refl)) (no-more !))))))) (λ gq.
+        move ! (2 ∷ 3 ∷ 4 ∷ 5 ∷ 6 ∷ 7 ∷ []) $ calls-row-or ! mem run (fmOf 𝓤 H (W .laws) 𝓣) m-row-or (named 1) γ₁ b₁ o₁ (y₁) (length y₁) (named 2) γ₂ b₂ o₂ (y₂) (length y₂) (named 3) γ₃ b₃ o₃ (y₃) (length y₃) (i .0) ((getD (firstGathered y₁ y₂ y₃ y₀ (i .0)) (i .0) noRecord)) (fits) (gr) (λ i j. (and-then ! (load ! (from ! (stop !)) (look ! 28 refl)) (and-then ! (load ! (from ! (stop !)) (look ! 26 refl)) (and-then ! (load ! (from ! (stop !)) (look ! 24 refl)) (and-then ! (load ! (from ! (stop !)) (look ! 22 refl)) (and-then ! (load ! (from ! (stop !)) (look ! 20 refl)) (no-more !))))))) (λ gq.
         land ! (from ! (stop !)) (init ! 22 refl (LL.lawful RT.the-type RT′.the-laws 𝓤 H A W .typed (rowOr y₁ y₂ y₃ (i .0) (getD (firstGathered y₁ y₂ y₃ y₀ (i .0)) (i .0) noRecord)) _ gq .0)) $
         assigns ! (addr ! (from ! (fld ! refl (hop ! (look-in ! 34 (sub ! 0 refl (whole !))) (stop !))))) (from ! (stop !)) (init ! 10 refl (tt, tt)) $
         assigns ! (agg ! (and-then ! (load ! (from ! (stop !)) (look ! 10 refl)) (and-then ! (load ! (from ! (fld ! refl (stop !))) (look-in ! 34 (sub ! 1 refl (whole !)))) (no-more !)))) (from ! (stop !)) (init ! 8 refl (tt, (tt, (record { fits = room₀ .0 }, tt)))) $
-        move ! (6 ∷ 7 ∷ []) $ calls-put-record ! mem run (fmOf 𝓤 H (W .laws) 𝓣) m-put-record (named 0) γ₀ b₀ o₀ (firstGathered y₁ y₂ y₃ y₀ (i .0)) (length y₀) (i .0) ((rowOr y₁ y₂ y₃ (i .0) (getD (firstGathered y₁ y₂ y₃ y₀ (i .0)) (i .0) noRecord))) (sym (gathered-size y₁ y₂ y₃ y₀ (i .0))) room₀ (fits) (gq) (subst (λ (m : ℕ). i .0 < m) (sym (gathered-size y₁ y₂ y₃ y₀ (i .0))) less) (λ i₀ i₁. (and-then ! (load ! (from ! (stop !)) (look ! 8 refl)) (and-then ! (load ! (from ! (stop !)) (look ! 26 refl)) (and-then ! (load ! (from ! (stop !)) (look ! 22 refl)) (no-more !))))) (
+        move ! (6 ∷ 7 ∷ []) $ calls-put-record ! mem run (fmOf 𝓤 H (W .laws) 𝓣) m-put-record (named 0) γ₀ b₀ o₀ (firstGathered y₁ y₂ y₃ y₀ (i .0)) (length y₀) (i .0) ((rowOr y₁ y₂ y₃ (i .0) (getD (firstGathered y₁ y₂ y₃ y₀ (i .0)) (i .0) noRecord))) (sym (gathered-size y₁ y₂ y₃ y₀ (i .0))) room₀ (fits) (gq) (subst (λ (m : ℕ). i .0 < m) (sym (gathered-size y₁ y₂ y₃ y₀ (i .0))) less) (λ i j. (and-then ! (load ! (from ! (stop !)) (look ! 8 refl)) (and-then ! (load ! (from ! (stop !)) (look ! 26 refl)) (and-then ! (load ! (from ! (stop !)) (look ! 22 refl)) (no-more !))))) (
         land ! (from ! (stop !)) (init ! 12 refl (tt, tt)) $
         assigns-last ! (bin ! (load ! (from ! (stop !)) (look ! 26 refl)) (lit ! tt) (record { fits = next-fits })) (from ! (stop !)) (store ! 26 refl (tt, record { fits = next-fits })) $
         forget ! 8 refl $ forget ! 10 refl $ forget ! 12 refl $ forget ! 14 refl $ forget ! 16 refl $ forget ! 18 refl $ forget ! 20 refl $ forget ! 22 refl $ forget ! 24 refl $
-        rewrite ! 0 (λ (us : List (Record)). ‵ (MutSlice (named 0) κ₀ R .own (to R b₀ o₀ γ₀ us) (s₀ ∷ []))) next₀ refl $
+        rewrite ! 0 (λ (us : List (Record)). ‵ (MutSlice (named 0) κ₀ R .own (to R b₀ o₀ γ₀ us) ((pointer b₀ o₀ y₀) ∷ []))) next₀ refl $
         again ! Nearer At i next (add-one-dec n (i .0) less))))
       where
         less : i .0 < n
@@ -176,7 +164,7 @@ module _ {M : Type 1} (𝓤 : URA M) (H : Heap 𝓤) (A : Atoms 𝓤) (W : Given
         returns ! (look ! 36 refl) $
         forget ! 18 refl $ forget ! 20 refl $ forget ! 26 refl $ forget ! 34 refl $ forget ! 32 refl $ forget ! 30 refl $ forget ! 28 refl $ forget ! 36 refl $
         move ! (36 ∷ 37 ∷ []) $ free1 ! $ move ! (34 ∷ 35 ∷ []) $ free1 ! $ move ! (32 ∷ 33 ∷ []) $ free1 ! $ move ! (30 ∷ 31 ∷ []) $ free1 ! $ move ! (28 ∷ 29 ∷ []) $ free1 ! $ move ! (26 ∷ 27 ∷ []) $ free1 ! $ move ! (24 ∷ 25 ∷ []) $ free1 ! $ move ! (22 ∷ 23 ∷ []) $ free1 ! $ move ! (20 ∷ 21 ∷ []) $ free1 ! $ move ! (18 ∷ 19 ∷ []) $ free1 ! $ move ! (16 ∷ 17 ∷ []) $ free1 ! $ move ! (14 ∷ 15 ∷ []) $ free1 ! $ move ! (12 ∷ 13 ∷ []) $ free1 ! $ move ! (10 ∷ 11 ∷ []) $ free1 ! $ move ! (8 ∷ 9 ∷ []) $ free1 ! $ free0 ! $
-        rewrite ! 0 (λ (us : List (Record)). ‵ (MutSlice (named 0) κ₀ R .own (to R b₀ o₀ γ₀ us) (s₀ ∷ []))) (ap (λ (k : ℕ). firstGathered y₁ y₂ y₃ y₀ k) all ∙ gathered-all y₁ y₂ y₃ y₀) refl $
+        rewrite ! 0 (λ (us : List (Record)). ‵ (MutSlice (named 0) κ₀ R .own (to R b₀ o₀ γ₀ us) ((pointer b₀ o₀ y₀) ∷ []))) (ap (λ (k : ℕ). firstGathered y₁ y₂ y₃ y₀ k) all ∙ gathered-all y₁ y₂ y₃ y₀) refl $
         by ! exits
       where
         all : i .0 ≡ n
@@ -185,18 +173,18 @@ module _ {M : Type 1} (𝓤 : URA M) (H : Heap 𝓤) (A : Atoms 𝓤) (W : Given
     walk-loop : Sq W (At (0, zero-le)) (runs C Λ En mir.t-2 (atRet En Post))
     walk-loop = first ! $ blocks ! $ loops ! 𝓣 Nearer Nearer-wf At (λ i. turn-at i (ltb (i .0) n) refl) (0, zero-le)
 
-  module _ (𝓣 : Tables 𝓤 H) (m-record-at-lent : Triple 𝓤 (𝓣 .C #records·record-at) (RecordAt-lent 𝓤 H A mem run)) (m-row-or : Triple 𝓤 (𝓣 .C #records·row-or) (RowOr 𝓤 H A mem run)) (m-put-record : Triple 𝓤 (𝓣 .C #records·put-record) (PutRecord 𝓤 H A mem run)) where
-    walk : ent 𝓤 (onEntry 𝓤 H A gather.signature (κ₀, (κ₁, (κ₂, (κ₃, tt)))) (q₀, (q₁, (q₂, (q₃, tt)))) x at) (WpFn 𝓤 H (𝓣 .C) (𝓣 .Λ) code.function (s₀ ∷ s₁ ∷ s₂ ∷ s₃ ∷ []) Post)
+  module _ (𝓣 : Tables 𝓤 H) (m-record-at-lent : Triple 𝓤 (𝓣 .C #records·record-at) (RecordAt 𝓤 H A mem run)) (m-row-or : Triple 𝓤 (𝓣 .C #records·row-or) (RowOr 𝓤 H A mem run)) (m-put-record : Triple 𝓤 (𝓣 .C #records·put-record) (PutRecord 𝓤 H A mem run)) where
+    walk : ent 𝓤 (onEntry 𝓤 H A gather.signature (κ₀, (κ₁, (κ₂, (κ₃, tt)))) (q₀, (q₁, (q₂, (q₃, tt)))) x at) (WpFn 𝓤 H (𝓣 .C) (𝓣 .Λ) code.function ((pointer b₀ o₀ y₀) ∷ (pointer b₁ o₁ y₁) ∷ (pointer b₂ o₂ y₂) ∷ (pointer b₃ o₃ y₃) ∷ []) Post)
     walk =
-        qed W ((‵ (flft κ₀ q₀) ⊛ ‵ (flft κ₁ q₁) ⊛ ‵ (flft κ₂ q₂) ⊛ ‵ (flft κ₃ q₃) ⊛ ‵ ftrue) ∷ ‵ (owns (MutSlice (named 0) κ₀ R ∷ ShrSlice (named 1) κ₁ N4 ∷ ShrSlice (named 2) κ₂ F4 ∷ ShrSlice (named 3) κ₃ Z4 ∷ []) x at) ∷ []) ∵ enter ! (𝓣 .C) (𝓣 .Λ) code.function (s₀ ∷ s₁ ∷ s₂ ∷ s₃ ∷ []) _ $
+        qed W ((‵ (flft κ₀ q₀) ⊛ ‵ (flft κ₁ q₁) ⊛ ‵ (flft κ₂ q₂) ⊛ ‵ (flft κ₃ q₃) ⊛ ‵ ftrue) ∷ ‵ (owns (MutSlice (named 0) κ₀ R ∷ ShrSlice (named 1) κ₁ N4 ∷ ShrSlice (named 2) κ₂ F4 ∷ ShrSlice (named 3) κ₃ Z4 ∷ []) x at) ∷ []) ∵ enter ! (𝓣 .C) (𝓣 .Λ) code.function ((pointer b₀ o₀ y₀) ∷ (pointer b₁ o₁ y₁) ∷ (pointer b₂ o₂ y₂) ∷ (pointer b₃ o₃ y₃) ∷ []) _ $
         alloc1 ! (λ l₀. alloc1 ! (λ l₁. alloc1 ! (λ l₂. alloc1 ! (λ l₃. alloc1 ! (λ l₄. alloc1 ! (λ l₅. alloc1 ! (λ l₆. alloc1 ! (λ l₇. alloc1 ! (λ l₈. alloc1 ! (λ l₉. alloc1 ! (λ l₁₀. alloc1 ! (λ l₁₁. alloc1 ! (λ l₁₂. alloc1 ! (λ l₁₃. alloc1 ! (λ l₁₄. alloc0 ! $ params1 ! $
         pass1 ! (init ! 26 refl (tt, (tt, (record { fits = room₀ .0 }, tt)))) $ pass1 ! (init ! 24 refl (tt, (tt, (record { fits = room₁ .0 }, tt)))) $ pass1 ! (init ! 22 refl (tt, (tt, (record { fits = room₂ .0 }, tt)))) $ pass1 ! (init ! 20 refl (tt, (tt, (record { fits = room₃ .0 }, tt)))) $ pass0 ! $
         assigns ! (of-opd ! (lit ! tt)) (from ! (stop !)) (init ! 18 refl (tt, record { fits = lit< tt })) $
         move ! (31 ∷ []) $ fsplit ! $ move ! (1 ∷ []) $ fsplit ! $ move ! (1 ∷ []) $ fsplit ! $ move ! (1 ∷ []) $ fsplit ! $ move ! (35 ∷ []) $ split ! $ move ! (1 ∷ []) $ split ! $ move ! (1 ∷ []) $ split ! $ move ! (1 ∷ []) $ split ! $ keep ! (9 ∷ 4 ∷ 8 ∷ 3 ∷ 7 ∷ 2 ∷ 5 ∷ 0 ∷ 10 ∷ 11 ∷ 12 ∷ 13 ∷ 14 ∷ 15 ∷ 16 ∷ 17 ∷ 18 ∷ 19 ∷ 20 ∷ 21 ∷ 22 ∷ 23 ∷ 24 ∷ 25 ∷ 26 ∷ 27 ∷ 28 ∷ 29 ∷ 30 ∷ 31 ∷ 32 ∷ 33 ∷ 34 ∷ 35 ∷ 36 ∷ 37 ∷ 38 ∷ 39 ∷ []) $
-        rewrite ! 0 (λ (us : List (Record)). ‵ (MutSlice (named 0) κ₀ R .own (to R b₀ o₀ γ₀ us) (s₀ ∷ []))) (sym (gathered-0 y₁ y₂ y₃ y₀)) refl $
+        rewrite ! 0 (λ (us : List (Record)). ‵ (MutSlice (named 0) κ₀ R .own (to R b₀ o₀ γ₀ us) ((pointer b₀ o₀ y₀) ∷ []))) (sym (gathered-0 y₁ y₂ y₃ y₀)) refl $
         walk-loop 𝓣 m-record-at-lent m-row-or m-put-record l₀ l₁ l₂ l₃ l₄ l₅ l₆ l₇ l₈ l₉ l₁₀ l₁₁ l₁₂ l₁₃ l₁₄)))))))))))))))
 
-module _ {M : Type 1} (𝓤 : URA M) (H : Heap 𝓤) (A : Atoms 𝓤) (W : Given 𝓤 H A) (mem : Memory → SProp 𝓤) (run : Routine → Fun 𝓤) (𝓣 : Tables 𝓤 H) (m-record-at-lent : Triple 𝓤 (𝓣 .C #records·record-at) (RecordAt-lent 𝓤 H A mem run)) (m-row-or : Triple 𝓤 (𝓣 .C #records·row-or) (RowOr 𝓤 H A mem run)) (m-put-record : Triple 𝓤 (𝓣 .C #records·put-record) (PutRecord 𝓤 H A mem run)) where
+module _ {M : Type 1} (𝓤 : URA M) (H : Heap 𝓤) (A : Atoms 𝓤) (W : Given 𝓤 H A) (mem : Memory → SProp 𝓤) (run : Routine → Fun 𝓤) (𝓣 : Tables 𝓤 H) (m-record-at-lent : Triple 𝓤 (𝓣 .C #records·record-at) (RecordAt 𝓤 H A mem run)) (m-row-or : Triple 𝓤 (𝓣 .C #records·row-or) (RowOr 𝓤 H A mem run)) (m-put-record : Triple 𝓤 (𝓣 .C #records·put-record) (PutRecord 𝓤 H A mem run)) where
   gather-walks : Walks 𝓤 H A gather.ended stayed (WpFn 𝓤 H (𝓣 .C) (𝓣 .Λ) code.function) (gather.clauses 𝓤 H A mem run)
   gather-walks = walked 𝓤 H A gather.ended stayed (gather.clauses 𝓤 H A mem run) (WpFn 𝓤 H (𝓣 .C) (𝓣 .Λ) code.function) (λ κs. (slice-vals, (slice-vals, (slice-vals, (slice-vals, tt))))) (λ κs. (mut-slice-tells (named 0) (κs .0) R, (shr-slice-tells (named 1) (κs .1 .0) N4, (shr-slice-tells (named 2) (κs .1 .1 .0) F4, (shr-slice-tells (named 3) (κs .1 .1 .1 .0) Z4, tt)))))
       (λ κs qs bounds a g are. via 𝓤 _ (fst∗ 𝓤 _ (emp 𝓤)) (walk 𝓤 H A W mem run (κs .0) (κs .1 .0) (κs .1 .1 .0) (κs .1 .1 .1 .0) (qs .0) (qs .1 .0) (qs .1 .1 .0) (qs .1 .1 .1 .0) (a .0 .ptr .0) (a .0 .ptr .1) (a .0 .name) (a .0 .now) (are .0 .0 .1) (a .1 .0 .ptr .0) (a .1 .0 .ptr .1) (a .1 .0 .name) (a .1 .0 .now) (are .1 .0 .0 .1) (a .1 .1 .0 .ptr .0) (a .1 .1 .0 .ptr .1) (a .1 .1 .0 .name) (a .1 .1 .0 .now) (are .1 .1 .0 .0 .1) (a .1 .1 .1 .0 .ptr .0) (a .1 .1 .1 .0 .ptr .1) (a .1 .1 .1 .0 .name) (a .1 .1 .1 .0 .now) (are .1 .1 .1 .0 .0 .1) 𝓣 m-record-at-lent m-row-or m-put-record))
@@ -210,6 +198,6 @@ gather-spec 𝓤 H 𝓜 𝓖 𝓡 =
     entered 𝓤 H (tripleOf 𝓤 H (𝓖 .A) gather.signature (gather.spec 𝓤 H (𝓖 .A) (𝓜 .mem) (𝓡 .run)))
     (tables 𝓤 H 𝓜 𝓡 code.env .C) (tables 𝓤 H 𝓜 𝓡 code.env .Λ) #records·gather code.function (code.unfolded 𝓤 H 𝓜 𝓡)
     (gather-meets 𝓤 H (𝓖 .A) (givenOf 𝓤 H 𝓜 𝓖) (𝓜 .mem) (𝓡 .run) (tablesOf 𝓤 H 𝓜 (tables 𝓤 H 𝓜 𝓡 code.env))
-    (cited 𝓤 H (RecordAt-lent 𝓤 H (𝓖 .A) (𝓜 .mem) (𝓡 .run)) 𝓜 𝓡 code.env #records·record-at record-at-def.routine code.calls-records·record-at (record-at-thm.met 𝓤 H 𝓜 𝓖 𝓡))
+    (cited 𝓤 H (RecordAt 𝓤 H (𝓖 .A) (𝓜 .mem) (𝓡 .run)) 𝓜 𝓡 code.env #records·record-at record-at-def.routine code.calls-records·record-at (record-at-thm.met 𝓤 H 𝓜 𝓖 𝓡))
     (cited 𝓤 H (RowOr 𝓤 H (𝓖 .A) (𝓜 .mem) (𝓡 .run)) 𝓜 𝓡 code.env #records·row-or row-or-def.routine code.calls-records·row-or (row-or-thm.met 𝓤 H 𝓜 𝓖 𝓡))
     (cited 𝓤 H (PutRecord 𝓤 H (𝓖 .A) (𝓜 .mem) (𝓡 .run)) 𝓜 𝓡 code.env #records·put-record put-record-def.routine code.calls-records·put-record (put-record-thm.met 𝓤 H 𝓜 𝓖 𝓡)))

@@ -33,7 +33,7 @@ use denote.RattleType.{owns}
 use denote.Memory.{pointee}
 use denote.Builtin.{u32, i32, f32, ArrayOf}
 use denote.Ref.{RefT}
-use denote.Slice.{sliceTy, sliceVal, ShrSlice, MutSlice, Room, slice-vals, shr-slice-tells, mut-slice-tells}
+use denote.Slice.{sliceTy, ShrSlice, MutSlice, Room, slice-vals, shr-slice-tells, mut-slice-tells}
 use denote.Signature.{plain}
 use denote.Steps.{nothing}
 use denote.Struct.Laws as LL
@@ -50,7 +50,7 @@ use Rattle.point_records.proofs.Record.Laws as RT′
 use Rattle.records.specs.Inner.Spread.{noRecord}
 use Rattle.records.specs.Meaning.Spread.{laid}
 use Rattle.records.proofs.Rows.{R, N4, F4, Z4}
-use Rattle.records.proofs.Lends.{to}
+use Rattle.records.proofs.Lends.{to, pointer}
 use Rattle.records.proofs.laws.SpreadLaws.{laid-length}
 use Rattle.records.proofs.LoopLaws.{firstLaid, laid-0, laid-all, laid-size, laid-next}
 use Rattle.records.proofs.OneRecord.{RecordAt, calls-record-at, PutNums, calls-put-nums, PutReals, calls-put-reals, PutInts, calls-put-ints}
@@ -76,23 +76,11 @@ abbrev stayed : Stays (spread.ended .signature .params) (spread.ended .kept)
 stayed = (stay-none-slice (0 ∷ []) tt (plain (λ _. R)) yes, (stay-slice (1 ∷ []) tt (ArrayOf (plain (λ _. u32)) (λ _. tt) 4), (stay-slice (2 ∷ []) tt (ArrayOf (plain (λ _. f32)) (λ _. tt) 4), (stay-slice (3 ∷ []) tt (ArrayOf (plain (λ _. i32)) (λ _. tt) 4), tt))))
 
 module _ {M : Type 1} (𝓤 : URA M) (H : Heap 𝓤) (A : Atoms 𝓤) (W : Given 𝓤 H A) (mem : Memory → SProp 𝓤) (run : Routine → Fun 𝓤) (κ₀ κ₁ κ₂ κ₃ : Lft) (q₀ q₁ q₂ q₃ : Share) (b₀ o₀ : ℕ) (γ₀ : GName) (y₀ : List (Record)) (room₀ : Room R (length y₀)) (b₁ o₁ : ℕ) (γ₁ : GName) (y₁ : List (List ℕ)) (room₁ : Room N4 (length y₁)) (b₂ o₂ : ℕ) (γ₂ : GName) (y₂ : List (List Float)) (room₂ : Room F4 (length y₂)) (b₃ o₃ : ℕ) (γ₃ : GName) (y₃ : List (List ℤ)) (room₃ : Room Z4 (length y₃)) where
-  abbrev s₀ : Val
-  s₀ = sliceVal (b₀, o₀) (length y₀)
-
-  abbrev s₁ : Val
-  s₁ = sliceVal (b₁, o₁) (length y₁)
-
-  abbrev s₂ : Val
-  s₂ = sliceVal (b₂, o₂) (length y₂)
-
-  abbrev s₃ : Val
-  s₃ = sliceVal (b₃, o₃) (length y₃)
-
   abbrev x : (RefT (List (Record)) × (RefT (List (List ℕ)) × (RefT (List (List Float)) × (RefT (List (List ℤ)) × Unit {0}))))
   x = (to R b₀ o₀ γ₀ y₀, (to N4 b₁ o₁ γ₁ y₁, (to F4 b₂ o₂ γ₂ y₂, (to Z4 b₃ o₃ γ₃ y₃, tt))))
 
   abbrev at : (List Val × (List Val × (List Val × (List Val × Unit {0}))))
-  at = (s₀ ∷ [], (s₁ ∷ [], (s₂ ∷ [], (s₃ ∷ [], tt))))
+  at = ((pointer b₀ o₀ y₀) ∷ [], ((pointer b₁ o₁ y₁) ∷ [], ((pointer b₂ o₂ y₂) ∷ [], ((pointer b₃ o₃ y₃) ∷ [], tt))))
 
   abbrev bound : walkOf 𝓤 H A spread.ended stayed (spread.clauses 𝓤 H A mem run) .Ghost
   bound = (((κ₀, (κ₁, (κ₂, (κ₃, tt)))), (q₀, (q₁, (q₂, (q₃, tt)))), tt, x, at), tt)
@@ -101,7 +89,7 @@ module _ {M : Type 1} (𝓤 : URA M) (H : Heap 𝓤) (A : Atoms 𝓤) (W : Given
   Post = walkOf 𝓤 H A spread.ended stayed (spread.clauses 𝓤 H A mem run) .post bound
 
   abbrev left : List (Item 𝓤)
-  left = ‵ (ShrSlice (named 0) κ₀ R .own (to R b₀ o₀ γ₀ (y₀)) (s₀ ∷ [])) ∷ ‵ (flft κ₀ q₀) ∷ ‵ (MutSlice (named 1) κ₁ N4 .own (to N4 b₁ o₁ γ₁ (laid numsOf y₀ y₁)) (s₁ ∷ [])) ∷ ‵ (flft κ₁ q₁) ∷ ‵ (MutSlice (named 2) κ₂ F4 .own (to F4 b₂ o₂ γ₂ (laid realsOf y₀ y₂)) (s₂ ∷ [])) ∷ ‵ (flft κ₂ q₂) ∷ ‵ (MutSlice (named 3) κ₃ Z4 .own (to Z4 b₃ o₃ γ₃ (laid intsOf y₀ y₃)) (s₃ ∷ [])) ∷ ‵ (flft κ₃ q₃) ∷ []
+  left = ‵ (ShrSlice (named 0) κ₀ R .own (to R b₀ o₀ γ₀ (y₀)) ((pointer b₀ o₀ y₀) ∷ [])) ∷ ‵ (flft κ₀ q₀) ∷ ‵ (MutSlice (named 1) κ₁ N4 .own (to N4 b₁ o₁ γ₁ (laid numsOf y₀ y₁)) ((pointer b₁ o₁ y₁) ∷ [])) ∷ ‵ (flft κ₁ q₁) ∷ ‵ (MutSlice (named 2) κ₂ F4 .own (to F4 b₂ o₂ γ₂ (laid realsOf y₀ y₂)) ((pointer b₂ o₂ y₂) ∷ [])) ∷ ‵ (flft κ₂ q₂) ∷ ‵ (MutSlice (named 3) κ₃ Z4 .own (to Z4 b₃ o₃ γ₃ (laid intsOf y₀ y₃)) ((pointer b₃ o₃ y₃) ∷ [])) ∷ ‵ (flft κ₃ q₃) ∷ []
 
   exits : ent 𝓤 (⋆ 𝓤 H A (left)) (Post (vunit))
   exits =
@@ -132,7 +120,7 @@ module _ {M : Type 1} (𝓤 : URA M) (H : Heap 𝓤) (A : Atoms 𝓤) (W : Given
     En = (tyUnit, l₀) ∷ (sliceTy (tyRef (named 0) imm (pointee (R .written))), l₁) ∷ (sliceTy (tyRef (named 1) mut (pointee (N4 .written))), l₂) ∷ (sliceTy (tyRef (named 2) mut (pointee (F4 .written))), l₃) ∷ (sliceTy (tyRef (named 3) mut (pointee (Z4 .written))), l₄) ∷ (tyInt w64, l₅) ∷ (RT′.mir, l₆) ∷ (tyInt w64, l₇) ∷ (tyBool, l₈) ∷ (tyUnit, l₉) ∷ (tyRef erased mut (pointee (N4 .written)), l₁₀) ∷ (sliceTy (tyRef erased mut (pointee (N4 .written))), l₁₁) ∷ (tyRef erased mut (pointee (F4 .written)), l₁₂) ∷ (sliceTy (tyRef erased mut (pointee (F4 .written))), l₁₃) ∷ (tyRef erased mut (pointee (Z4 .written)), l₁₄) ∷ (sliceTy (tyRef erased mut (pointee (Z4 .written))), l₁₅) ∷ []
 
     abbrev At : Upto → List (Item 𝓤)
-    At i = ‵ (ShrSlice (named 0) κ₀ R .own (to R b₀ o₀ γ₀ y₀) (s₀ ∷ [])) ∷ ‵ (flft κ₀ q₀) ∷ ‵ (MutSlice (named 1) κ₁ N4 .own (to N4 b₁ o₁ γ₁ (firstLaid numsOf y₀ y₁ (i .0))) (s₁ ∷ [])) ∷ ‵ (flft κ₁ q₁) ∷ ‵ (MutSlice (named 2) κ₂ F4 .own (to F4 b₂ o₂ γ₂ (firstLaid realsOf y₀ y₂ (i .0))) (s₂ ∷ [])) ∷ ‵ (flft κ₂ q₂) ∷ ‵ (MutSlice (named 3) κ₃ Z4 .own (to Z4 b₃ o₃ γ₃ (firstLaid intsOf y₀ y₃ (i .0))) (s₃ ∷ [])) ∷ ‵ (flft κ₃ q₃) ∷ ‵ (froom (sliceTy (tyRef erased mut (pointee (Z4 .written)))) l₁₅ 0) ∷ ‵ (fdies (sliceTy (tyRef erased mut (pointee (Z4 .written)))) l₁₅) ∷ ‵ (froom (tyRef erased mut (pointee (Z4 .written))) l₁₄ 0) ∷ ‵ (fdies (tyRef erased mut (pointee (Z4 .written))) l₁₄) ∷ ‵ (froom (sliceTy (tyRef erased mut (pointee (F4 .written)))) l₁₃ 0) ∷ ‵ (fdies (sliceTy (tyRef erased mut (pointee (F4 .written)))) l₁₃) ∷ ‵ (froom (tyRef erased mut (pointee (F4 .written))) l₁₂ 0) ∷ ‵ (fdies (tyRef erased mut (pointee (F4 .written))) l₁₂) ∷ ‵ (froom (sliceTy (tyRef erased mut (pointee (N4 .written)))) l₁₁ 0) ∷ ‵ (fdies (sliceTy (tyRef erased mut (pointee (N4 .written)))) l₁₁) ∷ ‵ (froom (tyRef erased mut (pointee (N4 .written))) l₁₀ 0) ∷ ‵ (fdies (tyRef erased mut (pointee (N4 .written))) l₁₀) ∷ ‵ (froom tyUnit l₉ 0) ∷ ‵ (fdies tyUnit l₉) ∷ ‵ (froom tyBool l₈ 0) ∷ ‵ (fdies tyBool l₈) ∷ ‵ (froom (tyInt w64) l₇ 0) ∷ ‵ (fdies (tyInt w64) l₇) ∷ ‵ (froom RT′.mir l₆ 0) ∷ ‵ (fdies RT′.mir l₆) ∷ ‵ (fat fullShare (tyInt w64) l₅ 0 (vint w64 (i .0))) ∷ ‵ (fdies (tyInt w64) l₅) ∷ ‵ (fat fullShare (sliceTy (tyRef (named 3) mut (pointee (Z4 .written)))) l₄ 0 s₃) ∷ ‵ (fdies (sliceTy (tyRef (named 3) mut (pointee (Z4 .written)))) l₄) ∷ ‵ (fat fullShare (sliceTy (tyRef (named 2) mut (pointee (F4 .written)))) l₃ 0 s₂) ∷ ‵ (fdies (sliceTy (tyRef (named 2) mut (pointee (F4 .written)))) l₃) ∷ ‵ (fat fullShare (sliceTy (tyRef (named 1) mut (pointee (N4 .written)))) l₂ 0 s₁) ∷ ‵ (fdies (sliceTy (tyRef (named 1) mut (pointee (N4 .written)))) l₂) ∷ ‵ (fat fullShare (sliceTy (tyRef (named 0) imm (pointee (R .written)))) l₁ 0 s₀) ∷ ‵ (fdies (sliceTy (tyRef (named 0) imm (pointee (R .written)))) l₁) ∷ ‵ (froom tyUnit l₀ 0) ∷ ‵ (fdies tyUnit l₀) ∷ []
+    At i = ‵ (ShrSlice (named 0) κ₀ R .own (to R b₀ o₀ γ₀ y₀) ((pointer b₀ o₀ y₀) ∷ [])) ∷ ‵ (flft κ₀ q₀) ∷ ‵ (MutSlice (named 1) κ₁ N4 .own (to N4 b₁ o₁ γ₁ (firstLaid numsOf y₀ y₁ (i .0))) ((pointer b₁ o₁ y₁) ∷ [])) ∷ ‵ (flft κ₁ q₁) ∷ ‵ (MutSlice (named 2) κ₂ F4 .own (to F4 b₂ o₂ γ₂ (firstLaid realsOf y₀ y₂ (i .0))) ((pointer b₂ o₂ y₂) ∷ [])) ∷ ‵ (flft κ₂ q₂) ∷ ‵ (MutSlice (named 3) κ₃ Z4 .own (to Z4 b₃ o₃ γ₃ (firstLaid intsOf y₀ y₃ (i .0))) ((pointer b₃ o₃ y₃) ∷ [])) ∷ ‵ (flft κ₃ q₃) ∷ ‵ (froom (sliceTy (tyRef erased mut (pointee (Z4 .written)))) l₁₅ 0) ∷ ‵ (fdies (sliceTy (tyRef erased mut (pointee (Z4 .written)))) l₁₅) ∷ ‵ (froom (tyRef erased mut (pointee (Z4 .written))) l₁₄ 0) ∷ ‵ (fdies (tyRef erased mut (pointee (Z4 .written))) l₁₄) ∷ ‵ (froom (sliceTy (tyRef erased mut (pointee (F4 .written)))) l₁₃ 0) ∷ ‵ (fdies (sliceTy (tyRef erased mut (pointee (F4 .written)))) l₁₃) ∷ ‵ (froom (tyRef erased mut (pointee (F4 .written))) l₁₂ 0) ∷ ‵ (fdies (tyRef erased mut (pointee (F4 .written))) l₁₂) ∷ ‵ (froom (sliceTy (tyRef erased mut (pointee (N4 .written)))) l₁₁ 0) ∷ ‵ (fdies (sliceTy (tyRef erased mut (pointee (N4 .written)))) l₁₁) ∷ ‵ (froom (tyRef erased mut (pointee (N4 .written))) l₁₀ 0) ∷ ‵ (fdies (tyRef erased mut (pointee (N4 .written))) l₁₀) ∷ ‵ (froom tyUnit l₉ 0) ∷ ‵ (fdies tyUnit l₉) ∷ ‵ (froom tyBool l₈ 0) ∷ ‵ (fdies tyBool l₈) ∷ ‵ (froom (tyInt w64) l₇ 0) ∷ ‵ (fdies (tyInt w64) l₇) ∷ ‵ (froom RT′.mir l₆ 0) ∷ ‵ (fdies RT′.mir l₆) ∷ ‵ (fat fullShare (tyInt w64) l₅ 0 (vint w64 (i .0))) ∷ ‵ (fdies (tyInt w64) l₅) ∷ ‵ (fat fullShare (sliceTy (tyRef (named 3) mut (pointee (Z4 .written)))) l₄ 0 (pointer b₃ o₃ y₃)) ∷ ‵ (fdies (sliceTy (tyRef (named 3) mut (pointee (Z4 .written)))) l₄) ∷ ‵ (fat fullShare (sliceTy (tyRef (named 2) mut (pointee (F4 .written)))) l₃ 0 (pointer b₂ o₂ y₂)) ∷ ‵ (fdies (sliceTy (tyRef (named 2) mut (pointee (F4 .written)))) l₃) ∷ ‵ (fat fullShare (sliceTy (tyRef (named 1) mut (pointee (N4 .written)))) l₂ 0 (pointer b₁ o₁ y₁)) ∷ ‵ (fdies (sliceTy (tyRef (named 1) mut (pointee (N4 .written)))) l₂) ∷ ‵ (fat fullShare (sliceTy (tyRef (named 0) imm (pointee (R .written)))) l₁ 0 (pointer b₀ o₀ y₀)) ∷ ‵ (fdies (sliceTy (tyRef (named 0) imm (pointee (R .written)))) l₁) ∷ ‵ (froom tyUnit l₀ 0) ∷ ‵ (fdies tyUnit l₀) ∷ []
 
     abbrev Turned : Upto → Out → SProp 𝓤
     Turned i = afterTurn 𝓤 H (Below 𝓤 H A Nearer At i) (afterBlock 𝓤 H (afterSeq 𝓤 H (Wp 𝓤 H C Λ En mir.t-3 (atReturn 𝓤 H En Post)) (atReturn 𝓤 H En Post)))
@@ -143,26 +131,26 @@ module _ {M : Type 1} (𝓤 : URA M) (H : Heap 𝓤) (A : Atoms 𝓤) (W : Given
         assigns ! (of-opd ! (load ! (from ! (fld ! refl (stop !))) (look-in ! 36 (sub ! 1 refl (whole !))))) (from ! (stop !)) (init ! 24 refl (tt, record { fits = room₀ .0 })) $
         assigns ! (bin ! (load ! (from ! (stop !)) (look ! 28 refl)) (load ! (from ! (stop !)) (look ! 24 refl)) tt) (from ! (stop !)) (init ! 22 refl (tt, tt)) $
         rewrite ! 22 (λ (t : Bool). ‵ (fat fullShare tyBool l₈ 0 (vbool t))) e refl $ stays ! (load ! (from ! (stop !)) (look ! 22 refl)) $
-        calls-record-at ! mem run (fmOf 𝓤 H (W .laws) 𝓣) m-record-at (named 0) γ₀ b₀ o₀ (y₀) (length y₀) (i .0) (fits) less (λ i₀ i₁. (and-then ! (load ! (from ! (stop !)) (look ! 36 refl)) (and-then ! (load ! (from ! (stop !)) (look ! 28 refl)) (no-more !)))) (λ gr.
+        calls-record-at ! mem run (fmOf 𝓤 H (W .laws) 𝓣) m-record-at (named 0) γ₀ b₀ o₀ (y₀) (length y₀) (i .0) (fits) less (λ i j. (and-then ! (load ! (from ! (stop !)) (look ! 36 refl)) (and-then ! (load ! (from ! (stop !)) (look ! 28 refl)) (no-more !)))) (λ gr.
         land ! (from ! (stop !)) (init ! 26 refl (LL.lawful RT.the-type RT′.the-laws 𝓤 H A W .typed (getD y₀ (i .0) noRecord) _ gr .0)) $
         assigns ! (addr ! (from ! (fld ! refl (hop ! (look-in ! 34 (sub ! 0 refl (whole !))) (stop !))))) (from ! (stop !)) (init ! 18 refl (tt, tt)) $
         assigns ! (agg ! (and-then ! (load ! (from ! (stop !)) (look ! 18 refl)) (and-then ! (load ! (from ! (fld ! refl (stop !))) (look-in ! 34 (sub ! 1 refl (whole !)))) (no-more !)))) (from ! (stop !)) (init ! 16 refl (tt, (tt, (record { fits = room₁ .0 }, tt)))) $
-        move ! (2 ∷ 3 ∷ []) $ calls-put-nums ! mem run (fmOf 𝓤 H (W .laws) 𝓣) m-put-nums (named 1) γ₁ b₁ o₁ (firstLaid numsOf y₀ y₁ (i .0)) (length y₁) (i .0) ((getD y₀ (i .0) noRecord)) (sym (laid-size numsOf y₀ y₁ (i .0))) room₁ (fits) (gr) (λ i₀ i₁. (and-then ! (load ! (from ! (stop !)) (look ! 16 refl)) (and-then ! (load ! (from ! (stop !)) (look ! 28 refl)) (and-then ! (load ! (from ! (stop !)) (look ! 26 refl)) (no-more !))))) (
+        move ! (2 ∷ 3 ∷ []) $ calls-put-nums ! mem run (fmOf 𝓤 H (W .laws) 𝓣) m-put-nums (named 1) γ₁ b₁ o₁ (firstLaid numsOf y₀ y₁ (i .0)) (length y₁) (i .0) ((getD y₀ (i .0) noRecord)) (sym (laid-size numsOf y₀ y₁ (i .0))) room₁ (fits) (gr) (λ i j. (and-then ! (load ! (from ! (stop !)) (look ! 16 refl)) (and-then ! (load ! (from ! (stop !)) (look ! 28 refl)) (and-then ! (load ! (from ! (stop !)) (look ! 26 refl)) (no-more !))))) (
         land ! (from ! (stop !)) (init ! 20 refl (tt, tt)) $
         assigns ! (addr ! (from ! (fld ! refl (hop ! (look-in ! 32 (sub ! 0 refl (whole !))) (stop !))))) (from ! (stop !)) (init ! 14 refl (tt, tt)) $
         assigns ! (agg ! (and-then ! (load ! (from ! (stop !)) (look ! 14 refl)) (and-then ! (load ! (from ! (fld ! refl (stop !))) (look-in ! 32 (sub ! 1 refl (whole !)))) (no-more !)))) (from ! (stop !)) (init ! 12 refl (tt, (tt, (record { fits = room₂ .0 }, tt)))) $
-        move ! (4 ∷ 5 ∷ []) $ calls-put-reals ! mem run (fmOf 𝓤 H (W .laws) 𝓣) m-put-reals (named 2) γ₂ b₂ o₂ (firstLaid realsOf y₀ y₂ (i .0)) (length y₂) (i .0) ((getD y₀ (i .0) noRecord)) (sym (laid-size realsOf y₀ y₂ (i .0))) room₂ (fits) (gr) (λ i₀ i₁. (and-then ! (load ! (from ! (stop !)) (look ! 12 refl)) (and-then ! (load ! (from ! (stop !)) (look ! 28 refl)) (and-then ! (load ! (from ! (stop !)) (look ! 26 refl)) (no-more !))))) (
+        move ! (4 ∷ 5 ∷ []) $ calls-put-reals ! mem run (fmOf 𝓤 H (W .laws) 𝓣) m-put-reals (named 2) γ₂ b₂ o₂ (firstLaid realsOf y₀ y₂ (i .0)) (length y₂) (i .0) ((getD y₀ (i .0) noRecord)) (sym (laid-size realsOf y₀ y₂ (i .0))) room₂ (fits) (gr) (λ i j. (and-then ! (load ! (from ! (stop !)) (look ! 12 refl)) (and-then ! (load ! (from ! (stop !)) (look ! 28 refl)) (and-then ! (load ! (from ! (stop !)) (look ! 26 refl)) (no-more !))))) (
         land ! (from ! (stop !)) (store ! 20 refl (tt, tt)) $
         assigns ! (addr ! (from ! (fld ! refl (hop ! (look-in ! 30 (sub ! 0 refl (whole !))) (stop !))))) (from ! (stop !)) (init ! 10 refl (tt, tt)) $
         assigns ! (agg ! (and-then ! (load ! (from ! (stop !)) (look ! 10 refl)) (and-then ! (load ! (from ! (fld ! refl (stop !))) (look-in ! 30 (sub ! 1 refl (whole !)))) (no-more !)))) (from ! (stop !)) (init ! 8 refl (tt, (tt, (record { fits = room₃ .0 }, tt)))) $
-        move ! (6 ∷ 7 ∷ []) $ calls-put-ints ! mem run (fmOf 𝓤 H (W .laws) 𝓣) m-put-ints (named 3) γ₃ b₃ o₃ (firstLaid intsOf y₀ y₃ (i .0)) (length y₃) (i .0) ((getD y₀ (i .0) noRecord)) (sym (laid-size intsOf y₀ y₃ (i .0))) room₃ (fits) (gr) (λ i₀ i₁. (and-then ! (load ! (from ! (stop !)) (look ! 8 refl)) (and-then ! (load ! (from ! (stop !)) (look ! 28 refl)) (and-then ! (load ! (from ! (stop !)) (look ! 26 refl)) (no-more !))))) (
+        move ! (6 ∷ 7 ∷ []) $ calls-put-ints ! mem run (fmOf 𝓤 H (W .laws) 𝓣) m-put-ints (named 3) γ₃ b₃ o₃ (firstLaid intsOf y₀ y₃ (i .0)) (length y₃) (i .0) ((getD y₀ (i .0) noRecord)) (sym (laid-size intsOf y₀ y₃ (i .0))) room₃ (fits) (gr) (λ i j. (and-then ! (load ! (from ! (stop !)) (look ! 8 refl)) (and-then ! (load ! (from ! (stop !)) (look ! 28 refl)) (and-then ! (load ! (from ! (stop !)) (look ! 26 refl)) (no-more !))))) (
         land ! (from ! (stop !)) (store ! 20 refl (tt, tt)) $
         assigns-last ! (bin ! (load ! (from ! (stop !)) (look ! 28 refl)) (lit ! tt) (record { fits = next-fits })) (from ! (stop !)) (store ! 28 refl (tt, record { fits = next-fits })) $
         forget ! 8 refl $ forget ! 10 refl $ forget ! 12 refl $ forget ! 14 refl $ forget ! 16 refl $ forget ! 18 refl $ forget ! 20 refl $ forget ! 22 refl $ forget ! 24 refl $ forget ! 26 refl $
         move ! (6 ∷ 7 ∷ 4 ∷ 5 ∷ 2 ∷ 3 ∷ 0 ∷ 1 ∷ []) $
-        rewrite ! 2 (λ (us : List (List ℕ)). ‵ (MutSlice (named 1) κ₁ N4 .own (to N4 b₁ o₁ γ₁ us) (s₁ ∷ []))) next₁ refl $
-        rewrite ! 4 (λ (us : List (List Float)). ‵ (MutSlice (named 2) κ₂ F4 .own (to F4 b₂ o₂ γ₂ us) (s₂ ∷ []))) next₂ refl $
-        rewrite ! 6 (λ (us : List (List ℤ)). ‵ (MutSlice (named 3) κ₃ Z4 .own (to Z4 b₃ o₃ γ₃ us) (s₃ ∷ []))) next₃ refl $
+        rewrite ! 2 (λ (us : List (List ℕ)). ‵ (MutSlice (named 1) κ₁ N4 .own (to N4 b₁ o₁ γ₁ us) ((pointer b₁ o₁ y₁) ∷ []))) next₁ refl $
+        rewrite ! 4 (λ (us : List (List Float)). ‵ (MutSlice (named 2) κ₂ F4 .own (to F4 b₂ o₂ γ₂ us) ((pointer b₂ o₂ y₂) ∷ []))) next₂ refl $
+        rewrite ! 6 (λ (us : List (List ℤ)). ‵ (MutSlice (named 3) κ₃ Z4 .own (to Z4 b₃ o₃ γ₃ us) ((pointer b₃ o₃ y₃) ∷ []))) next₃ refl $
         again ! Nearer At i next (add-one-dec n (i .0) less)))))
       where
         less : i .0 < n
@@ -193,9 +181,9 @@ module _ {M : Type 1} (𝓤 : URA M) (H : Heap 𝓤) (A : Atoms 𝓤) (W : Given
         returns ! (look ! 38 refl) $
         forget ! 22 refl $ forget ! 24 refl $ forget ! 28 refl $ forget ! 36 refl $ forget ! 34 refl $ forget ! 32 refl $ forget ! 30 refl $ forget ! 38 refl $
         move ! (38 ∷ 39 ∷ []) $ free1 ! $ move ! (36 ∷ 37 ∷ []) $ free1 ! $ move ! (34 ∷ 35 ∷ []) $ free1 ! $ move ! (32 ∷ 33 ∷ []) $ free1 ! $ move ! (30 ∷ 31 ∷ []) $ free1 ! $ move ! (28 ∷ 29 ∷ []) $ free1 ! $ move ! (26 ∷ 27 ∷ []) $ free1 ! $ move ! (24 ∷ 25 ∷ []) $ free1 ! $ move ! (22 ∷ 23 ∷ []) $ free1 ! $ move ! (20 ∷ 21 ∷ []) $ free1 ! $ move ! (18 ∷ 19 ∷ []) $ free1 ! $ move ! (16 ∷ 17 ∷ []) $ free1 ! $ move ! (14 ∷ 15 ∷ []) $ free1 ! $ move ! (12 ∷ 13 ∷ []) $ free1 ! $ move ! (10 ∷ 11 ∷ []) $ free1 ! $ move ! (8 ∷ 9 ∷ []) $ free1 ! $ free0 ! $
-        rewrite ! 2 (λ (us : List (List ℕ)). ‵ (MutSlice (named 1) κ₁ N4 .own (to N4 b₁ o₁ γ₁ us) (s₁ ∷ []))) (ap (λ (k : ℕ). firstLaid numsOf y₀ y₁ k) all ∙ laid-all numsOf y₀ y₁) refl $
-        rewrite ! 4 (λ (us : List (List Float)). ‵ (MutSlice (named 2) κ₂ F4 .own (to F4 b₂ o₂ γ₂ us) (s₂ ∷ []))) (ap (λ (k : ℕ). firstLaid realsOf y₀ y₂ k) all ∙ laid-all realsOf y₀ y₂) refl $
-        rewrite ! 6 (λ (us : List (List ℤ)). ‵ (MutSlice (named 3) κ₃ Z4 .own (to Z4 b₃ o₃ γ₃ us) (s₃ ∷ []))) (ap (λ (k : ℕ). firstLaid intsOf y₀ y₃ k) all ∙ laid-all intsOf y₀ y₃) refl $
+        rewrite ! 2 (λ (us : List (List ℕ)). ‵ (MutSlice (named 1) κ₁ N4 .own (to N4 b₁ o₁ γ₁ us) ((pointer b₁ o₁ y₁) ∷ []))) (ap (λ (k : ℕ). firstLaid numsOf y₀ y₁ k) all ∙ laid-all numsOf y₀ y₁) refl $
+        rewrite ! 4 (λ (us : List (List Float)). ‵ (MutSlice (named 2) κ₂ F4 .own (to F4 b₂ o₂ γ₂ us) ((pointer b₂ o₂ y₂) ∷ []))) (ap (λ (k : ℕ). firstLaid realsOf y₀ y₂ k) all ∙ laid-all realsOf y₀ y₂) refl $
+        rewrite ! 6 (λ (us : List (List ℤ)). ‵ (MutSlice (named 3) κ₃ Z4 .own (to Z4 b₃ o₃ γ₃ us) ((pointer b₃ o₃ y₃) ∷ []))) (ap (λ (k : ℕ). firstLaid intsOf y₀ y₃ k) all ∙ laid-all intsOf y₀ y₃) refl $
         by ! exits
       where
         all : i .0 ≡ n
@@ -205,16 +193,16 @@ module _ {M : Type 1} (𝓤 : URA M) (H : Heap 𝓤) (A : Atoms 𝓤) (W : Given
     walk-loop = first ! $ blocks ! $ loops ! 𝓣 Nearer Nearer-wf At (λ i. turn-at i (ltb (i .0) n) refl) (0, zero-le)
 
   module _ (𝓣 : Tables 𝓤 H) (m-record-at : Triple 𝓤 (𝓣 .C #records·record-at) (RecordAt 𝓤 H A mem run)) (m-put-nums : Triple 𝓤 (𝓣 .C #records·put-nums) (PutNums 𝓤 H A mem run)) (m-put-reals : Triple 𝓤 (𝓣 .C #records·put-reals) (PutReals 𝓤 H A mem run)) (m-put-ints : Triple 𝓤 (𝓣 .C #records·put-ints) (PutInts 𝓤 H A mem run)) where
-    walk : ent 𝓤 (onEntry 𝓤 H A spread.signature (κ₀, (κ₁, (κ₂, (κ₃, tt)))) (q₀, (q₁, (q₂, (q₃, tt)))) x at) (WpFn 𝓤 H (𝓣 .C) (𝓣 .Λ) code.function (s₀ ∷ s₁ ∷ s₂ ∷ s₃ ∷ []) Post)
+    walk : ent 𝓤 (onEntry 𝓤 H A spread.signature (κ₀, (κ₁, (κ₂, (κ₃, tt)))) (q₀, (q₁, (q₂, (q₃, tt)))) x at) (WpFn 𝓤 H (𝓣 .C) (𝓣 .Λ) code.function ((pointer b₀ o₀ y₀) ∷ (pointer b₁ o₁ y₁) ∷ (pointer b₂ o₂ y₂) ∷ (pointer b₃ o₃ y₃) ∷ []) Post)
     walk =
-        qed W ((‵ (flft κ₀ q₀) ⊛ ‵ (flft κ₁ q₁) ⊛ ‵ (flft κ₂ q₂) ⊛ ‵ (flft κ₃ q₃) ⊛ ‵ ftrue) ∷ ‵ (owns (ShrSlice (named 0) κ₀ R ∷ MutSlice (named 1) κ₁ N4 ∷ MutSlice (named 2) κ₂ F4 ∷ MutSlice (named 3) κ₃ Z4 ∷ []) x at) ∷ []) ∵ enter ! (𝓣 .C) (𝓣 .Λ) code.function (s₀ ∷ s₁ ∷ s₂ ∷ s₃ ∷ []) _ $
+        qed W ((‵ (flft κ₀ q₀) ⊛ ‵ (flft κ₁ q₁) ⊛ ‵ (flft κ₂ q₂) ⊛ ‵ (flft κ₃ q₃) ⊛ ‵ ftrue) ∷ ‵ (owns (ShrSlice (named 0) κ₀ R ∷ MutSlice (named 1) κ₁ N4 ∷ MutSlice (named 2) κ₂ F4 ∷ MutSlice (named 3) κ₃ Z4 ∷ []) x at) ∷ []) ∵ enter ! (𝓣 .C) (𝓣 .Λ) code.function ((pointer b₀ o₀ y₀) ∷ (pointer b₁ o₁ y₁) ∷ (pointer b₂ o₂ y₂) ∷ (pointer b₃ o₃ y₃) ∷ []) _ $
         alloc1 ! (λ l₀. alloc1 ! (λ l₁. alloc1 ! (λ l₂. alloc1 ! (λ l₃. alloc1 ! (λ l₄. alloc1 ! (λ l₅. alloc1 ! (λ l₆. alloc1 ! (λ l₇. alloc1 ! (λ l₈. alloc1 ! (λ l₉. alloc1 ! (λ l₁₀. alloc1 ! (λ l₁₁. alloc1 ! (λ l₁₂. alloc1 ! (λ l₁₃. alloc1 ! (λ l₁₄. alloc1 ! (λ l₁₅. alloc0 ! $ params1 ! $
         pass1 ! (init ! 28 refl (tt, (tt, (record { fits = room₀ .0 }, tt)))) $ pass1 ! (init ! 26 refl (tt, (tt, (record { fits = room₁ .0 }, tt)))) $ pass1 ! (init ! 24 refl (tt, (tt, (record { fits = room₂ .0 }, tt)))) $ pass1 ! (init ! 22 refl (tt, (tt, (record { fits = room₃ .0 }, tt)))) $ pass0 ! $
         assigns ! (of-opd ! (lit ! tt)) (from ! (stop !)) (init ! 20 refl (tt, record { fits = lit< tt })) $
         move ! (33 ∷ []) $ fsplit ! $ move ! (1 ∷ []) $ fsplit ! $ move ! (1 ∷ []) $ fsplit ! $ move ! (1 ∷ []) $ fsplit ! $ move ! (37 ∷ []) $ split ! $ move ! (1 ∷ []) $ split ! $ move ! (1 ∷ []) $ split ! $ move ! (1 ∷ []) $ split ! $ keep ! (9 ∷ 4 ∷ 8 ∷ 3 ∷ 7 ∷ 2 ∷ 5 ∷ 0 ∷ 10 ∷ 11 ∷ 12 ∷ 13 ∷ 14 ∷ 15 ∷ 16 ∷ 17 ∷ 18 ∷ 19 ∷ 20 ∷ 21 ∷ 22 ∷ 23 ∷ 24 ∷ 25 ∷ 26 ∷ 27 ∷ 28 ∷ 29 ∷ 30 ∷ 31 ∷ 32 ∷ 33 ∷ 34 ∷ 35 ∷ 36 ∷ 37 ∷ 38 ∷ 39 ∷ 40 ∷ 41 ∷ []) $
-        rewrite ! 2 (λ (us : List (List ℕ)). ‵ (MutSlice (named 1) κ₁ N4 .own (to N4 b₁ o₁ γ₁ us) (s₁ ∷ []))) (sym (laid-0 numsOf y₀ y₁)) refl $
-        rewrite ! 4 (λ (us : List (List Float)). ‵ (MutSlice (named 2) κ₂ F4 .own (to F4 b₂ o₂ γ₂ us) (s₂ ∷ []))) (sym (laid-0 realsOf y₀ y₂)) refl $
-        rewrite ! 6 (λ (us : List (List ℤ)). ‵ (MutSlice (named 3) κ₃ Z4 .own (to Z4 b₃ o₃ γ₃ us) (s₃ ∷ []))) (sym (laid-0 intsOf y₀ y₃)) refl $
+        rewrite ! 2 (λ (us : List (List ℕ)). ‵ (MutSlice (named 1) κ₁ N4 .own (to N4 b₁ o₁ γ₁ us) ((pointer b₁ o₁ y₁) ∷ []))) (sym (laid-0 numsOf y₀ y₁)) refl $
+        rewrite ! 4 (λ (us : List (List Float)). ‵ (MutSlice (named 2) κ₂ F4 .own (to F4 b₂ o₂ γ₂ us) ((pointer b₂ o₂ y₂) ∷ []))) (sym (laid-0 realsOf y₀ y₂)) refl $
+        rewrite ! 6 (λ (us : List (List ℤ)). ‵ (MutSlice (named 3) κ₃ Z4 .own (to Z4 b₃ o₃ γ₃ us) ((pointer b₃ o₃ y₃) ∷ []))) (sym (laid-0 intsOf y₀ y₃)) refl $
         walk-loop 𝓣 m-record-at m-put-nums m-put-reals m-put-ints l₀ l₁ l₂ l₃ l₄ l₅ l₆ l₇ l₈ l₉ l₁₀ l₁₁ l₁₂ l₁₃ l₁₄ l₁₅))))))))))))))))
 
 module _ {M : Type 1} (𝓤 : URA M) (H : Heap 𝓤) (A : Atoms 𝓤) (W : Given 𝓤 H A) (mem : Memory → SProp 𝓤) (run : Routine → Fun 𝓤) (𝓣 : Tables 𝓤 H) (m-record-at : Triple 𝓤 (𝓣 .C #records·record-at) (RecordAt 𝓤 H A mem run)) (m-put-nums : Triple 𝓤 (𝓣 .C #records·put-nums) (PutNums 𝓤 H A mem run)) (m-put-reals : Triple 𝓤 (𝓣 .C #records·put-reals) (PutReals 𝓤 H A mem run)) (m-put-ints : Triple 𝓤 (𝓣 .C #records·put-ints) (PutInts 𝓤 H A mem run)) where
