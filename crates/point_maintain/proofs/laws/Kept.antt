@@ -6,11 +6,11 @@ use lib.ListN.{length}
 use Rattle.storage.specs.Meaning.Entries.{Entry}
 use Rattle.point_maintain.specs.Meaning.Walk.{Fate, leaving, rest}
 
-unfoldable pub movingIn : (Entry → Fate) → ℕ → List Entry → List Entry
-movingIn f zero es = []
-movingIn f (suc n) [] = []
-movingIn f (suc n) (e ∷ es) = leaving (f e) ++ movingIn f n (rest (f e) es)
+-- what a walk takes of each entry by its fate, what stays or what leaves; the number is at least the length of the list
+unfoldable pub partsIn : (Fate → List Entry) → (Entry → Fate) → ℕ → List Entry → List Entry
+partsIn part f zero es = []
+partsIn part f (suc n) [] = []
+partsIn part f (suc n) (e ∷ es) = part (f e) ++ partsIn part f n (rest (f e) es)
 
-unfoldable pub moving : (Entry → Fate) → List Entry → List Entry
-unfolding movingIn
-moving f es = movingIn f (length es) es
+abbrev pub moving : (Entry → Fate) → List Entry → List Entry
+moving f es = partsIn leaving f (length es) es

@@ -13,7 +13,7 @@ use Rattle.point_maintain.specs.Meaning.Walk.{Fate, stays, leaves, stayi
 use Rattle.point_maintain.proofs.laws.Totals.{total}
 use Rattle.point_maintain.proofs.laws.TotalLaws.{total-append, total-close}
 use Rattle.point_maintain.specs.Inner.Kept.{keptIn, kept}
-use Rattle.point_maintain.proofs.laws.Kept.{movingIn, moving}
+use Rattle.point_maintain.proofs.laws.Kept.{partsIn, moving}
 
 -- ---- what is looked at next has the same entries
 pub rest-length : (f : Fate) (es : List Entry) → length (rest f es) ≡ length es
@@ -33,93 +33,64 @@ pub kept-step : (f : Entry → Fate) (e : Entry) (es : List Entry) → kept f (e
 unfolding kept
 kept-step f e es = ap (λ (n : ℕ). staying (f e) ++ keptIn f n (rest (f e) es)) (sym (rest-length (f e) es))
 
--- ---- what holds of all
-module _ (f : Entry → Fate) (P Q : Entry → Type 0) where
-  kept-in-all : ((e : Entry) → P e → All Q (staying (f e))) → (n : ℕ) (es : List Entry) → length es ≤ n → All P es → All Q (keptIn f n es)
-  unfolding keptIn
-  kept-in-all g zero [] l a = tt
-  kept-in-all g zero (e ∷ es) l a = absurd (not-suc-le-zero l)
-  kept-in-all g (suc n) [] l a = tt
-  kept-in-all g (suc n) (e ∷ es) l a =
-      all-append Q (staying (f e)) (keptIn f n (rest (f e) es)) (g e (a .0))
-      (kept-in-all g n (rest (f e) es) (rw (rest-length (f e) es) (le-of-suc-le-suc l)) (rest-all P (f e) es (a .1)))
+-- ---- what is taken of each entry, once
+module _ (part : Fate → List Entry) where
+  pub parts-all : (f : Entry → Fate) (P Q : Entry → Type 0) → ((e : Entry) → P e → All Q (part (f e))) → (n : ℕ) (es : List Entry) → All P es → All Q (partsIn part f n es)
+  unfolding partsIn
+  parts-all f P Q g zero es a = tt
+  parts-all f P Q g (suc n) [] a = tt
+  parts-all f P Q g (suc n) (e ∷ es) a =
+      all-append Q (part (f e)) (partsIn part f n (rest (f e) es)) (g e (a .0)) (parts-all f P Q g n (rest (f e) es) (rest-all P (f e) es (a .1)))
 
-  moving-in-all : ((e : Entry) → P e → All Q (leaving (f e))) → (n : ℕ) (es : List Entry) → All P es → All Q (movingIn f n es)
-  unfolding movingIn
-  moving-in-all g zero es a = tt
-  moving-in-all g (suc n) [] a = tt
-  moving-in-all g (suc n) (e ∷ es) a =
-      all-append Q (leaving (f e)) (movingIn f n (rest (f e) es)) (g e (a .0)) (moving-in-all g n (rest (f e) es) (rest-all P (f e) es (a .1)))
+  pub parts-total : (f : Entry → Fate) (m : Entry → ℕ) (n : ℕ) (es : List Entry) → length es ≤ n → total m (partsIn part f n es) ≡ total (λ e. total m (part (f e))) es
+  unfolding partsIn
+  parts-total f m zero [] l = refl
+  parts-total f m zero (e ∷ es) l = absurd (not-suc-le-zero l)
+  parts-total f m (suc n) [] l = refl
+  parts-total f m (suc n) (e ∷ es) l =
+      total-append m (part (f e)) (partsIn part f n (rest (f e) es))
+      ∙ ap (λ (k : ℕ). total m (part (f e)) + k)
+      (parts-total f m n (rest (f e) es) (rw (rest-length (f e) es) (le-of-suc-le-suc l)) ∙ rest-total (λ x. total m (part (f x))) (f e) es)
 
-  pub kept-all : ((e : Entry) → P e → All Q (staying (f e))) → (es : List Entry) → All P es → All Q (kept f es)
-  unfolding kept
-  kept-all g es a = kept-in-all g (length es) es (omega arith) a
+  -- two rules that agree on the list
+  pub parts-same : (f g : Entry → Fate) (n : ℕ) (es : List Entry) → All (λ e. f e ≡ g e) es → partsIn part f n es ≡ partsIn part g n es
+  unfolding partsIn
+  parts-same f g zero es a = refl
+  parts-same f g (suc n) [] a = refl
+  parts-same f g (suc n) (e ∷ es) a = rw (a .0) (ap (λ (l : List Entry). part (g e) ++ l) (parts-same f g n (rest (g e) es) (rest-all (λ x. f x ≡ g x) (g e) es (a .1))))
 
-  pub moving-all : ((e : Entry) → P e → All Q (leaving (f e))) → (es : List Entry) → All P es → All Q (moving f es)
-  unfolding moving
-  moving-all g es a = moving-in-all g (length es) es a
-
--- ---- each entry that stays is kept, and each that is relocated is moved, once
-module _ (f : Entry → Fate) (m : Entry → ℕ) where
-  kept-in-total : (n : ℕ) (es : List Entry) → length es ≤ n → total m (keptIn f n es) ≡ total (λ e. total m (staying (f e))) es
-  unfolding keptIn
-  kept-in-total zero [] l = refl
-  kept-in-total zero (e ∷ es) l = absurd (not-suc-le-zero l)
-  kept-in-total (suc n) [] l = refl
-  kept-in-total (suc n) (e ∷ es) l =
-      total-append m (staying (f e)) (keptIn f n (rest (f e) es))
-      ∙ ap (λ (k : ℕ). total m (staying (f e)) + k)
-      (kept-in-total n (rest (f e) es) (rw (rest-length (f e) es) (le-of-suc-le-suc l)) ∙ rest-total (λ x. total m (staying (f x))) (f e) es)
-
-  moving-in-total : (n : ℕ) (es : List Entry) → length es ≤ n → total m (movingIn f n es) ≡ total (λ e. total m (leaving (f e))) es
-  unfolding movingIn
-  moving-in-total zero [] l = refl
-  moving-in-total zero (e ∷ es) l = absurd (not-suc-le-zero l)
-  moving-in-total (suc n) [] l = refl
-  moving-in-total (suc n) (e ∷ es) l =
-      total-append m (leaving (f e)) (movingIn f n (rest (f e) es))
-      ∙ ap (λ (k : ℕ). total m (leaving (f e)) + k)
-      (moving-in-total n (rest (f e) es) (rw (rest-length (f e) es) (le-of-suc-le-suc l)) ∙ rest-total (λ x. total m (leaving (f x))) (f e) es)
-
-  pub kept-total : (es : List Entry) → total m (kept f es) ≡ total (λ e. total m (staying (f e))) es
-  unfolding kept
-  kept-total es = kept-in-total (length es) es (omega arith)
-
-  pub moving-total : (es : List Entry) → total m (moving f es) ≡ total (λ e. total m (leaving (f e))) es
-  unfolding moving
-  moving-total es = moving-in-total (length es) es (omega arith)
-
--- ---- two rules that agree on the list, and a rule by which all stay
-module _ (f g : Entry → Fate) where
-  pub kept-in-same : (n : ℕ) (es : List Entry) → All (λ e. f e ≡ g e) es → keptIn f n es ≡ keptIn g n es
-  unfolding keptIn
-  kept-in-same zero es a = refl
-  kept-in-same (suc n) [] a = refl
-  kept-in-same (suc n) (e ∷ es) a = rw (a .0) (ap (λ (l : List Entry). staying (g e) ++ l) (kept-in-same n (rest (g e) es) (rest-all (λ x. f x ≡ g x) (g e) es (a .1))))
-
-  pub moving-in-same : (n : ℕ) (es : List Entry) → All (λ e. f e ≡ g e) es → movingIn f n es ≡ movingIn g n es
-  unfolding movingIn
-  moving-in-same zero es a = refl
-  moving-in-same (suc n) [] a = refl
-  moving-in-same (suc n) (e ∷ es) a = rw (a .0) (ap (λ (l : List Entry). leaving (g e) ++ l) (moving-in-same n (rest (g e) es) (rest-all (λ x. f x ≡ g x) (g e) es (a .1))))
-
-  pub kept-same : (es : List Entry) → All (λ e. f e ≡ g e) es → kept f es ≡ kept g es
-  unfolding kept
-  kept-same es a = kept-in-same (length es) es a
-
-  pub moving-same : (es : List Entry) → All (λ e. f e ≡ g e) es → moving f es ≡ moving g es
-  unfolding moving
-  moving-same es a = moving-in-same (length es) es a
+-- ---- what is kept is what stays
+kept-in-parts : (f : Entry → Fate) (n : ℕ) (es : List Entry) → length es ≤ n → keptIn f n es ≡ partsIn staying f n es
+unfolding keptIn partsIn
+kept-in-parts f zero [] l = refl
+kept-in-parts f zero (e ∷ es) l = absurd (not-suc-le-zero l)
+kept-in-parts f (suc n) [] l = refl
+kept-in-parts f (suc n) (e ∷ es) l = ap (λ (k : List Entry). staying (f e) ++ k) (kept-in-parts f n (rest (f e) es) (rw (rest-length (f e) es) (le-of-suc-le-suc l)))
 
 module _ (f : Entry → Fate) where
+  pub kept-parts : (es : List Entry) → kept f es ≡ partsIn staying f (length es) es
+  unfolding kept
+  kept-parts es = kept-in-parts f (length es) es (omega arith)
+
+  pub kept-all : (P Q : Entry → Type 0) → ((e : Entry) → P e → All Q (staying (f e))) → (es : List Entry) → All P es → All Q (kept f es)
+  kept-all P Q g es a = rw (kept-parts es) (parts-all staying f P Q g (length es) es a)
+
+  pub kept-total : (m : Entry → ℕ) (es : List Entry) → total m (kept f es) ≡ total (λ e. total m (staying (f e))) es
+  kept-total m es = rw (kept-parts es) (parts-total staying f m (length es) es (omega arith))
+
+  pub kept-same : (g : Entry → Fate) (es : List Entry) → All (λ e. f e ≡ g e) es → kept f es ≡ kept g es
+  unfolding kept
+  kept-same g es a = kept-in-parts f (length es) es (omega arith) ∙ parts-same staying f g (length es) es a ∙ sym (kept-in-parts g (length es) es (omega arith))
+
+  -- ---- a rule by which all stay
   kept-in-calm : (n : ℕ) (es : List Entry) → All (λ e. f e ≡ stays e) es → keptIn f n es ≡ es
   unfolding keptIn
   kept-in-calm zero es a = refl
   kept-in-calm (suc n) [] a = refl
   kept-in-calm (suc n) (e ∷ es) a = rw (a .0) (ap (λ (l : List Entry). e ∷ l) (kept-in-calm n es (a .1)))
 
-  moving-in-calm : (n : ℕ) (es : List Entry) → All (λ e. f e ≡ stays e) es → movingIn f n es ≡ []
-  unfolding movingIn
+  moving-in-calm : (n : ℕ) (es : List Entry) → All (λ e. f e ≡ stays e) es → partsIn leaving f n es ≡ []
+  unfolding partsIn
   moving-in-calm zero es a = refl
   moving-in-calm (suc n) [] a = refl
   moving-in-calm (suc n) (e ∷ es) a = rw (a .0) (moving-in-calm n es (a .1))
@@ -129,5 +100,4 @@ module _ (f : Entry → Fate) where
   kept-calm es a = kept-in-calm (length es) es a
 
   pub moving-calm : (es : List Entry) → All (λ e. f e ≡ stays e) es → moving f es ≡ []
-  unfolding moving
   moving-calm es a = moving-in-calm (length es) es a

@@ -26,7 +26,7 @@ use Rattle.point_maintain.specs.Meaning.Maintain.{isDirty, bySlot}
 use Rattle.point_maintain.proofs.laws.Settle.{among}
 use Rattle.point_maintain.proofs.laws.Totals.{total, times}
 use Rattle.point_maintain.proofs.laws.TotalLaws.{total-append, total-same, total-filter, total-length}
-use Rattle.point_maintain.proofs.laws.KeptLaws.{moving-all, moving-total}
+use Rattle.point_maintain.proofs.laws.KeptLaws.{parts-all, parts-total}
 use Rattle.point_maintain.proofs.laws.Closed.{Order}
 use Rattle.point_maintain.specs.Inner.Closed.{joined, relocatedBy, relocatedAt, relocatedBelow}
 use Rattle.point_maintain.proofs.laws.VisitLaws.{joined-all, visited-times}
@@ -99,7 +99,7 @@ module _ (t : Tables) (h : Holds t) (ks : List ℕ) (o : Order ks t) where
   said : All (λ x. relocatedAt t (slotOf x) ≡ x ∷ []) all-moving
   said =
       joined-all (λ x. relocatedAt t (slotOf x) ≡ x ∷ []) (movingUnder t)
-      (λ k. moving-all (fate t) (Named t) (λ x. relocatedAt t (slotOf x) ≡ x ∷ []) (leaving-said t) (listUnder t k) (list-named t h k)) ks
+      (λ k. parts-all leaving (fate t) (Named t) (λ x. relocatedAt t (slotOf x) ≡ x ∷ []) (leaving-said t) (length (listUnder t k)) (listUnder t k) (list-named t h k)) ks
 
   -- a cell that is not visited is not dirty
   pub unvisited-clean : (k : ℕ) → among k ks ≡ false → isDirty (cellRows t) k ≡ false
@@ -112,7 +112,7 @@ module _ (t : Tables) (h : Holds t) (ks : List ℕ) (o : Order ks t) where
 
   moving-times : (i : ℕ) → i < slotsOf t → times slotOf i all-moving ≡ length (relocatedAt t i)
   moving-times i l =
-      joined-totals _ (λ e. times slotOf i (leaving (fate t e))) (movingUnder t) (listUnder t) (λ k. moving-total (fate t) (λ e. one (eqb (slotOf e) i)) (listUnder t k)) ks
+      joined-totals _ (λ e. times slotOf i (leaving (fate t e))) (movingUnder t) (listUnder t) (λ k. parts-total leaving (fate t) (λ e. one (eqb (slotOf e) i)) (length (listUnder t k)) (listUnder t k) (omega arith)) ks
       ∙ total-same _ (λ e. pick (eqb (slotOf e) i) c 0) (joined (listUnder t) ks) (all-any _ (leaving-count t i) (joined (listUnder t) ks))
       ∙ total-times (λ e. eqb (slotOf e) i) c (joined (listUnder t) ks)
       ∙ rw (visited-once i l) (go (isLive t i) refl (among (cellKey t i) ks) refl)

@@ -21,7 +21,7 @@ use Rattle.point_records.specs.declared.State.the-variants.{Unchanged, NewPos, 
 use Rattle.point_records.specs.declared.Record.{Record}
 use Rattle.point_tables.specs.Meaning.Tables.{Tables, sizeOf, slotsOf, recordOn, entriesIn, cellRows, slotOf}
 use Rattle.point_tables.specs.Meaning.Holds.{Holds}
-use Rattle.point_maintain.specs.Meaning.Walk.{settled, stays, fateBy, fate, staying, walk}
+use Rattle.point_maintain.specs.Meaning.Walk.{settled, stays, fateBy, fate, staying, leaving, walk}
 use Rattle.point_maintain.specs.Meaning.Maintain.{isDirty, Sweep, visit, sweep, swept}
 use Rattle.point_maintain.proofs.laws.SettleLaws.{settled-size, settled-other}
 use Rattle.point_maintain.proofs.laws.Settle.{among, Distinct, settledOver}
@@ -29,8 +29,8 @@ use Rattle.point_maintain.proofs.laws.SettleAllLaws.{over-append}
 use Rattle.point_maintain.proofs.laws.Totals.{Alone, times}
 use Rattle.point_maintain.proofs.laws.TotalLaws.{filter-most}
 use Rattle.point_maintain.proofs.laws.Kept.{moving}
-use Rattle.point_maintain.proofs.laws.KeptLaws.{kept-all, kept-same, moving-same, kept-calm, moving-calm}
-use Rattle.point_maintain.proofs.laws.WalkLaws.{some, among-times, list-kept, list-moving, list-records}
+use Rattle.point_maintain.proofs.laws.KeptLaws.{kept-all, kept-same, parts-same, kept-calm, moving-calm}
+use Rattle.point_maintain.proofs.laws.WalkLaws.{some, among-times, list-walked}
 use Rattle.point_maintain.specs.Inner.Closed.{joined, keptUnder}
 use Rattle.point_maintain.proofs.laws.VisitLaws.{among-append, distinct-front, distinct-new, joined-one, visited-times}
 use Rattle.point_maintain.proofs.laws.CalmLaws.{Calm, calm-fate, calm-over, clean-calm}
@@ -135,21 +135,18 @@ module _ (t : Tables) (h : Holds t) (k : ℕ) where
         ∙ sym (over-append t (map slotOf (joined (listUnder t) done)) (map slotOf (listUnder t k)))
         ∙ ap (settledOver t) (sym (map-append slotOf (joined (listUnder t) done) (listUnder t k)) ∙ ap (map slotOf) (sym (joined-one (listUnder t) done k)))
 
-    walked-records : walk (length (listUnder t k)) (w .records) (listUnder t k) .records ≡ settledOver t (map slotOf (joined (listUnder t) (done ++ (k ∷ []))))
-    walked-records = list-records (w .records) (listUnder t k) list-alone (slotsOf t) (all-map (Named t) _ (λ e n. n .inside) (listUnder t k) list-named) ∙ over-list
-
-    walked-kept : walk (length (listUnder t k)) (w .records) (listUnder t k) .kept ≡ keptUnder t k
+    walked : walk (length (listUnder t k)) (w .records) (listUnder t k)
+        ≡ record { records = settledOver t (map slotOf (joined (listUnder t) (done ++ (k ∷ [])))); kept = keptUnder t k; moving = movingUnder t k }
     unfolding keptUnder
-    walked-kept = list-kept (w .records) (listUnder t k) list-alone ∙ kept-same (fate (w .records)) (fate t) (listUnder t k) fates-were
-
-    walked-moving : walk (length (listUnder t k)) (w .records) (listUnder t k) .moving ≡ movingUnder t k
-    walked-moving = list-moving (w .records) (listUnder t k) list-alone ∙ moving-same (fate (w .records)) (fate t) (listUnder t k) fates-were
+    walked =
+        list-walked (w .records) (listUnder t k) list-alone (slotsOf t) (all-map (Named t) _ (λ e n. n .inside) (listUnder t k) list-named)
+        ∙ rw (over-list, kept-same (fate (w .records)) (fate t) (listUnder t k) fates-were, parts-same leaving (fate (w .records)) (fate t) (length (listUnder t k)) (listUnder t k) fates-were)
 
     -- ---- a dirty cell
     visit-dirty : isDirty (cellRows t) k ≡ true
         → visit (cellRows t) w k ≡ record { records = settledOver t (map slotOf (joined (listUnder t) (done ++ (k ∷ [])))); entries = onList entryKey k (λ m. keptUnder t k) (w .entries); moving = w .moving ++ movingUnder t k }
     unfolding visit
-    visit-dirty e = rw (e, list-is, walked-records, walked-kept, walked-moving)
+    visit-dirty e = rw (e, list-is, walked)
 
     lists-after : (j : ℕ) → under entryKey j (onList entryKey k (λ m. keptUnder t k) (w .entries)) ≡ pick (among j (done ++ (k ∷ []))) (keptUnder t j) (listUnder t j)
     lists-after j =

@@ -14,15 +14,15 @@ use Rattle.storage.specs.Meaning.Entries.{Entry}
 use Rattle.storage.proofs.laws.FilterLaws.{by-test, all-map, all-over}
 use Rattle.point_records.specs.declared.Record.{Record}
 use Rattle.point_tables.specs.Meaning.Tables.{Tables, slotOf}
-use Rattle.point_maintain.specs.Meaning.Walk.{settled, Fate, fateBy, fate, staying, leaving, rest, walk}
+use Rattle.point_maintain.specs.Meaning.Walk.{settled, Fate, fateBy, fate, staying, leaving, rest, walkedAfter, walk}
 use Rattle.point_maintain.proofs.laws.SettleLaws.{settled-size, settled-other}
 use Rattle.point_maintain.proofs.laws.Settle.{among, Distinct, settledOver}
 use Rattle.point_maintain.proofs.laws.SettleAllLaws.{in-same, over-in}
 use Rattle.point_maintain.proofs.laws.Totals.{times, Alone}
 use Rattle.point_maintain.proofs.laws.TotalLaws.{alone-tail, alone-head, times-none}
-use Rattle.point_maintain.specs.Inner.Kept.{keptIn, kept}
-use Rattle.point_maintain.proofs.laws.Kept.{movingIn, moving}
-use Rattle.point_maintain.proofs.laws.KeptLaws.{rest-length, rest-all, rest-total, kept-in-same, moving-in-same}
+use Rattle.point_maintain.specs.Inner.Kept.{kept}
+use Rattle.point_maintain.proofs.laws.Kept.{partsIn, moving}
+use Rattle.point_maintain.proofs.laws.KeptLaws.{rest-length, rest-all, rest-total, parts-same, kept-parts}
 
 -- ---- whether a slot is named, by how often
 abbrev pub some : ℕ → Bool
@@ -68,48 +68,25 @@ module _ (t : Tables) (e : Entry) (es : List Entry) (a : Alone slotOf (e ∷ es)
   rest-alone : (f : Fate) → Alone slotOf (rest f es)
   rest-alone f i = rw (rest-total (λ x. one (eqb (slotOf x) i)) f es) (alone-tail slotOf e es a i)
 
--- ---- what is kept and what moves
-pub walk-kept : (n : ℕ) (t : Tables) (es : List Entry) → Alone slotOf es → walk n t es .kept ≡ keptIn (fate t) n es
-unfolding walk keptIn
-walk-kept zero t es a = refl
-walk-kept (suc n) t [] a = refl
-walk-kept (suc n) t (e ∷ es) a =
+-- ---- the list walked: every slot of it is settled, and each entry stays or leaves
+walk-all : (n m : ℕ) (t : Tables) (es : List Entry) → length es ≤ n → Alone slotOf es → All (λ e. slotOf e < m) es
+    → walk n t es ≡ record { records = settledOver t (map slotOf es); kept = partsIn staying (fate t) n es; moving = partsIn leaving (fate t) n es }
+unfolding walk settledOver partsIn
+walk-all zero m t [] l a b = refl
+walk-all zero m t (e ∷ es) l a b = absurd (not-suc-le-zero l)
+walk-all (suc n) m t [] l a b = refl
+walk-all (suc n) m t (e ∷ es) l a b =
     let f = fate t e in
-    ap (λ (l : List Entry). staying f ++ l)
-    (walk-kept n (settled t (slotOf e)) (rest f es) (rest-alone t e es a f)
-    ∙ kept-in-same (fate (settled t (slotOf e))) (fate t) n (rest f es) (fates-kept t e es a f))
-
-pub walk-moving : (n : ℕ) (t : Tables) (es : List Entry) → Alone slotOf es → walk n t es .moving ≡ movingIn (fate t) n es
-unfolding walk movingIn
-walk-moving zero t es a = refl
-walk-moving (suc n) t [] a = refl
-walk-moving (suc n) t (e ∷ es) a =
-    let f = fate t e in
-    ap (λ (l : List Entry). leaving f ++ l)
-    (walk-moving n (settled t (slotOf e)) (rest f es) (rest-alone t e es a f)
-    ∙ moving-in-same (fate (settled t (slotOf e))) (fate t) n (rest f es) (fates-kept t e es a f))
-
--- ---- the records: every slot of the list is settled
-pub walk-records : (n m : ℕ) (t : Tables) (es : List Entry) → length es ≤ n → Alone slotOf es → All (λ e. slotOf e < m) es → walk n t es .records ≡ settledOver t (map slotOf es)
-unfolding walk settledOver
-walk-records zero m t [] l a b = refl
-walk-records zero m t (e ∷ es) l a b = absurd (not-suc-le-zero l)
-walk-records (suc n) m t [] l a b = refl
-walk-records (suc n) m t (e ∷ es) l a b =
-    let f = fate t e in
+    let u = settled t (slotOf e) in
     let inside : All (λ x. slotOf x < m) (rest f es) = rest-all (λ x. slotOf x < m) f es (b .1) in
-    walk-records n m (settled t (slotOf e)) (rest f es) (rw (rest-length f es) (le-of-suc-le-suc l)) (rest-alone t e es a f) inside
-    ∙ over-same slotOf (settled t (slotOf e)) m (rest f es) es (rest-alone t e es a f) inside (b .1) (λ i. rest-total (λ x. one (eqb (slotOf x) i)) f es)
+    let slots = over-same slotOf u m (rest f es) es (rest-alone t e es a f) inside (b .1) (λ i. rest-total (λ x. one (eqb (slotOf x) i)) f es) in
+    ap (walkedAfter f) (walk-all n m u (rest f es) (rw (rest-length f es) (le-of-suc-le-suc l)) (rest-alone t e es a f) inside)
+    ∙ (λ i. record {
+      records = slots i;
+      kept = staying f ++ parts-same staying (fate u) (fate t) n (rest f es) (fates-kept t e es a f) i;
+      moving = leaving f ++ parts-same leaving (fate u) (fate t) n (rest f es) (fates-kept t e es a f) i;
+    })
 
--- ---- the whole of a list
-module _ (t : Tables) (es : List Entry) (a : Alone slotOf es) where
-  pub list-kept : walk (length es) t es .kept ≡ kept (fate t) es
-  unfolding kept
-  list-kept = walk-kept (length es) t es a
-
-  pub list-moving : walk (length es) t es .moving ≡ moving (fate t) es
-  unfolding moving
-  list-moving = walk-moving (length es) t es a
-
-  pub list-records : (m : ℕ) → All (λ e. slotOf e < m) es → walk (length es) t es .records ≡ settledOver t (map slotOf es)
-  list-records m b = walk-records (length es) m t es (omega arith) a b
+pub list-walked : (t : Tables) (es : List Entry) → Alone slotOf es → (m : ℕ) → All (λ e. slotOf e < m) es
+    → walk (length es) t es ≡ record { records = settledOver t (map slotOf es); kept = kept (fate t) es; moving = moving (fate t) es }
+list-walked t es a m b = rw (kept-parts (fate t) es) (walk-all (length es) m t es (omega arith) a b)
