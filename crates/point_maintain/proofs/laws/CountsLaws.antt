@@ -22,11 +22,7 @@ use Rattle.point_maintain.proofs.laws.MaintainKeeps.{maintained-keeps}
 pub count-states : (test : State → Bool) (t : Tables) (n : ℕ) → countStates test t n ≡ countBelow (λ i. pick (isLive t i) (test (recordOn t i .state)) false) n
 unfolding countBelow
 count-states test t zero = refl
-count-states test t (suc n) = ap₂ _+_ (count-states test t n) (go (isLive t n) (test (recordOn t n .state)))
-  where
-    go : (a b : Bool) → pick a (pick b 1 0) 0 ≡ one (pick a b false)
-    go true b = refl
-    go false b = refl
+count-states test t (suc n) = ap₂ _+_ (count-states test t n) (by-test (isLive t n) (λ e. rw e) (λ e. rw e))
 
 -- those that are left, and those that are removed
 counts-add : (left all : ℕ → Bool) (gone : ℕ → Bool) (n : ℕ) → ((i : ℕ) → i < n → one (left i) + one (gone i) ≡ one (all i)) → countBelow left n + countBelow gone n ≡ countBelow all n

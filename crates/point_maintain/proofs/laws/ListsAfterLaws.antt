@@ -32,7 +32,7 @@ use Rattle.point_tables.specs.Inner.Count.{isLive}
 use Rattle.point_maintain.specs.Meaning.Walk.{entryTaking, entryAt, fateBy, fate, staying}
 use Rattle.point_maintain.specs.Meaning.Maintain.{cellKeys}
 use Rattle.point_maintain.proofs.laws.SettleForm.{settledAs}
-use Rattle.point_maintain.proofs.laws.Settle.{among}
+use Rattle.point_maintain.proofs.laws.Settle.{among, picked}
 use Rattle.point_maintain.specs.Inner.Settle.{settledAll}
 use Rattle.point_maintain.proofs.laws.Totals.{total, times}
 use Rattle.point_maintain.proofs.laws.TotalLaws.{total-append, total-same, total-appendAll}
@@ -40,7 +40,7 @@ use Rattle.point_maintain.proofs.laws.KeptLaws.{kept-all, kept-total}
 use Rattle.point_maintain.specs.Inner.Closed.{joined, keptUnder, keptEntries, relocatedBy, relocatedAt, relocatedBelow, settledEntries}
 use Rattle.point_maintain.proofs.laws.VisitLaws.{joined-all}
 use Rattle.point_maintain.proofs.laws.SweepLaws.{listUnder, list-named}
-use Rattle.point_maintain.proofs.laws.RelocatedLaws.{joined-totals, total-times}
+use Rattle.point_maintain.proofs.laws.RelocatedLaws.{joined-totals, total-times, none-either}
 use Rattle.point_maintain.proofs.laws.CellOrderLaws.{joined-under, joined-sorted, keys-up, keys-distinct, no-list}
 use Rattle.point_maintain.proofs.laws.SettledForm.{kept-sorted}
 use Rattle.point_maintain.proofs.laws.RecordsAfterLaws.{all-slots, all-live, all-records}
@@ -54,11 +54,7 @@ module _ (t : Tables) (h : Holds t) where
   pool-joined =
       sorted-determined entryKey (joined (listUnder t) (cellKeys t)) (entriesIn t)
       (joined-sorted entryKey (listUnder t) (λ k. all-under entryKey k (entriesIn t)) (cellKeys t) (keys-up t h)) (entries-sorted t h)
-      (λ k. joined-under entryKey (listUnder t) (λ j. all-under entryKey j (entriesIn t)) k (cellKeys t) (keys-distinct t h) ∙ go k (among k (cellKeys t)) refl)
-    where
-      go : (k : ℕ) (b : Bool) → among k (cellKeys t) ≡ b → pick b (listUnder t k) [] ≡ listUnder t k
-      go k true e = refl
-      go k false e = sym (no-list t h k e)
+      (λ k. joined-under entryKey (listUnder t) (λ j. all-under entryKey j (entriesIn t)) k (cellKeys t) (keys-distinct t h) ∙ picked (among k (cellKeys t)) (λ e. sym (no-list t h k e)))
 
   -- what is kept: every entry that stays, once
   pub kept-entries-total : (m : Entry → ℕ) → total m (keptEntries t) ≡ total (λ e. total m (staying (fate t e))) (entriesIn t)
@@ -78,8 +74,8 @@ stay Removed = 0
 staying-times : (size : ℕ) (e : Entry) (i : ℕ) (st : State) → times slotOf i (staying (fateBy size e st)) ≡ pick (eqb (slotOf e) i) (stay st) 0
 staying-times size e i Unchanged = by-test (eqb (slotOf e) i) (λ q. rw q) (λ q. rw q)
 staying-times size e i (NewPos p) = by-test (eqb (slotOf e) i) (λ q. rw q) (λ q. rw q)
-staying-times size e i (Relocate p c) = by-test (eqb (slotOf e) i) (λ q. rw q) (λ q. rw q)
-staying-times size e i Removed = by-test (eqb (slotOf e) i) (λ q. rw q) (λ q. rw q)
+staying-times size e i (Relocate p c) = none-either (eqb (slotOf e) i)
+staying-times size e i Removed = none-either (eqb (slotOf e) i)
 
 staying-count : (t : Tables) (i : ℕ) (e : Entry) → times slotOf i (staying (fate t e)) ≡ pick (eqb (slotOf e) i) (stay (recordOn t i .state)) 0
 staying-count t i e =
@@ -94,11 +90,7 @@ relocated-times size j i Removed = by-test (eqb j i) (λ q. rw q) (λ q. rw q)
 
 module _ (t : Tables) where
   at-times : (j i : ℕ) → times slotOf i (relocatedAt t j) ≡ pick (eqb j i) (length (relocatedAt t j)) 0
-  at-times j i = go (isLive t j)
-    where
-      go : (b : Bool) → times slotOf i (pick b (relocatedBy (sizeOf t) j (recordOn t j .state)) []) ≡ pick (eqb j i) (length (pick b (relocatedBy (sizeOf t) j (recordOn t j .state)) [])) 0
-      go true = relocated-times (sizeOf t) j i (recordOn t j .state)
-      go false = by-test (eqb j i) (λ q. rw q) (λ q. rw q)
+  at-times j i = by-test (isLive t j) (λ e. rw e (relocated-times (sizeOf t) j i (recordOn t j .state))) (λ e. rw e (none-either (eqb j i)))
 
   below-times : (i n : ℕ) → times slotOf i (relocatedBelow n t) ≡ pick (ltb i n) (length (relocatedAt t i)) 0
   unfolding relocatedBelow

@@ -32,15 +32,11 @@ use Rattle.point_maintain.proofs.laws.SettleAllLaws.{in-slots, in-shape
 pub settled-phase : (r : Record) → eqb (settledRecord r .phase) live ≡ pick (isRemoved (r .state)) false (eqb (r .phase) live)
 settled-phase r = go (r .state)
   where
-    gone : (b : Bool) → eqb (pick b 2 0) live ≡ false
-    gone true = refl
-    gone false = refl
-
     go : (st : State) → eqb (settledAs r st .phase) live ≡ pick (isRemoved st) false (eqb (r .phase) live)
     go Unchanged = refl
     go (NewPos p) = refl
     go (Relocate p c) = refl
-    go Removed = gone (eqb (r .version) lastVersion)
+    go Removed = by-test (eqb (r .version) lastVersion) (λ e. rw e) (λ e. rw e)
 
 -- an occupied record that is not removed is occupied still, and nothing is pending
 pub settled-occupied : (size : ℕ) (r : Record) → isRemoved (r .state) ≡ false → Occupied size r → Occupied size (settledRecord r) × (settledRecord r .state ≡ Unchanged)
@@ -115,23 +111,15 @@ module _ (t : Tables) (h : Holds t) where
 
     -- the record after: settled if it was an object's, and else as it was
     pub all-records : recordOn (settledAll t) i ≡ pick (isLive t i) (settledRecord (recordOn t i)) (recordOn t i)
-    all-records = ap recordIn all-rows ∙ go (isLive t i)
-      where
-        go : (b : Bool) → recordIn (pick b (rowsAfter (rowsAt t i)) (rowsAt t i)) ≡ pick b (settledRecord (recordOn t i)) (recordOn t i)
-        go true = rows-record (rowsAt t i)
-        go false = refl
+    all-records = ap recordIn all-rows ∙ by-test (isLive t i) (λ e. rw e (rows-record (rowsAt t i))) (λ e. rw e)
 
     -- the objects after are those that were there and were not removed
     pub all-live : isLive (settledAll t) i ≡ pick (isLive t i) (not (isRemoved (recordOn t i .state))) false
-    all-live = ap (λ (r : Record). eqb (r .phase) live) all-records ∙ go (isLive t i) refl
-      where
-        flip : (b c : Bool) → c ≡ true → pick b false c ≡ not b
-        flip true c e = refl
-        flip false c e = e
-
-        go : (b : Bool) → isLive t i ≡ b → eqb (pick b (settledRecord (recordOn t i)) (recordOn t i) .phase) live ≡ pick b (not (isRemoved (recordOn t i .state))) false
-        go true e = settled-phase (recordOn t i) ∙ flip (isRemoved (recordOn t i .state)) (isLive t i) e
-        go false e = e
+    all-live =
+        ap (λ (r : Record). eqb (r .phase) live) all-records
+        ∙ by-test (isLive t i)
+        (λ e. rw e (settled-phase (recordOn t i) ∙ rw e (by-test (isRemoved (recordOn t i .state)) (λ q. rw q) (λ q. rw q))))
+        (λ e. rw e e)
 
     module _ (p : isLive (settledAll t) i ≡ true) where
       pub was-live : isLive t i ≡ true

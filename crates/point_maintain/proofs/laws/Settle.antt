@@ -1,7 +1,7 @@
 -- Slots settled one after the other: those of a list, those below n that pass a test, and every live one. Assumes nothing.
 -- Here: the laws.
 use Prim.Native.Nat.{ℕ}
-use mathlib.Core.Path.{_≡_}
+use mathlib.Core.Path.{_≡_, refl}
 use mathlib.Core.Bool.{Bool, true, false}
 use mathlib.Core.List.{List, [], _∷_}
 use lib.Dec.{eqb}
@@ -17,6 +17,11 @@ among k (j ∷ l) = pick (eqb j k) true (among k l)
 abbrev pub Distinct : List ℕ → Type 0
 Distinct [] = Unit {0}
 Distinct (k ∷ l) = (among k l ≡ false) × Distinct l
+
+-- the first of two, if the other is the same where the test fails
+pub picked : {A : Type 0} (b : Bool) {x y : A} → (b ≡ false → y ≡ x) → pick b x y ≡ x
+picked true f = refl
+picked false f = f refl
 
 unfoldable pub settledOver : Tables → List ℕ → Tables
 settledOver t [] = t

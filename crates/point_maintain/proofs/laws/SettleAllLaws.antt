@@ -21,7 +21,7 @@ use Rattle.point_maintain.proofs.laws.SettleForm.{Rows, rowsAt, recordI
 use Rattle.point_maintain.specs.Inner.SettleLaws.{Shaped}
 use Rattle.point_maintain.proofs.laws.SettleLaws.{settled-slots, settled-shaped, settled-head, settled-rows-other, settled-rows-same, settled-calm}
 use Rattle.point_maintain.proofs.laws.SettleLaws.{settled-swap}
-use Rattle.point_maintain.proofs.laws.Settle.{among, Distinct, settledOver}
+use Rattle.point_maintain.proofs.laws.Settle.{among, Distinct, picked, settledOver}
 use Rattle.point_maintain.specs.Inner.Settle.{settledIn}
 
 module _ (test : ℕ → Bool) (t : Tables) where
@@ -97,12 +97,8 @@ in-agree test other t (suc n) f =
     (λ e.
     let calm : settled (settledIn other n t) n ≡ settledIn other n t =
     settled-calm (settledIn other n t) n (ap (λ (w : Rows). recordIn w .state) (in-rows-past other t n n (omega arith)) ∙ e) in
-    rw calm (both (test n) (settledIn other n t) ∙ sym (both (other n) (settledIn other n t))))
+    rw calm (picked (test n) (λ q. refl) ∙ sym (picked (other n) (λ q. refl))))
     (f n (omega arith)))
-  where
-    both : (b : Bool) (w : Tables) → pick b w w ≡ w
-    both true w = refl
-    both false w = refl
 
 -- ---- the slots of a list
 pub over-append : (t : Tables) (a b : List ℕ) → settledOver t (a ++ b) ≡ settledOver (settledOver t a) b

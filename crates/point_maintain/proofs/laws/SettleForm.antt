@@ -1,7 +1,7 @@
 -- A slot settled, row by row: what comes of each row depends on the rows of that slot alone. Assumes nothing.
 use Prim.Native.Nat.{ℕ}
 use mathlib.Core.Path.{_≡_, refl, sym}
-use mathlib.Core.Bool.{Bool, true, false, not}
+use mathlib.Core.Bool.{Bool, false, not}
 use mathlib.Core.List.{List, []}
 use lib.Dec.{eqb}
 use lib.IntN.{ℤ}
@@ -11,6 +11,7 @@ use lib.Seq.{set-getD, getD-drop}
 use Rattle.basics.specs.Meaning.Refusals.{pick}
 use Rattle.slots.specs.Meaning.Map.{givenBack}
 use Rattle.slots.specs.Meaning.Slot.{lastVersion, nextVersion, nextPhase, versionAt, emptiedRow, emptiedNums, emptiedMap}
+use Rattle.storage.proofs.laws.FilterLaws.{by-test}
 use Rattle.point_records.specs.declared.State.{State}
 use Rattle.point_records.specs.declared.State.the-variants.{Unchanged, NewPos, Relocate, Removed}
 use Rattle.point_records.specs.declared.Record.{Record}
@@ -78,17 +79,14 @@ settled-form t s = go (recordOn t s .state)
     same-rows : tables (set (t .nums) s (getD (t .nums) s [])) (set (t .reals) s (getD (t .reals) s [])) (set (t .ints) s (getD (t .ints) s [])) (t .map) (t .pool) (t .spots) (t .cells) ≡ t
     same-rows = rw (set-getD (t .nums) s [], set-getD (t .reals) s [], set-getD (t .ints) s [])
 
-    given : (b : Bool) → pick b (t .map) (givenBack (t .map) s) ≡ pick (not b) (givenBack (t .map) s) (t .map)
-    given true = refl
-    given false = refl
-
     go : (st : State) → settledBy t s st ≡ placedRows t s (rowsBy (rowsAt t s) st) (backBy (recordOn t s .version) st)
     go Unchanged = sym same-rows
     go (NewPos p) = refl
     go (Relocate p c) = refl
     go Removed =
         unfold emptiedNums emptiedMap in
-        rw (set-getD (t .reals) s [], set-getD (t .ints) s [], given (eqb (versionAt (t .nums) s) lastVersion))
+        rw (set-getD (t .reals) s [], set-getD (t .ints) s [])
+        (by-test (eqb (versionAt (t .nums) s) lastVersion) (λ e. rw e) (λ e. rw e))
 
 -- the record that is read from the rows after
 pub rows-record : (w : Rows) → recordIn (rowsAfter w) ≡ settledRecord (recordIn w)

@@ -1,9 +1,9 @@
 -- Maintain does not depend on the order of visiting the cells: whatever the order, it leaves the tables with everything done that was to be
 -- done. Assumes nothing.
-use Prim.Native.Nat.{ℕ, _≤_, _<_}
+use Prim.Native.Nat.{ℕ, _<_}
 use mathlib.Core.Path.{_≡_, refl, sym, _∙_, ap, ap₂}
 use mathlib.Core.Bool.{Bool, true, false}
-use mathlib.Core.List.{List, [], map}
+use mathlib.Core.List.{List, map}
 use mathlib.Core.Logic.{_⊎_, inl, inr}
 use native.Mathlib.Omega.{arith}
 use borrow.Author.Tests.{eqb-true}
@@ -12,17 +12,17 @@ use Rattle.basics.specs.Meaning.Refusals.{pick}
 use Rattle.storage.specs.Meaning.Keyed.{All, under, appendAll}
 use Rattle.storage.specs.Inner.Keyed.{Sorted}
 use Rattle.storage.specs.Meaning.Entries.{Entry, entryKey}
-use Rattle.storage.proofs.laws.FilterLaws.{all-map, all-over}
+use Rattle.storage.proofs.laws.FilterLaws.{by-test, all-map, all-over}
 use Rattle.storage.proofs.laws.KeyedLaws.{sorted-determined}
 use Rattle.point_tables.specs.Meaning.Tables.{Tables, slotsOf, entriesIn, slotOf}
 use Rattle.point_tables.specs.Meaning.Holds.{Holds}
 use Rattle.point_tables.specs.Inner.Count.{isLive}
 use Rattle.point_tables.proofs.laws.ListedLaws.{Named, listing}
 use Rattle.point_maintain.specs.Meaning.Maintain.{swept, bySlot, entriesAfter, maintainedBy, cellKeys, maintained}
-use Rattle.point_maintain.proofs.laws.Settle.{among}
+use Rattle.point_maintain.proofs.laws.Settle.{among, picked}
 use Rattle.point_maintain.specs.Inner.Settle.{settledAll}
 use Rattle.point_maintain.proofs.laws.SettleAllLaws.{in-agree, over-in}
-use Rattle.point_maintain.proofs.laws.Totals.{Alone, times}
+use Rattle.point_maintain.proofs.laws.Totals.{Alone}
 use Rattle.point_maintain.specs.Inner.Kept.{kept}
 use Rattle.point_maintain.proofs.laws.WalkLaws.{some, among-times, alone-distinct}
 use Rattle.point_maintain.proofs.laws.Closed.{Order}
@@ -42,25 +42,14 @@ module _ (t : Tables) (h : Holds t) where
 
   pub kept-lists : (k : ℕ) → under entryKey k (keptEntries t) ≡ keptUnder t k
   unfolding keptEntries
-  kept-lists k = joined-under entryKey (keptUnder t) (kept-own t) k (cellKeys t) (keys-distinct t h) ∙ go (among k (cellKeys t)) refl
-    where
-      go : (b : Bool) → among k (cellKeys t) ≡ b → pick b (keptUnder t k) [] ≡ keptUnder t k
-      go true e = refl
-      go false e = sym (none (no-list t h k e))
-        where
-          none : listUnder t k ≡ [] → keptUnder t k ≡ []
-          none q = unfold keptUnder kept in rw q
+  kept-lists k = joined-under entryKey (keptUnder t) (kept-own t) k (cellKeys t) (keys-distinct t h) ∙ picked (among k (cellKeys t)) (λ e. unfold keptUnder kept in rw (no-list t h k e))
 
 -- ---- any order
 module _ (t : Tables) (h : Holds t) (ks : List ℕ) (o : Order ks t) where
   visited-alone : Alone slotOf (joined (listUnder t) ks)
   visited-alone i =
       rw (visited-times t (entriesIn t) (all-map (Named t) _ (λ x m. m .key) (entriesIn t) (listing t h .each)) ks (o .distinct) i)
-      (go (among (cellKey t i) ks))
-    where
-      go : (b : Bool) → pick b (times slotOf i (entriesIn t)) 0 ≤ 1
-      go true = entries-alone t h i
-      go false = omega arith
+      (by-test (among (cellKey t i) ks) (λ e. rw e (entries-alone t h i)) (λ e. rw e (omega arith)))
 
   visited-inside : All (λ s. s < slotsOf t) (map slotOf (joined (listUnder t) ks))
   visited-inside =
@@ -90,11 +79,7 @@ module _ (t : Tables) (h : Holds t) (ks : List ℕ) (o : Order ks t) where
 
   -- the lists: each as its own walk leaves it
   pub swept-lists : (k : ℕ) → under entryKey k (swept t ks .entries) ≡ keptUnder t k
-  swept-lists k = swept-all t h ks (o .distinct) .entries k ∙ go (among k ks) refl
-    where
-      go : (b : Bool) → among k ks ≡ b → pick b (keptUnder t k) (listUnder t k) ≡ keptUnder t k
-      go true e = refl
-      go false e = sym (kept-clean t h k (unvisited-clean t h ks o k e))
+  swept-lists k = swept-all t h ks (o .distinct) .entries k ∙ picked (among k ks) (λ e. sym (kept-clean t h k (unvisited-clean t h ks o k e)))
 
   pub swept-entries : swept t ks .entries ≡ keptEntries t
   swept-entries =

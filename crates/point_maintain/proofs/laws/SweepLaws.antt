@@ -142,12 +142,10 @@ module _ (t : Tables) (h : Holds t) (k : ℕ) where
         list-walked (w .records) (listUnder t k) list-alone (slotsOf t) (all-map (Named t) _ (λ e n. n .inside) (listUnder t k) list-named)
         ∙ rw (over-list, kept-same (fate (w .records)) (fate t) (listUnder t k) fates-were, parts-same leaving (fate (w .records)) (fate t) (length (listUnder t k)) (listUnder t k) fates-were)
 
-    -- ---- a dirty cell
-    visit-dirty : isDirty (cellRows t) k ≡ true
-        → visit (cellRows t) w k ≡ record { records = settledOver t (map slotOf (joined (listUnder t) (done ++ (k ∷ [])))); entries = onList entryKey k (λ m. keptUnder t k) (w .entries); moving = w .moving ++ movingUnder t k }
-    unfolding visit
-    visit-dirty e = rw (e, list-is, walked)
+    or-not : (b : Bool) → pick b true false ≡ b
+    or-not b = by-test b (λ e. rw e) (λ e. rw e)
 
+    -- ---- a dirty cell
     lists-after : (j : ℕ) → under entryKey j (onList entryKey k (λ m. keptUnder t k) (w .entries)) ≡ pick (among j (done ++ (k ∷ []))) (keptUnder t j) (listUnder t j)
     lists-after j =
         by-test (eqb k j)
@@ -157,14 +155,11 @@ module _ (t : Tables) (h : Holds t) (k : ℕ) where
         (λ e.
         let q : j ≡ k → ⊥ = λ z. eqb-false k j e (sym z) in
         rw (among-append j done (k ∷ []), e, or-not (among j done)) (under-other entryKey k (λ m. keptUnder t k) (w .entries) (kept-own t k) j q ∙ sw .entries j))
-      where
-        or-not : (b : Bool) → pick b true false ≡ b
-        or-not true = refl
-        or-not false = refl
 
     swept-dirty : isDirty (cellRows t) k ≡ true → Swept t (done ++ (k ∷ [])) (visit (cellRows t) w k)
+    unfolding visit
     swept-dirty e =
-        rw (visit-dirty e)
+        rw (e, list-is, walked)
         (record {
           records = refl;
           entries = lists-after;
@@ -173,10 +168,6 @@ module _ (t : Tables) (h : Holds t) (k : ℕ) where
         })
 
     -- ---- a cell that is passed over
-    visit-clean : isDirty (cellRows t) k ≡ false → visit (cellRows t) w k ≡ w
-    unfolding visit
-    visit-clean e = rw e
-
     lists-clean : isDirty (cellRows t) k ≡ false → (j : ℕ) → under entryKey j (w .entries) ≡ pick (among j (done ++ (k ∷ []))) (keptUnder t j) (listUnder t j)
     lists-clean e j = sw .entries j ∙ rw (among-append j done (k ∷ [])) (go (among j done) (eqb k j) refl)
       where
@@ -193,8 +184,9 @@ module _ (t : Tables) (h : Holds t) (k : ℕ) where
         ∙ over-list
 
     swept-clean : isDirty (cellRows t) k ≡ false → Swept t (done ++ (k ∷ [])) (visit (cellRows t) w k)
+    unfolding visit
     swept-clean e =
-        rw (visit-clean e)
+        rw e
         (record {
           records = records-clean e;
           entries = lists-clean e;

@@ -13,7 +13,7 @@ use Rattle.storage.specs.Meaning.Keyed.{All, under}
 use Rattle.storage.specs.Meaning.Entries.{Entry, entryKey}
 use Rattle.storage.proofs.laws.FilterLaws.{by-test, all-map, all-any, all-append}
 use Rattle.point_tables.specs.Meaning.Tables.{Tables, slotOf}
-use Rattle.point_maintain.proofs.laws.Settle.{among, Distinct}
+use Rattle.point_maintain.proofs.laws.Settle.{among, Distinct, picked}
 use Rattle.point_maintain.specs.Inner.Closed.{joined}
 use Rattle.point_maintain.proofs.laws.Totals.{total, times}
 use Rattle.point_maintain.proofs.laws.TotalLaws.{total-append, total-same, total-none, total-plus, total-filter}
@@ -27,22 +27,14 @@ among-append k (j ∷ a) b = by-test (eqb j k) (λ e. rw e) (λ e. rw e (among-a
 -- the first part of an order, and that what comes next is new
 pub distinct-front : (a b : List ℕ) → Distinct (a ++ b) → Distinct a
 distinct-front [] b d = tt
-distinct-front (j ∷ a) b d = (left (among j a) (sym (among-append j a b) ∙ d .0), distinct-front a b (d .1))
-  where
-    left : (x : Bool) → pick x true (among j b) ≡ false → x ≡ false
-    left true e = e
-    left false e = refl
+distinct-front (j ∷ a) b d = (by-test (among j a) (λ e. e ∙ rw (among-append j a b, e) at (d .0)) (λ e. e), distinct-front a b (d .1))
 
 pub distinct-new : (a : List ℕ) (k : ℕ) (b : List ℕ) → Distinct (a ++ (k ∷ b)) → among k a ≡ false
 distinct-new [] k b d = refl
 distinct-new (j ∷ a) k b d =
     by-test (eqb j k)
-    (λ e. absurd (apart (sym (rw (among-append j a (k ∷ b), eq-eqb k j (sym (eqb-true j k e))) at (d .0)) ∙ on (among j a))))
+    (λ e. absurd (apart (sym (rw (among-append j a (k ∷ b), eq-eqb k j (sym (eqb-true j k e))) at (d .0)) ∙ picked (among j a) (λ q. refl))))
     (λ e. rw e (distinct-new a k b (d .1)))
-  where
-    on : (x : Bool) → pick x true true ≡ true
-    on true = refl
-    on false = refl
 
 pub joined-append : {A : Type 0} (f : ℕ → List A) (a b : List ℕ) → joined f (a ++ b) ≡ joined f a ++ joined f b
 joined-append f [] b = refl
@@ -86,11 +78,7 @@ visited-times t es a ks d i =
     point e q =
         by-test (eqb (slotOf e) i)
         (λ z. ap (λ (k : ℕ). pick (among k ks) (one (eqb (slotOf e) i)) 0) (q ∙ ap (cellKey t) (eqb-true (slotOf e) i z)))
-        (λ z. rw z (none (among (entryKey e) ks) ∙ sym (none (among (cellKey t i) ks))))
-      where
-        none : (b : Bool) → _≡_ {A = ℕ} (pick b 0 0) 0
-        none true = refl
-        none false = refl
+        (λ z. rw z (picked (among (entryKey e) ks) (λ q. refl) ∙ sym (picked (among (cellKey t i) ks) (λ q. refl))))
 
     outside : (b : Bool) → total (λ e. pick b (one (eqb (slotOf e) i)) 0) es ≡ pick b (times slotOf i es) 0
     outside true = refl
