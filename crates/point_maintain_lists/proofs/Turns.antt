@@ -27,28 +27,28 @@ pub record Within (P : List (List ℕ)) (S : List (List Float)) (p w : ℕ) (poo
   pub spot : p < length S
   pub next : w ≤ p
 
-pub walk-within : (f : Entry → Fate) (P : List (List ℕ)) (S : List (List Float)) (from to w₀ : ℕ) → Room P S from to w₀
-    → (p i end w : ℕ) (pool : List (List ℕ)) (spots : List (List Float)) → Walking f P S from to w₀ p i end w pool spots → i < end → Within P S p w pool spots
-walk-within f P S from to w₀ room p i end w pool spots k h =
+pub walk-within : {f : Entry → Fate} {P : List (List ℕ)} {S : List (List Float)} {from to w₀ : ℕ} → Room P S from to w₀
+    → {p i end w : ℕ} {pool : List (List ℕ)} {spots : List (List Float)} → Walking f P S from to w₀ p i end w pool spots → i < end → Within P S p w pool spots
+walk-within room k h =
     let g = k .inside h in
     record {
-      as-rows = walking-rows f P S from to w₀ room p i end w pool spots k;
-      as-spots = walking-spots f P S from to w₀ room p i end w pool spots k;
+      as-rows = walking-rows room k;
+      as-spots = walking-spots room k;
       row = omega (arith, g, room);
       spot = omega (arith, g, room);
       next = omega (arith, k);
     }
 
 -- ---- the walk by tags
-module _ (nums : List (List ℕ)) (reals : List (List Float)) (P : List (List ℕ)) (S : List (List Float)) (from to w₀ : ℕ) (room : Room P S from to w₀)
-    (p i end w : ℕ) (pool : List (List ℕ)) (spots : List (List Float)) (k : Walking (fateIn nums reals) P S from to w₀ p i end w pool spots) (h : i < end) where
+module _ (nums : List (List ℕ)) (reals : List (List Float)) {P : List (List ℕ)} {S : List (List Float)} {from to w₀ : ℕ} (room : Room P S from to w₀)
+    {p i end w : ℕ} {pool : List (List ℕ)} {spots : List (List Float)} (k : Walking (fateIn nums reals) P S from to w₀ p i end w pool spots) (h : i < end) where
   pub walk-slot : Slotted nums reals P from to → second pool p < length nums
   walk-slot s =
-      rw (ap (λ (e : Entry). getD (e .row) 1 0) (walking-entry (fateIn nums reals) P S from to w₀ room p i end w pool spots k))
+      rw (ap (λ (e : Entry). getD (e .row) 1 0) (walking-entry room k))
       (s .inside p (omega (arith, k)) (k .inside h))
 
   -- the tag that was read is that of the entry's slot
-  module _ (s tag : ℕ) (q : s ≡ second pool p) (t : tag ≡ tagIn (getD nums s [])) where
+  module _ {s tag : ℕ} (q : s ≡ second pool p) (t : tag ≡ tagIn (getD nums s [])) where
     fate-at : fateIn nums reals (entryAt pool spots p) ≡ fateOfTag tag (getD reals s []) (entryAt pool spots p)
     fate-at =
         ap (λ (x : ℕ). fateOfTag (tagIn (getD nums x [])) (getD reals x []) (entryAt pool spots p)) (sym q)
@@ -57,25 +57,25 @@ module _ (nums : List (List ℕ)) (reals : List (List Float)) (P : List (List �
     abbrev laid : List Float
     laid = spotBy tag (getD reals s []) (getD spots p [])
 
-    pub walk-stays : tag < 2 → (spots′ : List (List Float)) → spots′ ≡ set spots w laid
+    pub walk-stays : tag < 2 → {spots′ : List (List Float)} → spots′ ≡ set spots w laid
         → Walking (fateIn nums reals) P S from to w₀ (i + 1) (i + 1) end (w + 1) (set pool w (getD pool p [])) spots′
-    walk-stays g spots′ e =
+    walk-stays g e =
         rw e
-        (walking-stays (fateIn nums reals) P S from to w₀ room p i end w pool spots k h (getD pool p []) laid
+        (walking-stays room k h (getD pool p []) laid
         (fate-at ∙ tag-stays tag (getD reals s []) (entryAt pool spots p) g))
 
     pub walk-leaves : 2 ≤ tag → Walking (fateIn nums reals) P S from to w₀ (end - 1) i (end - 1) w pool spots
     walk-leaves g =
-        walking-leaves (fateIn nums reals) P S from to w₀ room p i end w pool spots k h []
+        walking-leaves room k h []
         (fate-at ∙ tag-leaves tag (getD reals s []) (entryAt pool spots p) g)
 
 -- ---- a list of which all stay
-pub move-done : (P : List (List ℕ)) (S : List (List Float)) (from to w₀ : ℕ) → Room P S from to w₀
-    → (p i end w : ℕ) (pool : List (List ℕ)) (spots : List (List Float)) → Walking stays P S from to w₀ p i end w pool spots → end ≤ i
+pub move-done : {P : List (List ℕ)} {S : List (List Float)} {from to w₀ : ℕ} → Room P S from to w₀
+    → {p i end w : ℕ} {pool : List (List ℕ)} {spots : List (List Float)} → Walking stays P S from to w₀ p i end w pool spots → end ≤ i
     → Laid (listAt P S from to) P S w₀ to w pool spots
-move-done P S from to w₀ room p i end w pool spots k g =
+move-done {P} {S} {from} {to} room k g =
     rw (kept-calm stays (listAt P S from to) (all-any (λ e. stays e ≡ stays e) (λ e. refl) (listAt P S from to))) at
-    (walking-done stays P S from to w₀ room p i end w pool spots k g)
+    (walking-done room k g)
 
 -- a list that is left where it is
 pub stay-done : (P : List (List ℕ)) (S : List (List Float)) (from to w : ℕ) → Room P S from to w → w ≡ from → Laid (listAt P S from to) P S w to to P S

@@ -50,34 +50,33 @@ module _ {A : Type 0} (of : Entry → A) (es : List Entry) where
       q ∙ (λ z. written (m z) (p z)) ∙ written-over (map of es) (map of fs) o ∙ ap (λ (l : List A). written l o) (sym m)
 
 -- ---- both
-module _ (es : List Entry) (P : List (List ℕ)) (S : List (List Float)) where
-  module _ (pool : List (List ℕ)) (spots : List (List Float)) (c : Columns es P S pool spots) where
-    -- the next entry is laid
-    pub laid-next : (row : List ℕ) (spot : List Float) (w : ℕ) → w ≡ length es → w < length P → w < length S → Columns (es ++ (entry row spot ∷ [])) P S (set pool w row) (set spots w spot)
-    laid-next row spot w q h g = record { in-rows = column-next rowOf es [] P pool (entry row spot) w q h (c .in-rows); in-spots = column-next spotOf es [] S spots (entry row spot) w q g (c .in-spots) }
+module _ {es : List Entry} {P : List (List ℕ)} {S : List (List Float)} {pool : List (List ℕ)} {spots : List (List Float)} (c : Columns es P S pool spots) where
+  -- the next entry is laid
+  pub laid-next : (row : List ℕ) (spot : List Float) (w : ℕ) → w ≡ length es → w < length P → w < length S → Columns (es ++ (entry row spot ∷ [])) P S (set pool w row) (set spots w spot)
+  laid-next row spot w q h g = record { in-rows = column-next rowOf es [] P pool (entry row spot) w q h (c .in-rows); in-spots = column-next spotOf es [] S spots (entry row spot) w q g (c .in-spots) }
 
-    pub laid-rows : length es ≤ length P → length pool ≡ length P
-    laid-rows h = column-length rowOf es P pool h (c .in-rows)
+  pub laid-rows : length es ≤ length P → length pool ≡ length P
+  laid-rows h = column-length rowOf es P pool h (c .in-rows)
 
-    pub laid-spots : length es ≤ length S → length spots ≡ length S
-    laid-spots h = column-length spotOf es S spots h (c .in-spots)
+  pub laid-spots : length es ≤ length S → length spots ≡ length S
+  laid-spots h = column-length spotOf es S spots h (c .in-spots)
 
-    pub laid-row : (j : ℕ) → length es ≤ j → getD pool j [] ≡ getD P j []
-    laid-row j h = column-at rowOf es [] P pool j h (c .in-rows)
+  pub laid-row : (j : ℕ) → length es ≤ j → getD pool j [] ≡ getD P j []
+  laid-row j h = column-at rowOf es [] P pool j h (c .in-rows)
 
-    pub laid-spot : (j : ℕ) → length es ≤ j → getD spots j [] ≡ getD S j []
-    laid-spot j h = column-at spotOf es [] S spots j h (c .in-spots)
+  pub laid-spot : (j : ℕ) → length es ≤ j → getD spots j [] ≡ getD S j []
+  laid-spot j h = column-at spotOf es [] S spots j h (c .in-spots)
 
-    pub laid-entry : (j : ℕ) → length es ≤ j → entryAt pool spots j ≡ entryAt P S j
-    laid-entry j h = λ z. entry (laid-row j h z) (laid-spot j h z)
+  pub laid-entry : (j : ℕ) → length es ≤ j → entryAt pool spots j ≡ entryAt P S j
+  laid-entry j h = λ z. entry (laid-row j h z) (laid-spot j h z)
 
-    -- what is laid is read again
-    pub laid-entries : (w : ℕ) → w ≡ length es → entriesOf pool spots w ≡ es
-    laid-entries w q = (λ z. entriesOf (c .in-rows z) (c .in-spots z) (q z)) ∙ written-entries es P S
+  -- what is laid is read again
+  pub laid-entries : (w : ℕ) → w ≡ length es → entriesOf pool spots w ≡ es
+  laid-entries w q = (λ z. entriesOf (c .in-rows z) (c .in-spots z) (q z)) ∙ written-entries es P S
 
-    -- more is laid behind it
-    pub laid-over : (fs : List Entry) (pool′ : List (List ℕ)) (spots′ : List (List Float)) → Columns (es ++ fs) pool spots pool′ spots′ → Columns (es ++ fs) P S pool′ spots′
-    laid-over fs pool′ spots′ k = record { in-rows = column-over rowOf es fs P pool pool′ (c .in-rows) (k .in-rows); in-spots = column-over spotOf es fs S spots spots′ (c .in-spots) (k .in-spots) }
+  -- more is laid behind it
+  pub laid-over : (fs : List Entry) {pool′ : List (List ℕ)} {spots′ : List (List Float)} → Columns (es ++ fs) pool spots pool′ spots′ → Columns (es ++ fs) P S pool′ spots′
+  laid-over fs k = record { in-rows = column-over rowOf es fs P pool _ (c .in-rows) (k .in-rows); in-spots = column-over spotOf es fs S spots _ (c .in-spots) (k .in-spots) }
 
 -- the first entries where they are
 pub laid-start : (P : List (List ℕ)) (S : List (List Float)) (w : ℕ) → w ≤ length P → w ≤ length S → Columns (entriesOf P S w) P S P S

@@ -35,19 +35,19 @@ pub record Sweeping (t : Tables) (r from w : ℕ) (pool : List (List ℕ)) (spot
 pub sweeping-start : (t : Tables) → Sweeping t 0 0 0 (t .pool) (t .spots)
 sweeping-start t = record { rows = omega arith; low = omega arith; within = omega arith; ends = refl; count = refl; columns = record { in-rows = refl; in-spots = refl } }
 
-module _ (t : Tables) (h : Holds t) (r from w : ℕ) (pool : List (List ℕ)) (spots : List (List Float)) (k : Sweeping t r from w pool spots) where
+module _ {t : Tables} (h : Holds t) {r from w : ℕ} {pool : List (List ℕ)} {spots : List (List Float)} (k : Sweeping t r from w pool spots) where
   pub sweeping-rows : length pool ≡ length (t .pool)
-  sweeping-rows = laid-rows (keptTo t r) (t .pool) (t .spots) pool spots (k .columns) (omega (arith, k, used-in-pool t h))
+  sweeping-rows = laid-rows (k .columns) (omega (arith, k, used-in-pool t h))
 
   pub sweeping-spots : length spots ≡ length (t .spots)
-  sweeping-spots = laid-spots (keptTo t r) (t .pool) (t .spots) pool spots (k .columns) (omega (arith, k, used-in-spots t h))
+  sweeping-spots = laid-spots (k .columns) (omega (arith, k, used-in-spots t h))
 
   -- the lists ahead are where they were
   ahead : (j : ℕ) → from ≤ j → getD pool j [] ≡ getD (t .pool) j []
-  ahead j g = laid-row (keptTo t r) (t .pool) (t .spots) pool spots (k .columns) j (omega (arith, k))
+  ahead j g = laid-row (k .columns) j (omega (arith, k))
 
   -- ---- the next list, up to where its key goes
-  module _ (l : r < rowsOf t) (to : ℕ) (s : ListEnd pool from (usedOf t) (first (t .cells) r) to) where
+  module _ (l : r < rowsOf t) {to : ℕ} (s : ListEnd pool from (usedOf t) (first (t .cells) r) to) where
     as-before : ListEnd (t .pool) (length (passed t r)) (usedOf t) (first (t .cells) r) to
     as-before =
         let here : ListEnd (t .pool) from (usedOf t) (first (t .cells) r) to =
@@ -65,7 +65,7 @@ module _ (t : Tables) (h : Holds t) (r from w : ℕ) (pool : List (List ℕ)) (s
 
     list-there : listAt pool spots from to ≡ listOf t r
     list-there =
-        run-same (entryAt pool spots) (entryAt (t .pool) (t .spots)) from (to - from) (λ j a b. laid-entry (keptTo t r) (t .pool) (t .spots) pool spots (k .columns) j (omega (arith, a, k)))
+        run-same (entryAt pool spots) (entryAt (t .pool) (t .spots)) from (to - from) (λ j a b. laid-entry (k .columns) j (omega (arith, a, k)))
         ∙ (λ z. listAt (t .pool) (t .spots) (k .ends z) (list-ends z))
         ∙ list-run t h r l
 
@@ -80,9 +80,9 @@ module _ (t : Tables) (h : Holds t) (r from w : ℕ) (pool : List (List ℕ)) (s
         }
 
     -- the list is gone over
-    pub sweeping-turn : (dirty : Bool) → dirty ≡ eqb (second (t .cells) r) 1 → (w′ : ℕ) (pool′ : List (List ℕ)) (spots′ : List (List Float))
+    pub sweeping-turn : (dirty : Bool) → dirty ≡ eqb (second (t .cells) r) 1 → {w′ : ℕ} {pool′ : List (List ℕ)} {spots′ : List (List Float)}
         → Laid (keptIf dirty (t .nums) (t .reals) (listAt pool spots from to)) pool spots w to w′ pool′ spots′ → Sweeping t (r + 1) to w′ pool′ spots′
-    sweeping-turn dirty e w′ pool′ spots′ m =
+    sweeping-turn dirty e m =
         let part : keptIf dirty (t .nums) (t .reals) (listAt pool spots from to) ≡ keptUnder t (first (t .cells) r) = ap (keptIf dirty (t .nums) (t .reals)) list-there ∙ kept-here t h r l dirty e in
         let laid : Columns (keptTo t r) (t .pool) (t .spots) pool spots = k .columns in
         let next : keptTo t (r + 1) ≡ keptTo t r ++ keptUnder t (first (t .cells) r) = next-joined t h r l (keptUnder t) in
@@ -93,8 +93,8 @@ module _ (t : Tables) (h : Holds t) (r from w : ℕ) (pool : List (List ℕ)) (s
           ends = list-ends ∙ sym (ap length (next-joined t h r l (listUnder t)) ∙ length-append (passed t r) (listOf t r));
           count = m .count ∙ (λ z. k .count z + length (part z)) ∙ sym (ap length next ∙ length-append (keptTo t r) (keptUnder t (first (t .cells) r)));
           columns = rw next
-              (laid-over (keptTo t r) (t .pool) (t .spots) pool spots laid (keptUnder t (first (t .cells) r)) pool′ spots′
-              (rw (part, laid-entries (keptTo t r) (t .pool) (t .spots) pool spots laid w (k .count)) at (m .columns)));
+              (laid-over laid (keptUnder t (first (t .cells) r))
+              (rw (part, laid-entries laid w (k .count)) at (m .columns)));
         }
 
   -- ---- all the lists

@@ -17,40 +17,13 @@ abbrev μ-loop : tie.MeasureT-loop
 μ-loop pool₀ spots₀ from to start i₀ w₀ pool spots i w = to - i
 
 within : (c : tie.In-loop Inv-loop μ-loop) → Within (c .before .before .args .pool .now) (c .before .before .args .spots .now) (c .before .loop .i) (c .before .loop .w) (c .before .loop .pool) (c .before .loop .spots)
-within c =
-    let l = c .before .loop in
-    let s = c .before .before in
-    let a = s .args in
-    walk-within stays (a .pool .now) (a .spots .now) (a .from) (a .to) (a .start) (s .pre) (l .i) (l .i) (a .to) (l .w) (l .pool) (l .spots) (l .inv) (c .loop-test .taken)
+within c = walk-within (c .before .before .pre) (c .before .loop .inv) (c .loop-test .taken)
 
 loop-again : tie.Need-loop-again Inv-loop μ-loop
 loop-again c =
     let t = c .before .before in
     let l = t .before .loop in
-    let s = t .before .before in
-    let a = s .args in
-    walking-stays stays (a .pool .now) (a .spots .now) (a .from) (a .to) (a .start) (s .pre) (l .i) (l .i) (a .to) (l .w) (l .pool) (l .spots) (l .inv) (t .loop-test .taken) (getD (l .pool) (l .i) []) (getD (l .spots) (l .i) []) refl
-
-same-length : tie.Need-same-length Inv-loop μ-loop
-same-length c =
-    let l = c .before .loop in
-    let s = c .before .before in
-    let a = s .args in
-    walking-rows stays (a .pool .now) (a .spots .now) (a .from) (a .to) (a .start) (s .pre) (l .i) (l .i) (a .to) (l .w) (l .pool) (l .spots) (l .inv)
-
-same-length-2 : tie.Need-same-length-2 Inv-loop μ-loop
-same-length-2 c =
-    let l = c .before .loop in
-    let s = c .before .before in
-    let a = s .args in
-    walking-spots stays (a .pool .now) (a .spots .now) (a .from) (a .to) (a .start) (s .pre) (l .i) (l .i) (a .to) (l .w) (l .pool) (l .spots) (l .inv)
-
-returns : tie.Need-returns Inv-loop μ-loop
-returns c =
-    let l = c .before .loop in
-    let s = c .before .before in
-    let a = s .args in
-    move-done (a .pool .now) (a .spots .now) (a .from) (a .to) (a .start) (s .pre) (l .i) (l .i) (a .to) (l .w) (l .pool) (l .spots) (l .inv) (c .loop-test .left)
+    walking-stays (t .before .before .pre) (l .inv) (t .loop-test .taken) (getD (l .pool) (l .i) []) (getD (l .spots) (l .i) []) refl
 
 pub move-run-spec : {M : Type 1} → statement M
 move-run-spec =
@@ -58,7 +31,7 @@ move-run-spec =
     (tie.spec
     Inv-loop
     μ-loop
-    (λ c. walking-start stays (c .args .pool .now) (c .args .spots .now) (c .args .from) (c .args .to) (c .args .start) (c .pre))
+    (λ c. walking-start (c .pre))
     (λ c. let h = within c in omega arith)
     (λ c. let h = within c in omega arith)
     (λ c. let h = within (c .before) in omega arith)
@@ -71,6 +44,6 @@ move-run-spec =
     (λ c. let h = within (c .before .before) in omega arith)
     (λ c. omega arith)
     loop-again
-    same-length
-    same-length-2
-    returns)
+    (λ c. walking-rows (c .before .before .pre) (c .before .loop .inv))
+    (λ c. walking-spots (c .before .before .pre) (c .before .loop .inv))
+    (λ c. move-done (c .before .before .pre) (c .before .loop .inv) (c .loop-test .left)))

@@ -46,7 +46,7 @@ list-end-requires c κs =
     let k = l .loop in
     let s = start l in
     let u = l .before .before .before .index-of .ensures in
-    (omega (arith, u, k .inv), omega (arith, u, sweeping-rows (entry-tables s) (s .pre) (k .r) (k .from) (k .w) (k .pool) (k .spots) (k .inv), used-in-pool (entry-tables s) (s .pre)))
+    (omega (arith, u, k .inv), omega (arith, u, sweeping-rows (s .pre) (k .inv), used-in-pool (entry-tables s) (s .pre)))
 
 sweep-run-requires : tie.Need-sweep-run-requires Inv-loop μ-loop
 sweep-run-requires c κs =
@@ -54,8 +54,8 @@ sweep-run-requires c κs =
     let i = e .before .before .before in
     let k = i .before .loop in
     let s = start (i .before) in (
-      sweeping-room (entry-tables s) (s .pre) (k .r) (k .from) (k .w) (k .pool) (k .spots) (k .inv) (row-in i) (e .list-end .result) (stretch e),
-      sweeping-slots (entry-tables s) (s .pre) (k .r) (k .from) (k .w) (k .pool) (k .spots) (k .inv) (row-in i) (e .list-end .result) (stretch e),
+      sweeping-room (s .pre) (k .inv) (row-in i) (stretch e),
+      sweeping-slots (s .pre) (k .inv) (row-in i) (stretch e),
     )
 
 loop-again : tie.Need-loop-again Inv-loop μ-loop
@@ -65,25 +65,7 @@ loop-again c =
     let i = e .before .before .before in
     let k = i .before .loop in
     let s = start (i .before) in
-    sweeping-turn (entry-tables s) (s .pre) (k .r) (k .from) (k .w) (k .pool) (k .spots) (k .inv) (row-in i) (e .list-end .result) (stretch e) (eqb (second (s .args .cells .now) (k .r)) 1) refl (d .sweep-run .result) _ _ (d .sweep-run .ensures)
-
-same-length : tie.Need-same-length Inv-loop μ-loop
-same-length c =
-    let k = c .before .loop in
-    let s = start (c .before) in
-    sweeping-rows (entry-tables s) (s .pre) (k .r) (k .from) (k .w) (k .pool) (k .spots) (k .inv)
-
-same-length-2 : tie.Need-same-length-2 Inv-loop μ-loop
-same-length-2 c =
-    let k = c .before .loop in
-    let s = start (c .before) in
-    sweeping-spots (entry-tables s) (s .pre) (k .r) (k .from) (k .w) (k .pool) (k .spots) (k .inv)
-
-returns : tie.Need-returns Inv-loop μ-loop
-returns c =
-    let k = c .before .loop in
-    let s = start (c .before) in
-    sweeping-done (entry-tables s) (s .pre) (k .r) (k .from) (k .w) (k .pool) (k .spots) (k .inv) (omega (arith, c .loop-test .left, c .before .before .index-of2 .ensures))
+    sweeping-turn (s .pre) (k .inv) (row-in i) (stretch e) (eqb (second (s .args .cells .now) (k .r)) 1) refl (d .sweep-run .ensures)
 
 pub sweep-lists-spec : {M : Type 1} → statement M
 sweep-lists-spec =
@@ -105,6 +87,6 @@ sweep-lists-spec =
     (λ c. omega arith)
     (λ c. omega arith)
     loop-again
-    same-length
-    same-length-2
-    returns)
+    (λ c. sweeping-rows (start (c .before) .pre) (c .before .loop .inv))
+    (λ c. sweeping-spots (start (c .before) .pre) (c .before .loop .inv))
+    (λ c. sweeping-done (start (c .before) .pre) (c .before .loop .inv) (omega (arith, c .loop-test .left, c .before .before .index-of2 .ensures))))

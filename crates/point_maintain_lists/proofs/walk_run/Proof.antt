@@ -18,24 +18,14 @@ abbrev μ-loop : tie.MeasureT-loop
 
 -- the places are in the columns
 within : (c : tie.In-loop Inv-loop μ-loop) → Within (c .before .before .args .pool .now) (c .before .before .args .spots .now) (c .before .loop .at) (c .before .loop .w) (c .before .loop .pool) (c .before .loop .spots)
-within c =
-    let l = c .before .loop in
-    let s = c .before .before in
-    let a = s .args in
-    walk-within (fateIn (a .nums .now) (a .reals .now)) (a .pool .now) (a .spots .now) (a .from) (a .to) (a .start) (s .pre .0) (l .at) (l .i) (l .end) (l .w) (l .pool) (l .spots) (l .inv) (c .loop-test .taken)
-
-loop-holds : tie.Need-loop-holds Inv-loop μ-loop
-loop-holds c = let a = c .args in walking-start (fateIn (a .nums .now) (a .reals .now)) (a .pool .now) (a .spots .now) (a .from) (a .to) (a .start) (c .pre .0)
+within c = walk-within (c .before .before .pre .0) (c .before .loop .inv) (c .loop-test .taken)
 
 -- the slot is in the tables
 slot : (c : tie.After-index-of Inv-loop μ-loop) → c .index-of .result < length (c .before .before .before .before .args .nums .now)
 slot c =
     let t = c .before .before in
-    let l = t .before .loop in
     let s = t .before .before in
-    let a = s .args in
-    rw (c .index-of .ensures)
-    (walk-slot (a .nums .now) (a .reals .now) (a .pool .now) (a .spots .now) (a .from) (a .to) (a .start) (s .pre .0) (l .at) (l .i) (l .end) (l .w) (l .pool) (l .spots) (l .inv) (t .loop-test .taken) (s .pre .1))
+    rw (c .index-of .ensures) (walk-slot (s .args .nums .now) (s .args .reals .now) (s .pre .0) (t .before .loop .inv) (t .loop-test .taken) (s .pre .1))
 
 lay-spot-requires : tie.Need-lay-spot-requires Inv-loop μ-loop
 lay-spot-requires c κs =
@@ -53,43 +43,16 @@ loop-again c =
     let k = c .before .before .before .before in
     let d = k .before .before in
     let t = d .before .before in
-    let l = t .before .loop in
     let s = t .before .before in
-    let a = s .args in
-    walk-stays (a .nums .now) (a .reals .now) (a .pool .now) (a .spots .now) (a .from) (a .to) (a .start) (s .pre .0) (l .at) (l .i) (l .end) (l .w) (l .pool) (l .spots) (l .inv) (t .loop-test .taken)
-    (d .index-of .result) (k .tag-in .result) (d .index-of .ensures) (k .tag-in .ensures) (c .before .before .before .if1 .taken) (c .before .lay-spot .last .1 .0) (c .before .lay-spot .ensures)
+    walk-stays (s .args .nums .now) (s .args .reals .now) (s .pre .0) (t .before .loop .inv) (t .loop-test .taken) (d .index-of .ensures) (k .tag-in .ensures) (c .before .before .before .if1 .taken) (c .before .lay-spot .ensures)
 
 loop-again-2 : tie.Need-loop-again-2 Inv-loop μ-loop
 loop-again-2 c =
     let k = c .before in
     let d = k .before .before in
     let t = d .before .before in
-    let l = t .before .loop in
     let s = t .before .before in
-    let a = s .args in
-    walk-leaves (a .nums .now) (a .reals .now) (a .pool .now) (a .spots .now) (a .from) (a .to) (a .start) (s .pre .0) (l .at) (l .i) (l .end) (l .w) (l .pool) (l .spots) (l .inv) (t .loop-test .taken)
-    (d .index-of .result) (k .tag-in .result) (d .index-of .ensures) (k .tag-in .ensures) (c .if1 .left)
-
-same-length : tie.Need-same-length Inv-loop μ-loop
-same-length c =
-    let l = c .before .loop in
-    let s = c .before .before in
-    let a = s .args in
-    walking-rows (fateIn (a .nums .now) (a .reals .now)) (a .pool .now) (a .spots .now) (a .from) (a .to) (a .start) (s .pre .0) (l .at) (l .i) (l .end) (l .w) (l .pool) (l .spots) (l .inv)
-
-same-length-2 : tie.Need-same-length-2 Inv-loop μ-loop
-same-length-2 c =
-    let l = c .before .loop in
-    let s = c .before .before in
-    let a = s .args in
-    walking-spots (fateIn (a .nums .now) (a .reals .now)) (a .pool .now) (a .spots .now) (a .from) (a .to) (a .start) (s .pre .0) (l .at) (l .i) (l .end) (l .w) (l .pool) (l .spots) (l .inv)
-
-returns : tie.Need-returns Inv-loop μ-loop
-returns c =
-    let l = c .before .loop in
-    let s = c .before .before in
-    let a = s .args in
-    walking-done (fateIn (a .nums .now) (a .reals .now)) (a .pool .now) (a .spots .now) (a .from) (a .to) (a .start) (s .pre .0) (l .at) (l .i) (l .end) (l .w) (l .pool) (l .spots) (l .inv) (omega (arith, c .loop-test .left))
+    walk-leaves (s .args .nums .now) (s .args .reals .now) (s .pre .0) (t .before .loop .inv) (t .loop-test .taken) (d .index-of .ensures) (k .tag-in .ensures) (c .if1 .left)
 
 pub walk-run-spec : {M : Type 1} → statement M
 walk-run-spec =
@@ -97,7 +60,7 @@ walk-run-spec =
     (tie.spec
     Inv-loop
     μ-loop
-    loop-holds
+    (λ c. walking-start (c .pre .0))
     (λ c. let h = within c in omega arith)
     (λ c. let h = within c in omega arith)
     (λ c. search needs)
@@ -115,6 +78,6 @@ walk-run-spec =
     (λ c. omega arith)
     (λ c. omega arith)
     loop-again-2
-    same-length
-    same-length-2
-    returns)
+    (λ c. walking-rows (c .before .before .pre .0) (c .before .loop .inv))
+    (λ c. walking-spots (c .before .before .pre .0) (c .before .loop .inv))
+    (λ c. walking-done (c .before .before .pre .0) (c .before .loop .inv) (omega (arith, c .loop-test .left))))
