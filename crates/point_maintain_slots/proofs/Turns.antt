@@ -23,7 +23,7 @@ use Rattle.point_maintain.specs.Inner.Settle.{settledIn, settledAll}
 use Rattle.point_maintain.specs.Inner.SettleLaws.{Shaped}
 use Rattle.point_maintain.proofs.laws.SettleAllLaws.{in-slots, in-shaped}
 use Rattle.point_maintain.specs.Inner.Closed.{relocatedBelow}
-use Rattle.point_maintain_slots.specs.Inner.Pass.{recordsIn, Slotted, Ready, targetRows, pendingAt, Placed, turned, turnedRows, putAt, Passed}
+use Rattle.point_maintain_slots.specs.Inner.Pass.{recordsIn, Slotted, Ready, Room, targetRows, pendingAt, Placed, turned, turnedRows, putAt, Passed}
 use Rattle.point_maintain_slots.proofs.laws.PutLaws.{put-none, put-one, put-length, put-more}
 use Rattle.point_maintain_slots.proofs.laws.PassLaws.{next-turned, next-rows, next-slotted, below-next, below-count, below-grows}
 
@@ -67,23 +67,23 @@ module _ (ns : List (List ℕ)) (qs : List (List Float)) (zs : List (List ℤ)) 
     rows-by : (st : State) → recordOn t s .state ≡ st → targetRows s st ≡ turnedRows t s
     rows-by st q = ap (targetRows s) (sym q) ∙ rw (eq-eqb (phaseAt ns s) live p)
 
-    turn-by : (st : State) → recordOn t s .state ≡ st → (after : Tables) (n : ℕ) (put : List (List ℕ)) → after ≡ settledBy t s st → n ≡ length (targetRows s st) → put ≡ putAt at (targetRows s st) l → Turned after n put
-    turn-by st q after n put a b c =
+    turn-by : (st : State) → recordOn t s .state ≡ st → {after : Tables} {n : ℕ} {put : List (List ℕ)} → after ≡ settledBy t s st → n ≡ length (targetRows s st) → put ≡ putAt at (targetRows s st) l → Turned after n put
+    turn-by st q a b c =
         (a ∙ turned-by st q, (b ∙ ap length (rows-by st q), c ∙ ap (λ (k : List (List ℕ)). putAt at k l) (rows-by st q)))
 
     pub turn-unchanged : tag ≡ 0 → Turned t 0 l
-    turn-unchanged e = turn-by Unchanged (rw (eq-eqb tag 0 e)) t 0 l refl refl (sym (put-none at l))
+    turn-unchanged e = turn-by Unchanged (rw (eq-eqb tag 0 e)) refl refl (sym (put-none at l))
 
     pub turn-moved : tag ≡ 1 → (c : Cell) → c ≡ cell → (ns′ : List (List ℕ)) (qs′ : List (List Float)) (zs′ : List (List ℤ)) → Placed ns qs zs s c ns′ qs′ zs′ → Turned (recordsIn ns′ qs′ zs′ m) 0 l
     turn-moved e c q ns′ qs′ zs′ w =
-        turn-by (NewPos (pendingAt qs s)) (rw (ne-eqb tag 0 (λ z. omega arith), eq-eqb tag 1 e)) (recordsIn ns′ qs′ zs′ m) 0 l
+        turn-by (NewPos (pendingAt qs s)) (rw (ne-eqb tag 0 (λ z. omega arith), eq-eqb tag 1 e))
         (stored-at c ns′ qs′ zs′ w ∙ ap (λ (d : Cell). settledBy t s (Relocate (pendingAt qs s) d)) q)
         refl
         (sym (put-none at l))
 
     pub turn-removed : (tag ≡ 0 → ⊥) → (tag ≡ 1 → ⊥) → (tag ≡ 2 → ⊥) → (ns′ : List (List ℕ)) (m′ : List ℕ) → ns′ ≡ emptiedNums ns s → m′ ≡ emptiedMap ns m s → Turned (recordsIn ns′ qs zs m′) 0 l
     turn-removed x y z ns′ m′ a b =
-        turn-by Removed (rw (ne-eqb tag 0 x, ne-eqb tag 1 y, ne-eqb tag 2 z)) (recordsIn ns′ qs zs m′) 0 l (λ k. recordsIn (a k) qs zs (b k)) refl (sym (put-none at l))
+        turn-by Removed (rw (ne-eqb tag 0 x, ne-eqb tag 1 y, ne-eqb tag 2 z)) (λ k. recordsIn (a k) qs zs (b k)) refl (sym (put-none at l))
 
     -- a relocated object has one row
     module _ (e : tag ≡ 2) (c : Cell) (q : c ≡ target) (room : at + length (turnedRows t s) ≤ length l) where
@@ -95,7 +95,7 @@ module _ (ns : List (List ℕ)) (qs : List (List Float)) (zs : List (List ℤ)) 
 
       pub turn-relocated : (ns′ : List (List ℕ)) (qs′ : List (List Float)) (zs′ : List (List ℤ)) → Placed ns qs zs s c ns′ qs′ zs′ → (n : ℕ) (put : List (List ℕ)) → (n ≡ 1) × (put ≡ set l at (keyOf c ∷ s ∷ [])) → Turned (recordsIn ns′ qs′ zs′ m) n put
       turn-relocated ns′ qs′ zs′ w n put o =
-          turn-by (Relocate (pendingAt qs s) target) relocates (recordsIn ns′ qs′ zs′ m) n put
+          turn-by (Relocate (pendingAt qs s) target) relocates
           (stored-at c ns′ qs′ zs′ w ∙ ap (λ (d : Cell). settledBy t s (Relocate (pendingAt qs s) d)) q)
           (o .0)
           (o .1 ∙ sym (put-one at (keyOf c ∷ s ∷ []) l target-room) ∙ ap (λ (d : Cell). putAt at (targetRows s (Relocate (pendingAt qs s) d)) l) q)
@@ -107,14 +107,14 @@ pub record Done (t : Tables) (w : ℕ) (pool : List (List ℕ)) (i : ℕ) (now :
   pub counts : k ≡ length (relocatedBelow i t)
   pub puts : put ≡ putAt w (map rowOf (relocatedBelow i t)) pool
 
-module _ (t : Tables) (w : ℕ) (pool : List (List ℕ)) (r : Ready t) (room : w + length (relocatedBelow (slotsOf t) t) ≤ length pool) where
-  pub none-done : Done t w pool 0 t pool 0
-  unfolding settledIn relocatedBelow
-  none-done = record { most = omega arith; settles = refl; counts = refl; puts = sym (put-none w pool) }
+pub none-done : {t : Tables} {w : ℕ} {pool : List (List ℕ)} → Done t w pool 0 t pool 0
+unfolding settledIn relocatedBelow
+none-done {w = w} {pool = pool} = record { most = omega arith; settles = refl; counts = refl; puts = sym (put-none w pool) }
 
-  pub all-done : (i : ℕ) (now : Tables) (put : List (List ℕ)) (k : ℕ) → Done t w pool i now put k → slotsOf t ≤ i → Passed t now w pool put k
+module _ {t : Tables} {w : ℕ} {pool : List (List ℕ)} {i : ℕ} {now : Tables} {put : List (List ℕ)} {k : ℕ} (d : Done t w pool i now put k) where
+  pub all-done : slotsOf t ≤ i → Passed t now w pool put k
   unfolding settledAll
-  all-done i now put k d l =
+  all-done l =
       let e : i ≡ slotsOf t = omega (arith, d .most) in
       record {
         settles = d .settles ∙ ap (λ (n : ℕ). settledIn (isLive t) n t) e;
@@ -122,16 +122,13 @@ module _ (t : Tables) (w : ℕ) (pool : List (List ℕ)) (r : Ready t) (room : w
         puts = d .puts ∙ ap (λ (n : ℕ). putAt w (map rowOf (relocatedBelow n t)) pool) e;
       }
 
-  room-for : (i : ℕ) → i ≤ slotsOf t → w + length (map rowOf (relocatedBelow i t)) ≤ length pool
-  room-for i l = rw (length-map (relocatedBelow i t) rowOf) (omega (arith, room, below-grows t (slotsOf t) i l))
-
   -- the tables keep their lengths
-  module _ (i : ℕ) (now : Tables) (put : List (List ℕ)) (k : ℕ) (d : Done t w pool i now put k) where
+  pub done-slots : slotsOf now ≡ slotsOf t
+  done-slots = ap slotsOf (d .settles) ∙ in-slots (isLive t) t i
+
+  module _ (r : Ready t) where
     still : Shaped now
     still = rw (d .settles) (in-shaped (isLive t) t i (r .shaped))
-
-    pub done-slots : slotsOf now ≡ slotsOf t
-    done-slots = ap slotsOf (d .settles) ∙ in-slots (isLive t) t i
 
     pub done-reals : length (now .reals) ≡ length (t .reals)
     done-reals = omega (arith, still .of-reals, done-slots, r .shaped .of-reals)
@@ -142,36 +139,39 @@ module _ (t : Tables) (w : ℕ) (pool : List (List ℕ)) (r : Ready t) (room : w
     pub done-map : length (now .map) ≡ length (t .map)
     done-map = still .of-map ∙ ap (λ (n : ℕ). head + wordsFor n) done-slots ∙ sym (r .shaped .of-map)
 
-    pub done-room : w + k ≤ length pool
-    done-room = omega (arith, d .counts, room, below-grows t (slotsOf t) i (d .most))
+    module _ (room : Room t w pool) where
+      pub done-room : w + k ≤ length pool
+      done-room = omega (arith, d .counts, room, below-grows t (slotsOf t) i (d .most))
 
-  -- the slot at hand
-  module _ (i : ℕ) (now : Tables) (put : List (List ℕ)) (k : ℕ) (d : Done t w pool i now put k) where
-    pub put-long : length put ≡ length pool
-    put-long = ap length (d .puts) ∙ put-length w (map rowOf (relocatedBelow i t)) pool (room-for i (d .most))
+      room-below : w + length (map rowOf (relocatedBelow i t)) ≤ length pool
+      room-below = rw (length-map (relocatedBelow i t) rowOf) (omega (arith, d .counts, done-room))
 
-    module _ (l : i < slotsOf t) where
-      rows-now : turnedRows now i ≡ turnedRows t i
-      rows-now = ap (λ (n : Tables). turnedRows n i) (d .settles) ∙ next-rows t i
+      pub put-long : length put ≡ length pool
+      put-long = ap length (d .puts) ∙ put-length w (map rowOf (relocatedBelow i t)) pool room-below
 
-      pub turn-slotted : Slotted now i
-      turn-slotted = rw (d .settles) (next-slotted t i (r .shaped) l)
+      -- the slot at hand
+      module _ (l : i < slotsOf t) where
+        rows-now : turnedRows now i ≡ turnedRows t i
+        rows-now = ap (λ (n : Tables). turnedRows n i) (d .settles) ∙ next-rows t i
 
-      pub turn-room : w + k + length (turnedRows now i) ≤ length put
-      turn-room =
-          omega (arith, room, d .counts, put-long, ap length rows-now, below-count t r i l, below-grows t (slotsOf t) (suc i) l)
+        pub turn-slotted : Slotted now i
+        turn-slotted = rw (d .settles) (next-slotted t i (r .shaped) l)
 
-      pub turn-done : (after : Tables) (put′ : List (List ℕ)) (n : ℕ) → after ≡ turned now i → n ≡ length (turnedRows now i) → put′ ≡ putAt (w + k) (turnedRows now i) put → Done t w pool (i + 1) after put′ (k + n)
-      turn-done after put′ n a b c =
-          rw (add-one i)
-          (record {
-            most = l;
-            settles = a ∙ ap (λ (x : Tables). turned x i) (d .settles) ∙ next-turned t i;
-            counts = omega (arith, d .counts, b, ap length rows-now, below-count t r i l);
-            puts =
-                c
-                ∙ ap (λ (x : List (List ℕ)). putAt (w + k) x put) rows-now
-                ∙ ap₂ (λ (x : ℕ) (y : List (List ℕ)). putAt (w + x) (turnedRows t i) y) (d .counts ∙ sym (length-map (relocatedBelow i t) rowOf)) (d .puts)
-                ∙ put-more w (map rowOf (relocatedBelow i t)) pool (room-for i (d .most)) (turnedRows t i)
-                ∙ ap (λ (x : List (List ℕ)). putAt w x pool) (sym (below-next t r i l));
-          })
+        pub turn-room : w + k + length (turnedRows now i) ≤ length put
+        turn-room =
+            omega (arith, room, d .counts, put-long, ap length rows-now, below-count t r i l, below-grows t (slotsOf t) (suc i) l)
+
+        pub turn-done : {after : Tables} {put′ : List (List ℕ)} {n : ℕ} → after ≡ turned now i → n ≡ length (turnedRows now i) → put′ ≡ putAt (w + k) (turnedRows now i) put → Done t w pool (i + 1) after put′ (k + n)
+        turn-done a b c =
+            rw (add-one i)
+            (record {
+              most = l;
+              settles = a ∙ ap (λ (x : Tables). turned x i) (d .settles) ∙ next-turned t i;
+              counts = omega (arith, d .counts, b, ap length rows-now, below-count t r i l);
+              puts =
+                  c
+                  ∙ ap (λ (x : List (List ℕ)). putAt (w + k) x put) rows-now
+                  ∙ ap₂ (λ (x : ℕ) (y : List (List ℕ)). putAt (w + x) (turnedRows t i) y) (d .counts ∙ sym (length-map (relocatedBelow i t) rowOf)) (d .puts)
+                  ∙ put-more w (map rowOf (relocatedBelow i t)) pool room-below (turnedRows t i)
+                  ∙ ap (λ (x : List (List ℕ)). putAt w x pool) (sym (below-next t r i l));
+            })

@@ -24,28 +24,23 @@ at-entry s = recordsIn (s .args .nums .now) (s .args .reals .now) (s .args .ints
 abbrev start : tie.At-loop Inv-loop μ-loop → tie.Start Inv-loop μ-loop
 start l = l .before .before
 
-abbrev here : tie.At-loop Inv-loop μ-loop → Tables
-here l = recordsIn (l .loop .nums) (l .loop .reals) (l .loop .ints) (l .loop .map)
-
 -- the lengths stay
 slots-stay : (l : tie.At-loop Inv-loop μ-loop) → length (l .loop .nums) ≡ length (start l .args .nums .now)
-slots-stay l = let s = start l in done-slots (at-entry s) (s .args .w) (s .args .pool .now) (s .pre .0) (s .pre .1) (l .loop .i) (here l) (l .loop .pool) (l .loop .k) (l .loop .inv)
+slots-stay l = done-slots (l .loop .inv)
 
 inside : (c : tie.In-loop Inv-loop μ-loop) → c .before .loop .i < length (start (c .before) .args .nums .now)
 inside c = omega (arith, slots-stay (c .before), c .loop-test .taken)
 
 -- what the turn at hand is asked for
 room-here : (c : tie.In-loop Inv-loop μ-loop) → c .before .before .before .args .w + c .before .loop .k ≤ length (start (c .before) .args .pool .now)
-room-here c = let l = c .before in let s = start l in done-room (at-entry s) (s .args .w) (s .args .pool .now) (s .pre .0) (s .pre .1) (l .loop .i) (here l) (l .loop .pool) (l .loop .k) (l .loop .inv)
+room-here c = let s = start (c .before) in done-room (c .before .loop .inv) (s .pre .0) (s .pre .1)
 
 turn-requires : tie.Need-turn-requires Inv-loop μ-loop
 turn-requires c κs =
     let t = c .before .before .before .before .before in
     let l = t .before in
-    let s = start l in (
-      turn-slotted (at-entry s) (s .args .w) (s .args .pool .now) (s .pre .0) (s .pre .1) (l .loop .i) (here l) (l .loop .pool) (l .loop .k) (l .loop .inv) (inside t),
-      turn-room (at-entry s) (s .args .w) (s .args .pool .now) (s .pre .0) (s .pre .1) (l .loop .i) (here l) (l .loop .pool) (l .loop .k) (l .loop .inv) (inside t),
-    )
+    let s = start l in
+    (turn-slotted (l .loop .inv) (s .pre .0) (s .pre .1) (inside t), turn-room (l .loop .inv) (s .pre .0) (s .pre .1) (inside t))
 
 -- one slot more
 after : (c : tie.After-pool Inv-loop μ-loop) → let u = c .before .before .before .before .before .before in let l = u .before .before .before .before .before .before .before in let s = start l in Done (at-entry s) (s .args .w) (s .args .pool .now) (l .loop .i + 1) (recordsIn (u .turn .last .0) (u .turn .last .1 .0) (u .turn .last .1 .1 .0) (u .turn .last .1 .1 .1 .0)) (u .turn .last .1 .1 .1 .1 .0) (l .loop .k + u .turn .result)
@@ -54,16 +49,13 @@ after c =
     let t = u .before .before .before .before .before .before in
     let l = t .before in
     let s = start l in
-    turn-done (at-entry s) (s .args .w) (s .args .pool .now) (s .pre .0) (s .pre .1) (l .loop .i) (here l) (l .loop .pool) (l .loop .k) (l .loop .inv) (inside t) _ _ _ (u .turn .ensures .0) (u .turn .ensures .1 .0) (u .turn .ensures .1 .1)
+    turn-done (l .loop .inv) (s .pre .0) (s .pre .1) (inside t) (u .turn .ensures .0) (u .turn .ensures .1 .0) (u .turn .ensures .1 .1)
 
 abbrev turned-in : tie.After-pool Inv-loop μ-loop → tie.In-loop Inv-loop μ-loop
 turned-in c = c .before .before .before .before .before .before .before .before .before .before .before .before
 
 add-k : tie.Need-add-k Inv-loop μ-loop
-add-k c =
-    let l = turned-in c .before in
-    let s = start l in
-    omega (arith, done-room (at-entry s) (s .args .w) (s .args .pool .now) (s .pre .0) (s .pre .1) _ _ _ _ (after c))
+add-k c = let s = start (turned-in c .before) in omega (arith, done-room (after c) (s .pre .0) (s .pre .1))
 
 pub settle-slots-spec : {M : Type 1} → statement M
 settle-slots-spec =
@@ -71,7 +63,7 @@ settle-slots-spec =
     (tie.spec
     Inv-loop
     μ-loop
-    (λ c. let s = c .before in none-done (at-entry s) (s .args .w) (s .args .pool .now) (s .pre .0) (s .pre .1))
+    (λ c. none-done)
     (λ c. omega (arith, room-here (c .before .before .before .before .before)))
     turn-requires
     add-k
@@ -79,8 +71,8 @@ settle-slots-spec =
     (λ c. omega (arith, inside (turned-in c)))
     after
     (λ c. slots-stay (c .before))
-    (λ c. let l = c .before in let s = start l in done-reals (at-entry s) (s .args .w) (s .args .pool .now) (s .pre .0) (s .pre .1) (l .loop .i) (here l) (l .loop .pool) (l .loop .k) (l .loop .inv))
-    (λ c. let l = c .before in let s = start l in done-ints (at-entry s) (s .args .w) (s .args .pool .now) (s .pre .0) (s .pre .1) (l .loop .i) (here l) (l .loop .pool) (l .loop .k) (l .loop .inv))
-    (λ c. let l = c .before in let s = start l in done-map (at-entry s) (s .args .w) (s .args .pool .now) (s .pre .0) (s .pre .1) (l .loop .i) (here l) (l .loop .pool) (l .loop .k) (l .loop .inv))
-    (λ c. let l = c .before in let s = start l in put-long (at-entry s) (s .args .w) (s .args .pool .now) (s .pre .0) (s .pre .1) (l .loop .i) (here l) (l .loop .pool) (l .loop .k) (l .loop .inv))
-    (λ c. let l = c .before in let s = start l in all-done (at-entry s) (s .args .w) (s .args .pool .now) (s .pre .0) (s .pre .1) (l .loop .i) (here l) (l .loop .pool) (l .loop .k) (l .loop .inv) (omega (arith, slots-stay l, c .loop-test .left))))
+    (λ c. done-reals (c .before .loop .inv) (start (c .before) .pre .0))
+    (λ c. done-ints (c .before .loop .inv) (start (c .before) .pre .0))
+    (λ c. done-map (c .before .loop .inv) (start (c .before) .pre .0))
+    (λ c. put-long (c .before .loop .inv) (start (c .before) .pre .0) (start (c .before) .pre .1))
+    (λ c. all-done (c .before .loop .inv) (omega (arith, slots-stay (c .before), c .loop-test .left))))
