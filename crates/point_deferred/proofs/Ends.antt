@@ -1,5 +1,5 @@
 -- The ends of a batch, from what its steps give. Assumes nothing.
-use Prim.Native.Nat.{ℕ}
+use Prim.Native.Nat.{ℕ, _≤_}
 use mathlib.Core.Path.{_≡_, ap, sym, _∙_}
 use mathlib.Core.Bool.{Bool, _&&_}
 use mathlib.Core.List.{List, [], _∷_}
@@ -21,34 +21,40 @@ use Rattle.point_deferred.specs.Inner.Held.{heldAfter, heldReplies}
 use Rattle.point_deferred.proofs.laws.HeldLaws.{after-worked, replies-worked}
 use Rattle.point_deferred.proofs.laws.BatchAnswerLaws.{batch-accepted, batch-short, batch-refused, batch-ran}
 
--- t: the tables without the pool, u: those after the calls
-module _ (t u : Tables) (pool : List (List ℕ)) (spots : List (List Float)) (kinds : List ℕ) (handles : List (List ℕ)) (positions : List (List Float)) (out : List (List ℕ)) where
-  abbrev all : Tables
-  all = withPool t pool spots
+-- the answer a to a batch is right; t: the tables without the pool
+pub record Answered (t : Tables) (pool : List (List ℕ)) (spots : List (List Float)) (kinds : List ℕ) (handles : List (List ℕ)) (positions : List (List Float)) (out : List (List ℕ)) (a : ℕ) : Type 0 where
+  pub is : a ≡ batchAnswer (withPool t pool spots) kinds handles positions out
 
+module _ {t : Tables} {pool : List (List ℕ)} {spots : List (List Float)} {kinds : List ℕ} {handles : List (List ℕ)} {positions : List (List Float)} {out : List (List ℕ)} {a : ℕ} where
   -- the verdict of the check is the right one
-  pub answered : (a : ℕ) (held : Bool) → held ≡ holds all → a ≡ firstOf (unless ((eqb (length handles) (length kinds) && eqb (length positions) (length kinds)) && held) 3 ∷ unless (leb (length kinds) (length out)) 9 ∷ []) → a ≡ batchAnswer all kinds handles positions out
-  unfolding batchAnswer
-  answered a held h e = e ∙ ap (λ (b : Bool). firstOf (unless ((eqb (length handles) (length kinds) && eqb (length positions) (length kinds)) && b) 3 ∷ unless (leb (length kinds) (length out)) 9 ∷ [])) h
+  pub answered : {held : Bool} → held ≡ holds (withPool t pool spots) → a ≡ firstOf (unless ((eqb (length handles) (length kinds) && eqb (length positions) (length kinds)) && held) 3 ∷ unless (leb (length kinds) (length out)) 9 ∷ []) → Answered t pool spots kinds handles positions out a
+  answered h e = record { is = unfold batchAnswer in e ∙ ap (λ (b : Bool). firstOf (unless ((eqb (length handles) (length kinds) && eqb (length positions) (length kinds)) && b) 3 ∷ unless (leb (length kinds) (length out)) 9 ∷ [])) h }
 
-  module _ (a : ℕ) (e : a ≡ batchAnswer all kinds handles positions out) where
-    pub short : (n : ℕ) → n ≡ length kinds → a ≡ 9 → outcome (batched 9 n out) all ≡ batchOf all kinds handles positions out
-    short n q z = ap (λ (k : ℕ). outcome (batched 9 k out) all) q ∙ sym (batch-short all kinds handles positions out (sym e ∙ z))
+  module _ (e : Answered t pool spots kinds handles positions out a) where
+    abbrev all : Tables
+    all = withPool t pool spots
+
+    pub short : {n : ℕ} → n ≡ length kinds → a ≡ 9 → outcome (batched 9 n out) all ≡ batchOf all kinds handles positions out
+    short q z = ap (λ (k : ℕ). outcome (batched 9 k out) all) q ∙ sym (batch-short all kinds handles positions out (sym (e .is) ∙ z))
 
     pub refused : (a ≡ 0 → ⊥) → (a ≡ 9 → ⊥) → outcome (batched a 0 out) all ≡ batchOf all kinds handles positions out
-    refused z m = ap (λ (k : ℕ). outcome (batched k 0 out) all) e ∙ sym (batch-refused all kinds handles positions out (λ q. z (e ∙ q)) (λ q. m (e ∙ q)))
+    refused z m = ap (λ (k : ℕ). outcome (batched k 0 out) all) (e .is) ∙ sym (batch-refused all kinds handles positions out (λ q. z (e .is ∙ q)) (λ q. m (e .is ∙ q)))
+
+    pub lengths : a ≡ 0 → (length handles ≡ length kinds) × (length positions ≡ length kinds) × (length kinds ≤ length out)
+    lengths z = let w = batch-accepted all kinds handles positions out (sym (e .is) ∙ z) in (w .of-handles, w .of-positions, w .room)
 
     pub found : a ≡ 0 → Holds all
-    found z = holds-says all .yes (batch-accepted all kinds handles positions out (sym e ∙ z) .held)
+    found z = holds-says all .yes (batch-accepted all kinds handles positions out (sym (e .is) ∙ z) .held)
 
     pub readied : a ≡ 0 → Ready t
     readied z = ready-pool t pool spots (holds-ready all (found z))
 
-    pub ran : (n : ℕ) (after : List (List ℕ)) → n ≡ length kinds → a ≡ 0
+    -- u: the tables after the calls
+    pub ran : {u : Tables} {n : ℕ} {after : List (List ℕ)} → n ≡ length kinds → a ≡ 0
         → (u ≡ heldAfter t (callsOf kinds handles positions)) × (after ≡ written (replyRows (heldReplies t (callsOf kinds handles positions))) out)
         → outcome (batched 0 n after) (withPool u pool spots) ≡ batchOf all kinds handles positions out
-    ran n after q z w =
+    ran {u} {n} {after} q z w =
         let cs = callsOf kinds handles positions in
         let p : withPool u pool spots ≡ tablesAfter all cs = ap (λ (x : Tables). withPool x pool spots) (w .0) ∙ sym (after-worked pool spots t (found z) cs) in
         let o : after ≡ written (replyRows (replies all cs)) out = w .1 ∙ ap (λ (l : List Reply). written (replyRows l) out) (sym (replies-worked pool spots t (found z) cs)) in
-        (λ i. outcome (batched 0 (q i) (o i)) (p i)) ∙ sym (batch-ran all kinds handles positions out (sym e ∙ z))
+        (λ i. outcome (batched 0 (q i) (o i)) (p i)) ∙ sym (batch-ran all kinds handles positions out (sym (e .is) ∙ z))

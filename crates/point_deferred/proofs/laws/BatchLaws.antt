@@ -44,40 +44,39 @@ module _ (kinds : List ℕ) (handles : List (List ℕ)) (positions : List (List 
   replies-long (k ∷ ks) (h ∷ hs) [] t = omega arith
   replies-long (k ∷ ks) (h ∷ hs) (p ∷ ps) t = omega (arith, replies-long ks hs ps (heldOf t (call k (handleOf h) (positionOf p)) .after))
 
-  module _ (t₀ : Tables) (out₀ : List (List ℕ)) where
+  next-call : length handles ≡ length kinds → length positions ≡ length kinds → (i : ℕ) → i < length kinds → callsFrom i ≡ callAt i ∷ callsFrom (suc i)
+  next-call of-handles of-positions i l =
+      let lh : i < length handles = rw of-handles l in
+      let lp : i < length positions = rw of-positions l in
+      rw (drop-cons kinds i 0, drop-cons handles i [], drop-cons positions i [])
+
+  none-left : (i : ℕ) → length kinds ≤ i → callsFrom i ≡ []
+  none-left i l = rw (drop-of-length-le kinds l)
+
+  module _ {t₀ : Tables} {out₀ : List (List ℕ)} where
     pub start : Ready t₀ → Running t₀ out₀ t₀ out₀ 0
     start r = record { most = omega arith; ready = r; after = refl; rows = refl; long = refl; same = record { nums = refl; reals = refl; ints = refl; cells = refl } }
 
-    module _ (of-handles : length handles ≡ length kinds) (of-positions : length positions ≡ length kinds) where
-      next-call : (i : ℕ) → i < length kinds → callsFrom i ≡ callAt i ∷ callsFrom (suc i)
-      next-call i l =
-          let lh : i < length handles = rw of-handles l in
-          let lp : i < length positions = rw of-positions l in
-          rw (drop-cons kinds i 0, drop-cons handles i [], drop-cons positions i [])
+    pub step : {t u : Tables} {out : List (List ℕ)} {r : Reply} {i : ℕ} → length handles ≡ length kinds → length positions ≡ length kinds → Running t₀ out₀ t out i → i < length kinds → outcome r u ≡ heldOf t (callAt i)
+        → Running t₀ out₀ u (set out i (r .answer ∷ r .obj ∷ [])) (i + 1)
+    unfolding heldAfter heldReplies
+    step {t} {u} {out} {r} {i} lh lp g l e =
+        let a : heldAfter (heldOf t (callAt i) .after) (callsFrom (suc i)) ≡ heldAfter t₀ calls = rw (next-call lh lp i l) at (g .after) in
+        let b : sets out i (replyRows (heldOf t (callAt i) .result ∷ heldReplies (heldOf t (callAt i) .after) (callsFrom (suc i)))) ≡ sets out₀ 0 (replyRows (heldReplies t₀ calls)) = rw (next-call lh lp i l) at (g .rows) in
+        let m : SameLong t u = subst (λ (o : Outcome Reply). SameLong t (o .after)) (sym e) (held-long t (callAt i) (g .ready)) in
+        record {
+          most = omega arith;
+          ready = subst (λ (o : Outcome Reply). Ready (o .after)) (sym e) (held-ready t (callAt i) (g .ready));
+          after = rw add-one (subst (λ (o : Outcome Reply). heldAfter (o .after) (callsFrom (suc i)) ≡ heldAfter t₀ calls) (sym e) a);
+          rows = rw add-one (subst (λ (o : Outcome Reply). sets out i (replyRows (o .result ∷ heldReplies (o .after) (callsFrom (suc i)))) ≡ sets out₀ 0 (replyRows (heldReplies t₀ calls))) (sym e) b);
+          long = length-set out i (r .answer ∷ r .obj ∷ []) ∙ g .long;
+          same = record { nums = m .nums ∙ g .same .nums; reals = m .reals ∙ g .same .reals; ints = m .ints ∙ g .same .ints; cells = m .cells ∙ g .same .cells };
+        }
 
-      pub step : (t u : Tables) (out : List (List ℕ)) (r : Reply) (i : ℕ) → Running t₀ out₀ t out i → i < length kinds → outcome r u ≡ heldOf t (callAt i)
-          → Running t₀ out₀ u (set out i (r .answer ∷ r .obj ∷ [])) (i + 1)
-      unfolding heldAfter heldReplies
-      step t u out r i g l e =
-          let a : heldAfter (heldOf t (callAt i) .after) (callsFrom (suc i)) ≡ heldAfter t₀ calls = rw (next-call i l) at (g .after) in
-          let b : sets out i (replyRows (heldOf t (callAt i) .result ∷ heldReplies (heldOf t (callAt i) .after) (callsFrom (suc i)))) ≡ sets out₀ 0 (replyRows (heldReplies t₀ calls)) = rw (next-call i l) at (g .rows) in
-          let m : SameLong t u = subst (λ (o : Outcome Reply). SameLong t (o .after)) (sym e) (held-long t (callAt i) (g .ready)) in
-          record {
-            most = omega arith;
-            ready = subst (λ (o : Outcome Reply). Ready (o .after)) (sym e) (held-ready t (callAt i) (g .ready));
-            after = rw add-one (subst (λ (o : Outcome Reply). heldAfter (o .after) (callsFrom (suc i)) ≡ heldAfter t₀ calls) (sym e) a);
-            rows = rw add-one (subst (λ (o : Outcome Reply). sets out i (replyRows (o .result ∷ heldReplies (o .after) (callsFrom (suc i)))) ≡ sets out₀ 0 (replyRows (heldReplies t₀ calls))) (sym e) b);
-            long = length-set out i (r .answer ∷ r .obj ∷ []) ∙ g .long;
-            same = record { nums = m .nums ∙ g .same .nums; reals = m .reals ∙ g .same .reals; ints = m .ints ∙ g .same .ints; cells = m .cells ∙ g .same .cells };
-          }
-
-    none-left : (i : ℕ) → length kinds ≤ i → callsFrom i ≡ []
-    none-left i l = rw (drop-of-length-le kinds l)
-
-    pub finish : (t : Tables) (out : List (List ℕ)) (i : ℕ) → Running t₀ out₀ t out i → length kinds ≤ i → length kinds ≤ length out₀
+    pub finish : {t : Tables} {out : List (List ℕ)} {i : ℕ} → Running t₀ out₀ t out i → length kinds ≤ i → length kinds ≤ length out₀
         → (t ≡ heldAfter t₀ calls) × (out ≡ written (replyRows (heldReplies t₀ calls)) out₀)
     unfolding heldAfter heldReplies
-    finish t out i g l m =
+    finish {t} {out} {i} g l m =
         let a : t ≡ heldAfter t₀ calls = rw (none-left i l) at (g .after) in
         let b : out ≡ sets out₀ 0 (replyRows (heldReplies t₀ calls)) = rw (none-left i l) at (g .rows) in
         let rows = replyRows (heldReplies t₀ calls) in

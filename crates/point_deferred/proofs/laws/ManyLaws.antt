@@ -18,21 +18,20 @@ use Rattle.cells.specs.Meaning.CellRule.{cellAt}
 use Rattle.cells.specs.Meaning.Key.{keyOf}
 use Rattle.slots.specs.Meaning.Slot.{live, phaseAt}
 use Rattle.storage.specs.Meaning.Keyed.{written}
-use Rattle.storage.proofs.laws.FilterLaws.{by-test}
-use Rattle.storage.specs.Meaning.Packed.{first, second, Packed}
+use Rattle.storage.specs.Meaning.Packed.{first, second}
 use Rattle.point_records.specs.declared.State.{State}
 use Rattle.point_records.specs.declared.State.the-variants.{NewPos, Relocate, Removed}
 use Rattle.point_records.specs.declared.Record.{Record}
 use Rattle.point_records.specs.Meaning.Columns.{tagOf}
 use Rattle.point_records.specs.Inner.Decide.{d-cell}
 use Rattle.point_records.specs.Meaning.States.{aimed}
-use Rattle.point_tables.specs.Meaning.Tables.{Tables, tables, sizeOf, usedOf, rowsOf, slotsOf, recordOn}
+use Rattle.point_tables.specs.Meaning.Tables.{Tables, sizeOf, usedOf, rowsOf, slotsOf, recordOn}
 use Rattle.point_tables.specs.Meaning.Holds.{Holds, Pending}
 use Rattle.point_tables.specs.Meaning.Outcome.{Outcome, outcome}
 use Rattle.point_tables.proofs.laws.CheckLaws.{tag-zero, zero-tag}
 use Rattle.replies.specs.declared.Reply.{Reply}
 use Rattle.point_deferred.specs.Meaning.Moves.{pended}
-use Rattle.point_deferred.specs.Meaning.Batch.{Call, callsOf, replyRows}
+use Rattle.point_deferred.specs.Meaning.Batch.{Call, replyRows}
 use Rattle.point_deferred.specs.Inner.Ready.{Ready}
 use Rattle.point_deferred.proofs.laws.ReadyLaws.{holds-ready, ready-pool}
 use Rattle.point_deferred.proofs.laws.PendedLaws.{nums-long, record-same, record-other, kept, row-same, row-other}
@@ -161,11 +160,11 @@ module _ (kinds : List ℕ) (handles : List (List ℕ)) (positions : List (List 
     pub running : Running kinds handles positions t₀ out₀ (poolless ns qs zs map cells) out i
     pub touching : Touching (t₀ .cells) (poolless ns qs zs map cells)
 
-  pub step-many : (ns : List (List ℕ)) (qs : List (List Float)) (zs : List (List ℤ)) (out : List (List ℕ)) (i : ℕ) (ns′ : List (List ℕ)) (qs′ : List (List Float)) (zs′ : List (List ℤ)) (r : Reply)
+  pub step-many : {ns : List (List ℕ)} {qs : List (List Float)} {zs : List (List ℤ)} {out : List (List ℕ)} {i : ℕ} {ns′ : List (List ℕ)} {qs′ : List (List Float)} {zs′ : List (List ℤ)} {r : Reply}
       → length handles ≡ length kinds → length positions ≡ length kinds → RunningMany ns qs zs out i → i < length kinds
       → outcome r (poolless ns′ qs′ zs′ (getD map 0 0 ∷ []) []) ≡ unmarkedOf (poolless ns qs zs (getD map 0 0 ∷ []) []) (callAt kinds handles positions i)
       → RunningMany ns′ qs′ zs′ (set out i (r .answer ∷ r .obj ∷ [])) (i + 1)
-  step-many ns qs zs out i ns′ qs′ zs′ r lh lp m l e =
+  step-many {ns} {qs} {zs} {out} {i} {ns′} {qs′} {zs′} {r} lh lp m l e =
       let t : Tables = poolless ns qs zs map (m .cells) in
       let c : Call = callAt kinds handles positions i in
       let cells′ : List (List ℕ) = heldOf t c .after .cells in
@@ -174,7 +173,7 @@ module _ (kinds : List ℕ) (handles : List (List ℕ)) (positions : List (List 
       ∙ sym (unmarked-held ns qs zs map (m .cells) c) in
       record {
         cells = cells′;
-        running = step kinds handles positions t₀ out₀ lh lp t (poolless ns′ qs′ zs′ map cells′) out r i (m .running) l f;
+        running = step kinds handles positions lh lp (m .running) l f;
         touching = subst (λ (o : Outcome Reply). Touching (t₀ .cells) (o .after)) (sym f) (held-touching (t₀ .cells) t c (m .running .ready) (m .touching));
       }
 
@@ -209,15 +208,15 @@ module _ (cells₀ after : List (List ℕ)) (u : Tables) (pool : List (List ℕ)
       ext-getD [] after (u .cells) (m .long ∙ sym e)
       (λ r l. ⊎-elim (λ q. ⊎-elim (λ f. f ∙ sym q) (λ s. was-marked r q s) (m .each r)) (λ o. is-marked r o) (a r))
 
-pub start-many : (kinds : List ℕ) (handles : List (List ℕ)) (positions : List (List Float)) (ns : List (List ℕ)) (qs : List (List Float)) (zs : List (List ℤ)) (map : List ℕ) (cells out : List (List ℕ)) (pool : List (List ℕ)) (spots : List (List Float))
+pub start-many : {kinds : List ℕ} {handles : List (List ℕ)} {positions : List (List Float)} {ns : List (List ℕ)} {qs : List (List Float)} {zs : List (List ℤ)} {map : List ℕ} {cells out pool : List (List ℕ)} {spots : List (List Float)}
     → Holds (withPool (poolless ns qs zs map cells) pool spots) → RunningMany kinds handles positions (poolless ns qs zs map cells) out map ns qs zs out 0
-start-many kinds handles positions ns qs zs map cells out pool spots h =
+start-many {kinds} {handles} {positions} {ns} {qs} {zs} {map} {cells} {out} {pool} {spots} h =
     let t : Tables = poolless ns qs zs map cells in
-    record { cells = cells; running = start kinds handles positions t out (ready-pool t pool spots (holds-ready (withPool t pool spots) h)); touching = λ r. inl refl }
+    record { cells = cells; running = start kinds handles positions (ready-pool t pool spots (holds-ready (withPool t pool spots) h)); touching = λ r. inl refl }
 
-module _ (kinds : List ℕ) (handles : List (List ℕ)) (positions : List (List Float)) (t₀ : Tables) (out₀ : List (List ℕ)) (pool : List (List ℕ)) (spots : List (List Float)) (h : Holds (withPool t₀ pool spots)) where
-  pub walkable : (ns : List (List ℕ)) → length ns ≡ length (t₀ .nums) → Walkable ns pool (usedOf t₀) (t₀ .cells) (rowsOf t₀)
-  walkable ns e =
+module _ (t₀ : Tables) {pool : List (List ℕ)} {spots : List (List Float)} (h : Holds (withPool t₀ pool spots)) where
+  pub walkable : {ns : List (List ℕ)} → length ns ≡ length (t₀ .nums) → Walkable ns pool (usedOf t₀) (t₀ .cells) (rowsOf t₀)
+  walkable e =
       record {
         packed = h .packed;
         of-pool = omega (arith, h .counted .used-most, h .sized .of-pool);
@@ -225,12 +224,12 @@ module _ (kinds : List ℕ) (handles : List (List ℕ)) (positions : List (List 
         inside = λ j l. rw e (h .lists .each j l .inside);
       }
 
-  pub finish-many : (ns : List (List ℕ)) (qs : List (List Float)) (zs : List (List ℤ)) (out : List (List ℕ)) (i : ℕ) (after : List (List ℕ))
+  pub finish-many : {kinds : List ℕ} {handles : List (List ℕ)} {positions : List (List Float)} {out₀ ns : List (List ℕ)} {qs : List (List Float)} {zs : List (List ℤ)} {out : List (List ℕ)} {i : ℕ} {after : List (List ℕ)}
       → RunningMany kinds handles positions t₀ out₀ (t₀ .map) ns qs zs out i → length kinds ≤ i → length kinds ≤ length out₀
       → MarkedTo ns pool (usedOf t₀) (t₀ .cells) (rowsOf t₀) after (usedOf t₀)
       → (poolless ns qs zs (t₀ .map) after ≡ heldAfter t₀ (calls kinds handles positions)) × (out ≡ written (replyRows (heldReplies t₀ (calls kinds handles positions))) out₀)
-  finish-many ns qs zs out i after m l n w =
-      let f = finish kinds handles positions t₀ out₀ (poolless ns qs zs (t₀ .map) (m .cells)) out i (m .running) l n in
+  finish-many {kinds} {handles} {positions} {ns = ns} {qs = qs} {zs = zs} {after = after} m l n w =
+      let f = finish kinds handles positions (m .running) l n in
       let cs = calls kinds handles positions in
       let g : Holds (withPool (heldAfter t₀ cs) pool spots) = subst (λ (t : Tables). Holds t) (after-worked pool spots t₀ h cs) (calls-keep (withPool t₀ pool spots) cs h) in
       let v : Holds (withPool (poolless ns qs zs (t₀ .map) (m .cells)) pool spots) = subst (λ (t : Tables). Holds (withPool t pool spots)) (sym (f .0)) g in

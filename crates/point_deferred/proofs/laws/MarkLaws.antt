@@ -1,21 +1,21 @@
 -- The turns of the walk that marks the cells of pending objects. Assumes nothing.
-use Prim.Native.Nat.{ℕ, suc, _+_, _<_, _≤_}
+use Prim.Native.Nat.{ℕ, suc, _<_, _≤_}
 use mathlib.Core.Path.{_≡_, refl, sym, ap, _∙_, subst}
 use mathlib.Core.List.{List, [], _∷_}
-use mathlib.Core.Logic.{_⊎_, inl, inr, ⊎-elim}
+use mathlib.Core.Logic.{inl, inr, ⊎-elim}
 use native.Mathlib.Omega.{arith}
 use native.Mathlib.Nat.{not-suc-le-zero}
 use lib.ListN.{length, getD, set, length-set}
 use lib.Seq.{getD-set-same, getD-set-other}
 use Rattle.basics.proofs.laws.Says.{d-eq, d-lt}
-use Rattle.storage.specs.Meaning.Packed.{first, second, Packed}
+use Rattle.storage.specs.Meaning.Packed.{first, second}
 use Rattle.point_deferred.specs.Inner.Marks.{tagAt, Walkable, SetRow, MarkedTo}
 
-module _ (nums pool : List (List ℕ)) (used : ℕ) (cells : List (List ℕ)) (rows : ℕ) (w : Walkable nums pool used cells rows) where
-  -- row c is not past the row of entry j
-  abbrev pub Ahead : ℕ → ℕ → Type 0
-  Ahead c j = (r : ℕ) → j < used → r < rows → first cells r ≡ first pool j → c ≤ r
+-- row c is not past the row of entry j
+abbrev pub Ahead : List (List ℕ) → ℕ → List (List ℕ) → ℕ → ℕ → ℕ → Type 0
+Ahead pool used cells rows c j = (r : ℕ) → j < used → r < rows → first cells r ≡ first pool j → c ≤ r
 
+module _ {nums pool : List (List ℕ)} {used : ℕ} {cells : List (List ℕ)} {rows : ℕ} (w : Walkable nums pool used cells rows) where
   -- two rows with one key are one, and a row of a key that is not less is not before
   pub one-row : (i j : ℕ) → i < rows → j < rows → first cells i ≡ first cells j → i ≡ j
   one-row i j x y e =
@@ -29,26 +29,23 @@ module _ (nums pool : List (List ℕ)) (used : ℕ) (cells : List (List ℕ)) (r
   pub start : MarkedTo nums pool used cells rows cells 0
   start = record { long = refl; each = λ r. inl refl; done = λ k l. absurd (not-suc-le-zero l) }
 
-  pub ahead-start : Ahead 0 0
+  pub ahead-start : Ahead pool used cells rows 0 0
   ahead-start r l x e = omega arith
 
-  pub in-rows : (c j : ℕ) → j < used → Ahead c j → c < rows
+  pub in-rows : (c j : ℕ) → j < used → Ahead pool used cells rows c j → c < rows
   in-rows c j l a = let o = w .packed .has-row j l in omega (arith, a (o .0) l (o .1) (o .2), o .1)
 
-  pub ahead-entry : (c j k : ℕ) → k ≡ suc j → j < used → Ahead c j → Ahead c k
+  pub ahead-entry : (c j k : ℕ) → k ≡ suc j → j < used → Ahead pool used cells rows c j → Ahead pool used cells rows c k
   ahead-entry c j k ek l a r m x e =
       let o = w .packed .has-row j l in
       let p : first cells (o .0) ≤ first cells r = omega (arith, o .2, e, w .packed .ordered j k m (omega arith)) in
       omega (arith, a (o .0) l (o .1) (o .2), not-before (o .0) r (o .1) x p)
 
-  pub ahead-row : (c j k : ℕ) → k ≡ suc c → (first cells c ≡ first pool j → ⊥) → Ahead c j → Ahead k j
+  pub ahead-row : (c j k : ℕ) → k ≡ suc c → (first cells c ≡ first pool j → ⊥) → Ahead pool used cells rows c j → Ahead pool used cells rows k j
   ahead-row c j k ek n a r l x e =
-      ⊎-elim (λ q. absurd (n (ap (first cells) q ∙ e))) (λ q. omega (arith, a r l x e, q)) (apart-or (d-eq c r))
-    where
-      apart-or : {P : Type 0} → P ⊎ (P → ⊥) → P ⊎ (P → ⊥)
-      apart-or o = o
+      ⊎-elim (λ q. absurd (n (ap (first cells) q ∙ e))) (λ q. omega (arith, a r l x e, q)) (d-eq c r)
 
-  module _ (after : List (List ℕ)) (j : ℕ) (m : MarkedTo nums pool used cells rows after j) where
+  module _ {after : List (List ℕ)} {j : ℕ} (m : MarkedTo nums pool used cells rows after j) where
     pub key-kept : (r : ℕ) → first after r ≡ first cells r
     key-kept r = ⊎-elim (λ e. ap (λ (x : List ℕ). getD x 0 0) e) (λ s. ap (λ (x : List ℕ). getD x 0 0) (s .now)) (m .each r)
 

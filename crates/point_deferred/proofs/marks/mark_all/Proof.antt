@@ -1,10 +1,10 @@
 -- `point_deferred::marks::mark_all` meets its contract, by the laws of `MarkLaws`. A turn goes to the next row or to the next entry, and the measure is how many of both are left. Assumes nothing.
 use Prim.Native.Nat.{ℕ, _+_, _-_, _<_, _≤_}
 use mathlib.Core.Path.{_≡_, refl, sym, ap, _∙_, subst}
-use mathlib.Core.List.{List, [], _∷_}
+use mathlib.Core.List.{List}
 use mathlib.Core.Logic.{⊎-elim}
 use native.Mathlib.Omega.{arith}
-use lib.ListN.{length, getD, set}
+use lib.ListN.{length}
 use Rattle.storage.specs.Meaning.Packed.{first, second}
 use Rattle.point_deferred.specs.Inner.Marks.{tagAt, Walkable, MarkedTo}
 use Rattle.point_deferred.proofs.laws.MarkLaws.{Ahead, start, ahead-start, in-rows, ahead-entry, ahead-row, key-kept, passed-by, set-row}
@@ -14,23 +14,16 @@ use Rattle.point_deferred.proofs.marks.mark_all.Tie as tie
 
 abbrev Inv-loop : tie.InvT-loop
 Inv-loop nums pool used cells₀ rows c₀ j₀ cells c j =
-    (w : Walkable nums pool used cells₀ rows) × MarkedTo nums pool used cells₀ rows cells j × Ahead nums pool used cells₀ rows w c j × (j ≤ used)
+    (w : Walkable nums pool used cells₀ rows) × MarkedTo nums pool used cells₀ rows cells j × Ahead pool used cells₀ rows c j × (j ≤ used)
 
 abbrev μ-loop : tie.MeasureT-loop
 μ-loop nums pool used cells₀ rows c₀ j₀ cells c j = (used - j) + (length cells₀ - c)
 
-loop-holds : tie.Need-loop-holds Inv-loop μ-loop
-loop-holds c =
-    let a = c .args in
-    let n : List (List ℕ) = a .nums .now in
-    (c .pre, start n (a .pool .now) (a .used) (a .cells .now) (a .rows) (c .pre), ahead-start n (a .pool .now) (a .used) (a .cells .now) (a .rows) (c .pre), omega arith)
-
 -- the row looked at is one of those in use
 row-in : (c : tie.In-loop Inv-loop μ-loop) → (c .before .loop .c < c .before .before .args .rows) × (c .before .before .args .rows ≤ length (c .before .before .args .cells .now)) × (length (c .before .loop .cells) ≡ length (c .before .before .args .cells .now))
 row-in c =
-    let a = c .before .before .args in
     let l = c .before .loop in
-    (in-rows (a .nums .now) (a .pool .now) (a .used) (a .cells .now) (a .rows) (l .inv .0) (l .c) (l .j) (c .loop-test .taken) (l .inv .2), l .inv .0 .of-cells, l .inv .1 .long)
+    (in-rows (l .inv .0) (l .c) (l .j) (c .loop-test .taken) (l .inv .2), l .inv .0 .of-cells, l .inv .1 .long)
 
 entry-in : (c : tie.In-loop Inv-loop μ-loop) → (c .before .loop .j < length (c .before .before .args .pool .now)) × (second (c .before .before .args .pool .now) (c .before .loop .j) < length (c .before .before .args .nums .now))
 entry-in c =
@@ -45,39 +38,27 @@ loop-again c =
     let k = c .before in
     let i = k .before .before in
     let g = i .before .before .before .before in
-    let a = g .before .before .args in
+    let n : List (List ℕ) = g .before .before .args .nums .now in
     let l = g .before .loop in
     let t = g .loop-test .taken in
-    let n : List (List ℕ) = a .nums .now in
-    let p : List (List ℕ) = a .pool .now in
-    let o : List (List ℕ) = a .cells .now in
     let w = l .inv .0 in
-    let q : first (l .cells) (l .c) ≡ first p (l .j) = i .before .if1 .taken in
-    let tag : k .tag-in .result ≡ tagAt n (second p (l .j)) = k .tag-in .ensures ∙ ap (tagAt n) (i .index-of .ensures) in (
+    let tag : k .tag-in .result ≡ tagAt n (second (g .before .before .args .pool .now) (l .j)) = k .tag-in .ensures ∙ ap (tagAt n) (i .index-of .ensures) in (
       w,
       ⊎-elim
           (λ v.
-          let x : c .if2 .cells ≡ set (l .cells) (l .c) (first (l .cells) (l .c) ∷ 1 ∷ []) = v .2 ∙ ap (λ (y : List ℕ). set (l .cells) (l .c) y) (v .1 .ensures .0) in
-          subst (λ (y : List (List ℕ)). MarkedTo n p (a .used) o (a .rows) y (l .j + 1)) (sym x)
-          (set-row n p (a .used) o (a .rows) w (l .cells) (l .j) (l .inv .1) (l .j + 1) (l .c) (first (l .cells) (l .c)) (omega arith) t (row-in g .0) refl q (λ z. v .0 .taken (tag ∙ z)) (v .1 .ensures .1)))
-          (λ v.
-          subst (λ (y : List (List ℕ)). MarkedTo n p (a .used) o (a .rows) y (l .j + 1)) (sym (v .1))
-          (passed-by n p (a .used) o (a .rows) w (l .cells) (l .j) (l .inv .1) (l .j + 1) (omega arith) (sym tag ∙ v .0 .left)))
+          rw (v .2, v .1 .ensures .0)
+          (set-row w (l .inv .1) (l .j + 1) (l .c) (first (l .cells) (l .c)) (omega arith) t (row-in g .0) refl (i .before .if1 .taken) (λ z. v .0 .taken (tag ∙ z)) (v .1 .ensures .1)))
+          (λ v. rw (v .1) (passed-by w (l .inv .1) (l .j + 1) (omega arith) (sym tag ∙ v .0 .left)))
           (c .if2 .came),
-      ahead-entry n p (a .used) o (a .rows) w (l .c) (l .j) (l .j + 1) (omega arith) t (l .inv .2),
+      ahead-entry w (l .c) (l .j) (l .j + 1) (omega arith) t (l .inv .2),
       omega (arith, t),
     )
 
 loop-again-2 : tie.Need-loop-again-2 Inv-loop μ-loop
 loop-again-2 c =
-    let a = c .before .before .before .before .before .args in
     let l = c .before .before .before .before .loop in
-    let n : List (List ℕ) = a .nums .now in
-    let p : List (List ℕ) = a .pool .now in
-    let o : List (List ℕ) = a .cells .now in
     let w = l .inv .0 in
-    let k : first (l .cells) (l .c) ≡ first o (l .c) = key-kept n p (a .used) o (a .rows) w (l .cells) (l .j) (l .inv .1) (l .c) in
-    (w, l .inv .1, ahead-row n p (a .used) o (a .rows) w (l .c) (l .j) (l .c + 1) (omega arith) (λ q. c .if1 .left (k ∙ q)) (l .inv .2), l .inv .3)
+    (w, l .inv .1, ahead-row w (l .c) (l .j) (l .c + 1) (omega arith) (λ q. c .if1 .left (key-kept w (l .inv .1) (l .c) ∙ q)) (l .inv .2), l .inv .3)
 
 returns : tie.Need-returns Inv-loop μ-loop
 returns c =
@@ -92,7 +73,7 @@ mark-all-spec =
     (tie.spec
     Inv-loop
     μ-loop
-    loop-holds
+    (λ c. (c .pre, start (c .pre), ahead-start (c .pre), omega arith))
     (λ c. omega (arith, entry-in c .0))
     (λ c. entry-in c .0)
     (λ c. omega (arith, row-in (c .before) .0, row-in (c .before) .1, row-in (c .before) .2))
