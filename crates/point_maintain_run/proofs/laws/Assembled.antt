@@ -2,13 +2,11 @@
 -- Assumes nothing.
 use Prim.Native.Nat.{ℕ, zero, suc, _+_, _≤_, _<_}
 use mathlib.Core.Path.{_≡_, refl, sym, ap, _∙_, subst}
-use mathlib.Core.Bool.{Bool, true, false}
-use mathlib.Core.List.{List, [], _∷_, _++_, map, map-append}
+use mathlib.Core.List.{List, _++_, map, map-append}
 use native.Mathlib.Omega.{arith}
 use lib.Ieee.{Float}
 use lib.ListN.{length, take, drop, length-append, length-map}
 use lib.Seq.{slice, take-at}
-use Rattle.basics.specs.Meaning.Refusals.{pick}
 use Rattle.storage.specs.Meaning.Keyed.{All, written, appendAll}
 use Rattle.storage.specs.Inner.Keyed.{Sorted}
 use Rattle.storage.specs.Meaning.Entries.{Entry, rowKey, rowItem, rowOf, spotOf, entryKey, zipped, entriesOf}
@@ -16,7 +14,7 @@ use Rattle.storage.specs.Meaning.CellTable.{fresh}
 use Rattle.storage.specs.Inner.Pooled.{Columns}
 use Rattle.storage.proofs.laws.ColumnLaws.{zipped-whole}
 use Rattle.storage.proofs.laws.AppendLaws.{length-appendAll}
-use Rattle.storage.proofs.laws.FilterLaws.{all-map, all-append}
+use Rattle.storage.proofs.laws.FilterLaws.{by-test, all-append}
 use Rattle.storage.proofs.laws.KeepsLaws.{sorted-map}
 use Rattle.storage_merge.specs.Inner.Grown.{recordedEntry, grown}
 use Rattle.point_records.specs.declared.State.{State}
@@ -25,15 +23,15 @@ use Rattle.point_tables.specs.Meaning.Tables.{Tables, tables, counting, sizeOf,
 use Rattle.point_tables.specs.Meaning.Holds.{Holds}
 use Rattle.point_tables.specs.Inner.Count.{isLive}
 use Rattle.point_maintain.specs.Inner.Settle.{settledAll}
-use Rattle.point_maintain.specs.Inner.SettleLaws.{Shaped}
-use Rattle.point_maintain.proofs.laws.SettleAllLaws.{in-slots, in-shaped}
-use Rattle.point_maintain.specs.Inner.Closed.{keptEntries, relocatedBy, relocatedAt, relocatedBelow, relisted, settledEntries, settledTables}
+use Rattle.point_maintain.proofs.laws.SettleLaws.{sized-shaped}
+use Rattle.point_maintain.proofs.laws.RecordsAfterLaws.{all-slots, all-shaped}
+use Rattle.point_maintain.specs.Inner.Closed.{keptEntries, relocatedBy, relocatedAt, relocatedBelow, settledEntries, settledTables}
 use Rattle.point_maintain.proofs.laws.SettledForm.{kept-sorted}
 use Rattle.point_maintain.proofs.laws.SpaceLaws.{after-most, after-rows-most}
 use Rattle.storage.proofs.laws.WrittenLaws.{length-written}
 use Rattle.point_maintain_slots.proofs.laws.Pass.{bare}
 use Rattle.point_maintain_slots.specs.Inner.Pass.{putAt, Passed}
-use Rattle.point_maintain_slots.proofs.laws.BareLaws.{all-bare, below-bare, holds-ready}
+use Rattle.point_maintain_slots.proofs.laws.BareLaws.{all-bare, below-bare}
 use Rattle.point_maintain_slots.proofs.laws.SpotLaws.{spotted-below}
 use Rattle.point_maintain_run.proofs.laws.OverLaws.{written-over, put-behind, both-first, both-second}
 
@@ -45,16 +43,9 @@ item-by size i n h (Relocate p c) = (h, tt)
 item-by size i n h Removed = tt
 
 item-at : (t : Tables) (i n : ℕ) → i < n → All (λ r. rowItem r < n) (map rowOf (relocatedAt t i))
-item-at t i n h = go (isLive t i)
-  where
-    go : (b : Bool) → All (λ r. rowItem r < n) (map rowOf (pick b (relocatedBy (sizeOf t) i (recordOn t i .state)) []))
-    go true = item-by (sizeOf t) i n h (recordOn t i .state)
-    go false = tt
+item-at t i n h = by-test (isLive t i) (λ e. rw e (item-by (sizeOf t) i n h (recordOn t i .state))) (λ e. rw e tt)
 
-shaped : (t : Tables) → Holds t → Shaped t
-shaped t h = record { of-reals = h .sized .of-reals; of-ints = h .sized .of-ints; of-map = h .sized .of-map }
-
-module _ (t : Tables) (h : Holds t) where
+module _ {t : Tables} (h : Holds t) where
   abbrev kept-ones : List Entry
   kept-ones = keptEntries t
 
@@ -80,14 +71,14 @@ module _ (t : Tables) (h : Holds t) where
       (all-append (λ r. rowItem r < slotsOf t) (map rowOf (relocatedBelow n t)) (map rowOf (relocatedAt t n)) (items-below n (omega arith)) (item-at t n (slotsOf t) (omega arith)))
 
   -- ---- after the sweep
-  module _ (pool₁ : List (List ℕ)) (spots₁ : List (List Float)) (w : ℕ) (w-is : w ≡ length kept-ones) (swept : Columns kept-ones (t .pool) (t .spots) pool₁ spots₁) where
+  module _ {pool₁ : List (List ℕ)} {spots₁ : List (List Float)} {w : ℕ} (w-is : w ≡ length kept-ones) (swept : Columns kept-ones (t .pool) (t .spots) pool₁ spots₁) where
     pub put-room : w + length (relocatedBelow (slotsOf t) (bare t)) ≤ length pool₁
     put-room =
         let e : length pool₁ ≡ slotsOf t = ap length (swept .in-rows) ∙ length-written (map rowOf kept-ones) (t .pool) (omega (arith, length-map kept-ones rowOf, room, h .sized .of-pool)) ∙ h .sized .of-pool in
         omega (arith, e, room, w-is, ap length (below-bare t (slotsOf t)))
 
     -- ---- after the pass over the slots
-    module _ (after : Tables) (pool₂ : List (List ℕ)) (k : ℕ) (passed : Passed (bare t) after w pool₁ pool₂ k) where
+    module _ {after : Tables} {pool₂ : List (List ℕ)} {k : ℕ} (passed : Passed (bare t) after w pool₁ pool₂ k) where
       pub k-is : k ≡ length moved-ones
       k-is = passed .counts ∙ ap length (below-bare t (slotsOf t))
 
@@ -150,12 +141,10 @@ module _ (t : Tables) (h : Holds t) where
       reals-are = ap (λ (u : Tables). u .reals) records
 
       long-reals : length (after .reals) ≡ slotsOf t
-      unfolding settledAll
-      long-reals = ap length reals-are ∙ in-shaped (isLive t) t (slotsOf t) (shaped t h) .of-reals ∙ in-slots (isLive t) t (slotsOf t)
+      long-reals = ap length reals-are ∙ all-shaped t h .of-reals ∙ all-slots t h
 
       pub map-room : 2 < length (after .map)
-      unfolding settledAll
-      map-room = omega (arith, ap (λ (u : Tables). length (u .map)) records ∙ in-shaped (isLive t) t (slotsOf t) (shaped t h) .of-map)
+      map-room = omega (arith, ap (λ (u : Tables). length (u .map)) records ∙ all-shaped t h .of-map)
 
       pub named-back : All (λ x. rowItem x < length (after .reals)) (slice w (w + k) pool₂)
       named-back =
@@ -169,14 +158,14 @@ module _ (t : Tables) (h : Holds t) where
           ∙ zipped-whole kept-ones
 
       tail-entries : map (recordedEntry (after .reals)) (slice w (w + k) pool₂) ≡ moved-ones
-      tail-entries = (λ z. map (recordedEntry (reals-are z)) (back z)) ∙ spotted-below t (shaped t h) (slotsOf t) (omega arith)
+      tail-entries = (λ z. map (recordedEntry (reals-are z)) (back z)) ∙ spotted-below t (sized-shaped t (h .sized)) (slotsOf t) (omega arith)
 
       grown-is : grown pool₂ spots₁ (after .reals) w k ≡ settledEntries t
       unfolding settledEntries
       grown-is = λ z. appendAll entryKey (first-entries z) (tail-entries z)
 
       -- ---- after the merge
-      module _ (pool₃ : List (List ℕ)) (spots₃ : List (List Float)) (merged : Columns (grown pool₂ spots₁ (after .reals) w k) pool₂ spots₁ pool₃ spots₃) where
+      module _ {pool₃ : List (List ℕ)} {spots₃ : List (List Float)} (merged : Columns (grown pool₂ spots₁ (after .reals) w k) pool₂ spots₁ pool₃ spots₃) where
         used-rows : w + k ≡ length rows
         used-rows = omega (arith, lengths, w-is, k-is, length-map (settledEntries t) rowOf)
 
@@ -209,9 +198,9 @@ module _ (t : Tables) (h : Holds t) where
             omega (arith, e, after-rows-most t h, h .sized .of-cells)
 
         -- ---- and after the table anew
-        pub assembled : (cells₄ : List (List ℕ)) (n : ℕ) → (n ≡ length (fresh (take (w + k) pool₃))) × (cells₄ ≡ written (fresh (take (w + k) pool₃)) (t .cells)) → tables (after .nums) (after .reals) (after .ints) (counting (after .map) (w + k) n) pool₃ spots₃ cells₄ ≡ settledTables t
+        pub assembled : {cells₄ : List (List ℕ)} {n : ℕ} → (n ≡ length (fresh (take (w + k) pool₃))) × (cells₄ ≡ written (fresh (take (w + k) pool₃)) (t .cells)) → tables (after .nums) (after .reals) (after .ints) (counting (after .map) (w + k) n) pool₃ spots₃ cells₄ ≡ settledTables t
         unfolding settledTables
-        assembled cells₄ n e =
+        assembled e =
             λ z.
             tables (records z .nums) (records z .reals) (records z .ints)
             (counting (records z .map) (used-is z) ((e .0 ∙ ap (λ (l : List (List ℕ)). length (fresh l)) first-rows) z))

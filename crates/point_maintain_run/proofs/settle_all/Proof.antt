@@ -1,12 +1,7 @@
 -- `point_maintain_run::settle_all` meets its contract: each pass is asked for what the one before it left. Assumes nothing.
-use Prim.Native.Nat.{ℕ, _+_}
-use mathlib.Core.Path.{_≡_, ap, _∙_}
-use mathlib.Core.List.{List}
 use native.Mathlib.Omega.{arith}
-use lib.Ieee.{Float}
 use borrow.Author.Needs.{needs}
 use Rattle.point_tables.specs.Meaning.Tables.{Tables, tables}
-use Rattle.point_maintain_slots.specs.Inner.Pass.{recordsIn}
 use Rattle.point_maintain_slots.proofs.laws.BareLaws.{holds-ready}
 use Rattle.point_maintain_run.proofs.laws.Assembled.{room, put-room, k-is, in-pool, in-spots, few, sorted-front, named-back, map-room, used-inside, cells-room, assembled}
 use Rattle.point_maintain_run.proofs.settle_all.Statement.{statement}
@@ -19,21 +14,9 @@ entry c = tables (c .args .nums .now) (c .args .reals .now) (c .args .ints .now)
 abbrev from-sweep : tie.After-sweep-lists → tie.Start
 from-sweep c = c .before .before .before .before .before .before .before .before .before
 
-abbrev pool₁ : tie.After-sweep-lists → List (List ℕ)
-pool₁ c = c .sweep-lists .last .1 .1 .1 .1 .0
-
-abbrev spots₁ : tie.After-sweep-lists → List (List Float)
-spots₁ c = c .sweep-lists .last .1 .1 .1 .1 .1 .0
-
 -- ---- after the pass over the slots
 abbrev from-settle : tie.After-settle-slots → tie.After-sweep-lists
 from-settle c = c .before .before .before .before .before .before .before .before
-
-abbrev after : tie.After-settle-slots → Tables
-after c = recordsIn (c .settle-slots .last .0) (c .settle-slots .last .1 .0) (c .settle-slots .last .1 .1 .0) (c .settle-slots .last .1 .1 .1 .0)
-
-abbrev pool₂ : tie.After-settle-slots → List (List ℕ)
-pool₂ c = c .settle-slots .last .1 .1 .1 .1 .0
 
 -- ---- after the merge
 abbrev from-merge : tie.After-append-tail → tie.After-settle-slots
@@ -43,18 +26,18 @@ settle-slots-requires : tie.Need-settle-slots-requires
 settle-slots-requires c κs =
     let a = c .before .before .before .before .before .before .before in
     let s = from-sweep a in
-    (holds-ready (entry s) (s .pre), put-room (entry s) (s .pre) (pool₁ a) (spots₁ a) (a .sweep-lists .result) (a .sweep-lists .ensures .0) (a .sweep-lists .ensures .1))
+    (holds-ready (entry s) (s .pre), put-room (s .pre) (a .sweep-lists .ensures .0) (a .sweep-lists .ensures .1))
 
 append-tail-requires : tie.Need-append-tail-requires
 append-tail-requires c κs =
     let e = c .before .before .before .before .before .before .before .before .before in
     let a = from-settle e in
     let s = from-sweep a in (
-      in-pool (entry s) (s .pre) (pool₁ a) (spots₁ a) (a .sweep-lists .result) (a .sweep-lists .ensures .0) (a .sweep-lists .ensures .1) (after e) (pool₂ e) (e .settle-slots .result) (e .settle-slots .ensures),
-      in-spots (entry s) (s .pre) (pool₁ a) (spots₁ a) (a .sweep-lists .result) (a .sweep-lists .ensures .0) (a .sweep-lists .ensures .1) (after e) (pool₂ e) (e .settle-slots .result) (e .settle-slots .ensures),
-      few (entry s) (s .pre) (pool₁ a) (spots₁ a) (a .sweep-lists .result) (a .sweep-lists .ensures .0) (a .sweep-lists .ensures .1) (after e) (pool₂ e) (e .settle-slots .result) (e .settle-slots .ensures),
-      sorted-front (entry s) (s .pre) (pool₁ a) (spots₁ a) (a .sweep-lists .result) (a .sweep-lists .ensures .0) (a .sweep-lists .ensures .1) (after e) (pool₂ e) (e .settle-slots .result) (e .settle-slots .ensures),
-      named-back (entry s) (s .pre) (pool₁ a) (spots₁ a) (a .sweep-lists .result) (a .sweep-lists .ensures .0) (a .sweep-lists .ensures .1) (after e) (pool₂ e) (e .settle-slots .result) (e .settle-slots .ensures),
+      in-pool (s .pre) (a .sweep-lists .ensures .0) (a .sweep-lists .ensures .1) (e .settle-slots .ensures),
+      in-spots (s .pre) (a .sweep-lists .ensures .0) (a .sweep-lists .ensures .1) (e .settle-slots .ensures),
+      few (s .pre) (a .sweep-lists .ensures .0) (a .sweep-lists .ensures .1) (e .settle-slots .ensures),
+      sorted-front (s .pre) (a .sweep-lists .ensures .0) (a .sweep-lists .ensures .1) (e .settle-slots .ensures),
+      named-back (s .pre) (a .sweep-lists .ensures .0) (a .sweep-lists .ensures .1) (e .settle-slots .ensures),
     )
 
 add-used : tie.Need-add-used
@@ -62,8 +45,8 @@ add-used c =
     let e = c .before .before .before .before .before .before .before .before .before .before .before .before in
     let a = from-settle e in
     let s = from-sweep a in
-    let k = k-is (entry s) (s .pre) (pool₁ a) (spots₁ a) (a .sweep-lists .result) (a .sweep-lists .ensures .0) (a .sweep-lists .ensures .1) (after e) (pool₂ e) (e .settle-slots .result) (e .settle-slots .ensures) in
-    record { fits = omega (arith, k, a .sweep-lists .ensures .0, room (entry s) (s .pre), s .pre .sized .most) }
+    let k = k-is (s .pre) (a .sweep-lists .ensures .0) (a .sweep-lists .ensures .1) (e .settle-slots .ensures) in
+    record { fits = omega (arith, k, a .sweep-lists .ensures .0, room (s .pre), s .pre .sized .most) }
 
 rebuild-requires : tie.Need-rebuild-requires
 rebuild-requires c κs =
@@ -71,8 +54,8 @@ rebuild-requires c κs =
     let e = from-merge m in
     let a = from-settle e in
     let s = from-sweep a in (
-      used-inside (entry s) (s .pre) (pool₁ a) (spots₁ a) (a .sweep-lists .result) (a .sweep-lists .ensures .0) (a .sweep-lists .ensures .1) (after e) (pool₂ e) (e .settle-slots .result) (e .settle-slots .ensures) (m .append-tail .last .0) (m .append-tail .last .1 .0) (m .append-tail .ensures),
-      cells-room (entry s) (s .pre) (pool₁ a) (spots₁ a) (a .sweep-lists .result) (a .sweep-lists .ensures .0) (a .sweep-lists .ensures .1) (after e) (pool₂ e) (e .settle-slots .result) (e .settle-slots .ensures) (m .append-tail .last .0) (m .append-tail .last .1 .0) (m .append-tail .ensures),
+      used-inside (s .pre) (a .sweep-lists .ensures .0) (a .sweep-lists .ensures .1) (e .settle-slots .ensures) (m .append-tail .ensures),
+      cells-room (s .pre) (a .sweep-lists .ensures .0) (a .sweep-lists .ensures .1) (e .settle-slots .ensures) (m .append-tail .ensures),
     )
 
 count-requires : tie.Need-count-requires
@@ -80,7 +63,7 @@ count-requires c κs =
     let e = c .before .before .before .before .before .before .before .before .before .before .before .before .before .before .before .before .before in
     let a = from-settle e in
     let s = from-sweep a in
-    map-room (entry s) (s .pre) (pool₁ a) (spots₁ a) (a .sweep-lists .result) (a .sweep-lists .ensures .0) (a .sweep-lists .ensures .1) (after e) (pool₂ e) (e .settle-slots .result) (e .settle-slots .ensures)
+    map-room (s .pre) (a .sweep-lists .ensures .0) (a .sweep-lists .ensures .1) (e .settle-slots .ensures)
 
 returns : tie.Need-returns
 returns c =
@@ -90,8 +73,8 @@ returns c =
     let e = from-merge m in
     let a = from-settle e in
     let s = from-sweep a in
-    ap (λ (l : List ℕ). tables (after e .nums) (after e .reals) (after e .ints) l (m .append-tail .last .0) (m .append-tail .last .1 .0) (r .rebuild .last .0)) (d .count .ensures)
-    ∙ assembled (entry s) (s .pre) (pool₁ a) (spots₁ a) (a .sweep-lists .result) (a .sweep-lists .ensures .0) (a .sweep-lists .ensures .1) (after e) (pool₂ e) (e .settle-slots .result) (e .settle-slots .ensures) (m .append-tail .last .0) (m .append-tail .last .1 .0) (m .append-tail .ensures) (r .rebuild .last .0) (r .rebuild .result) (r .rebuild .ensures)
+    rw (d .count .ensures)
+    (assembled (s .pre) (a .sweep-lists .ensures .0) (a .sweep-lists .ensures .1) (e .settle-slots .ensures) (m .append-tail .ensures) (r .rebuild .ensures))
 
 pub settle-all-spec : {M : Type 1} → statement M
 settle-all-spec =
