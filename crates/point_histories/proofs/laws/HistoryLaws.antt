@@ -6,9 +6,7 @@ use mathlib.Core.List.{List, [], _∷_}
 use native.Mathlib.Omega.{arith}
 use lib.Dec.{eqb}
 use lib.Ieee.{Float}
-use lib.ListN.{length}
 use borrow.Author.Tests.{eqb-true, eqb-false}
-use Rattle.basics.specs.Meaning.Refusals.{pick}
 use Rattle.basics.proofs.laws.Says.{apart, says-t}
 use Rattle.geometry.specs.declared.Position.{Position}
 use Rattle.geometry.specs.Meaning.Domain.{positionInDomain}
@@ -16,20 +14,17 @@ use Rattle.slots.specs.declared.Handle.{Handle}
 use Rattle.slots.specs.declared.Usable.{Usable}
 use Rattle.slots.specs.declared.Usable.the-variants.{At, Nothing}
 use Rattle.slots.proofs.laws.SlotLaws.{lowest-free}
-use Rattle.storage.specs.Meaning.Keyed.{written}
-use Rattle.point_records.specs.declared.State.the-variants.{Removed}
-use Rattle.point_records.specs.Meaning.States.{aimed}
-use Rattle.point_tables.specs.Meaning.Tables.{Tables, sizeOf, usedOf, recordOn}
+use Rattle.storage.proofs.laws.FilterLaws.{by-test}
+use Rattle.point_tables.specs.Meaning.Tables.{Tables, usedOf}
 use Rattle.point_tables.specs.Meaning.Holds.{Holds}
-use Rattle.point_tables.specs.Meaning.Decide.{holds, holds-says}
-use Rattle.point_tables.specs.Meaning.Outcome.{Outcome, outcome}
+use Rattle.point_tables.specs.Meaning.Decide.{holds-says}
 use Rattle.point_insert.specs.Meaning.New.{built, newAnswer, newOf}
 use Rattle.point_insert.proofs.laws.NewLaws.{new-holds}
 use Rattle.point_insert.specs.Meaning.Insert.{usableSlot, insertOf}
 use Rattle.point_insert.proofs.laws.InsertLaws.{insert-done, insert-outside, insert-full, insert-holds}
 use Rattle.point_insert.proofs.laws.PutLaws.{more, put-used}
 use Rattle.point_deferred.specs.Meaning.Moves.{pended, setPositionAnswer, setPositionOf, removeAnswer, removeOf}
-use Rattle.point_deferred.specs.Meaning.Batch.{Call, callOf, callsOf, tablesAfter, replies, replyRows, batched, batchAnswer, batchOf}
+use Rattle.point_deferred.specs.Meaning.Batch.{Call, callOf, callsOf, tablesAfter, batchAnswer, batchOf}
 use Rattle.point_deferred.proofs.laws.MovesKeeps.{set-position-keeps, remove-keeps}
 use Rattle.point_deferred.proofs.laws.BatchAnswerLaws.{batch-keeps}
 use Rattle.point_remove.specs.Meaning.RemoveMaintain.{removeMaintainOf}
@@ -40,9 +35,7 @@ use Rattle.point_maintain.proofs.laws.MaintainLaws.{maintain-keeps, maintain-le
 use Rattle.point_get.specs.Meaning.{lenOf}
 use Rattle.point_get.proofs.laws.ReadsLaws.{len-0}
 use Rattle.point_get.proofs.laws.LenLaws.{len-used}
-use Rattle.point_histories.specs.Inner.History.{Op, insert, setPosition, remove, batch, maintain, removeMaintain, clear, after, afterAll, accepted}
-use Rattle.point_histories.specs.Inner.History.{putIn, objectsTakenOut, allIn, allOut}
-use Rattle.replies.specs.Meaning.Replies.{reply}
+use Rattle.point_histories.specs.Inner.History.{Op, insert, setPosition, remove, batch, maintain, removeMaintain, clear, after, afterAll, accepted, putIn, objectsTakenOut, allIn, allOut}
 
 -- ---- every call keeps the tables holding a grid
 pub after-holds : (t : Tables) (o : Op) → Holds t → Holds (after t o)
@@ -61,29 +54,17 @@ all-hold t [] h = h
 all-hold t (o ∷ os) h = all-hold (after t o) os (after-holds t o h)
 
 -- ---- the deferred calls change no count
-one-of : {R : Type 0} (b : Bool) (x y : Outcome R) (n : ℕ) → usedOf (x .after) ≡ n → usedOf (y .after) ≡ n → usedOf (pick b x y .after) ≡ n
-one-of true x y n e f = e
-one-of false x y n e f = f
-
 set-used : (t : Tables) (g : Handle) (p : Position) → usedOf (setPositionOf t g p .after) ≡ usedOf t
 unfolding setPositionOf pended
-set-used t g p =
-    one-of (eqb (setPositionAnswer t g p) 0)
-    (outcome (reply 0 0) (pended t (g .slot) (aimed (sizeOf t) (recordOn t (g .slot) .cell) p)))
-    (outcome (reply (setPositionAnswer t g p) 0) t)
-    (usedOf t) refl refl
+set-used t g p = by-test (eqb (setPositionAnswer t g p) 0) (λ e. rw e) (λ e. rw e)
 
 remove-used : (t : Tables) (g : Handle) → usedOf (removeOf t g .after) ≡ usedOf t
 unfolding removeOf pended
-remove-used t g =
-    one-of (eqb (removeAnswer t g) 0)
-    (outcome (reply 0 (recordOn t (g .slot) .obj)) (pended t (g .slot) Removed))
-    (outcome (reply (removeAnswer t g) 0) t)
-    (usedOf t) refl refl
+remove-used t g = by-test (eqb (removeAnswer t g) 0) (λ e. rw e) (λ e. rw e)
 
 call-used : (t : Tables) (c : Call) → usedOf (callOf t c .after) ≡ usedOf t
 unfolding callOf
-call-used t c = one-of (eqb (c .kind) 0) (setPositionOf t (c .handle) (c .at)) (removeOf t (c .handle)) (usedOf t) (set-used t (c .handle) (c .at)) (remove-used t (c .handle))
+call-used t c = by-test (eqb (c .kind) 0) (λ e. rw e (set-used t (c .handle) (c .at))) (λ e. rw e (remove-used t (c .handle)))
 
 calls-used : (t : Tables) (cs : List Call) → usedOf (tablesAfter t cs) ≡ usedOf t
 unfolding tablesAfter
@@ -92,12 +73,7 @@ calls-used t (c ∷ cs) = calls-used (callOf t c .after) cs ∙ call-used t c
 
 batch-used : (t : Tables) (ks : List ℕ) (hs : List (List ℕ)) (ps : List (List Float)) (out : List (List ℕ)) → usedOf (batchOf t ks hs ps out .after) ≡ usedOf t
 unfolding batchOf
-batch-used t ks hs ps out =
-    let a = batchAnswer t ks hs ps out in
-    one-of (eqb a 0)
-    (outcome (batched 0 (length ks) (written (replyRows (replies t (callsOf ks hs ps))) out)) (tablesAfter t (callsOf ks hs ps)))
-    (outcome (batched a (pick (eqb a 9) (length ks) 0) out) t)
-    (usedOf t) (calls-used t (callsOf ks hs ps)) refl
+batch-used t ks hs ps out = by-test (eqb (batchAnswer t ks hs ps out) 0) (λ e. rw e (calls-used t (callsOf ks hs ps))) (λ e. rw e)
 
 -- ---- the others say what they do
 module _ (t : Tables) (h : Holds t) where
@@ -112,21 +88,16 @@ module _ (t : Tables) (h : Holds t) where
       go false e u f = rw (insert-outside t p d h (λ i. apart (sym e ∙ says-t (positionInDomain p) .no i))) (omega arith)
 
   taken-used : (g : Handle) → usedOf (removeMaintainOf t g .after) + accepted (removeMaintainOf t g .result .answer) 1 ≡ usedOf t
-  taken-used g = go (isGood t g) refl
-    where
-      held : holds t ≡ true
-      held = holds-says t .no h
-
-      go : (b : Bool) → isGood t g ≡ b → usedOf (removeMaintainOf t g .after) + accepted (removeMaintainOf t g .result .answer) 1 ≡ usedOf t
-      go true e = ap (λ (a : ℕ). usedOf (removeMaintainOf t g .after) + accepted a 1) (ap (λ w. w .result .answer) (remove-done t g held e)) ∙ remove-count t g h e
-      go false e = rw (remove-lost t g held e) (omega arith)
+  taken-used g =
+      by-test (isGood t g)
+      (λ e. rw (ap (λ w. w .result .answer) (remove-done t g (holds-says t .no h) e)) (remove-count t g h e))
+      (λ e. rw (remove-lost t g (holds-says t .no h) e) (omega arith))
 
   cleared-used : (ps : List (List Float)) (os : List ℕ) → usedOf (clearOf t ps os .after) + accepted (clearOf t ps os .result .returned .answer) (clearOf t ps os .result .returned .count) ≡ usedOf t
-  cleared-used ps os = go (eqb (clearOf t ps os .result .returned .answer) 0) refl
-    where
-      go : (b : Bool) → eqb (clearOf t ps os .result .returned .answer) 0 ≡ b → usedOf (clearOf t ps os .after) + pick (eqb (clearOf t ps os .result .returned .answer) 0) (clearOf t ps os .result .returned .count) 0 ≡ usedOf t
-      go true e = rw e (omega (arith, clear-empty t ps os h (eqb-true _ _ e), clear-counts t ps os h))
-      go false e = rw e (omega (arith, ap (λ w. usedOf (w .after)) (clear-refused t ps os (eqb-false _ _ e))))
+  cleared-used ps os =
+      by-test (eqb (clearOf t ps os .result .returned .answer) 0)
+      (λ e. rw e (omega (arith, clear-empty t ps os h (eqb-true _ _ e), clear-counts t ps os h)))
+      (λ e. rw e (omega (arith, ap (λ w. usedOf (w .after)) (clear-refused t ps os (eqb-false _ _ e)))))
 
   -- ---- one call
   pub one-length : (o : Op) → usedOf (after t o) + objectsTakenOut t o ≡ usedOf t + putIn t o
@@ -148,14 +119,7 @@ all-length t (o ∷ os) h = omega (arith, one-length t h o, all-length (after t 
 -- an accepted `new` leaves no entry in use
 none-yet : (t : Tables) (size : ℕ) → newOf t size .result ≡ 0 → usedOf (newOf t size .after) ≡ 0
 unfolding newOf built
-none-yet t size z = go (eqb (newAnswer t size) 0) refl z
-  where
-    by : Bool → Outcome ℕ
-    by b = pick b (outcome 0 (built t size)) (outcome (newAnswer t size) t)
-
-    go : (b : Bool) → eqb (newAnswer t size) 0 ≡ b → by b .result ≡ 0 → usedOf (by b .after) ≡ 0
-    go true e z = refl
-    go false e z = absurd (eqb-false (newAnswer t size) 0 e z)
+none-yet t size z = by-test (eqb (newAnswer t size) 0) (λ e. rw e) (λ e. absurd (eqb-false (newAnswer t size) 0 e (rw e at z)))
 
 -- since building, on tables of any content that `new` accepts: `len` answers 0 with the accepted inserts less the objects taken out
 module _ (t : Tables) (size : ℕ) (accepts : newOf t size .result ≡ 0) where
