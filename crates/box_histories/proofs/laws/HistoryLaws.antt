@@ -1,22 +1,20 @@
 -- The length law: since an accepted `new`, the number of objects is that of the accepted inserts less the objects taken out. Assumes nothing.
 use Prim.Native.Nat.{ℕ, zero, suc, _+_, _<_}
 use mathlib.Core.Path.{_≡_, refl, ap}
-use mathlib.Core.Bool.{Bool, true, false}
 use mathlib.Core.List.{List, [], _∷_}
 use native.Mathlib.Omega.{arith}
 use lib.Dec.{eqb}
 use lib.Ieee.{Float}
 use lib.ListN.{length}
 use borrow.Author.Tests.{eqb-true, eqb-false, ne-eqb}
-use Rattle.basics.specs.Meaning.Refusals.{pick}
 use Rattle.basics.specs.Inner.Counting.{one, countBelow}
 use Rattle.slots.specs.Meaning.Slot.{live, phaseAt}
 use Rattle.slot_walks.proofs.laws.Live.{liveAt}
+use Rattle.storage.proofs.laws.FilterLaws.{by-test}
 use Rattle.blank.specs.Meaning.Blank.{blankNums}
 use Rattle.blank.proofs.laws.BlankLaws.{blank-not-live}
 use Rattle.box_tables.specs.Meaning.Tables.{Tables, slotsOf}
 use Rattle.box_tables.specs.Meaning.Holds.{Holds}
-use Rattle.box_tables.specs.Meaning.Outcome.{Outcome, outcome}
 use Rattle.box_insert.specs.Meaning.New.{built, newAnswer, newOf}
 use Rattle.box_insert.proofs.laws.NewLaws.{new-holds}
 use Rattle.box_insert.proofs.laws.InsertLaws.{insert-holds, insert-count}
@@ -50,14 +48,11 @@ none-live nums (suc k) n = omega (arith, none-live nums k (λ s l. n s (omega ar
 
 module _ (t : Tables) (h : Holds t) where
   cleared-live : (bs : List (List Float)) (os : List ℕ) → liveCount (clearOf t bs os .after) + accepted (clearOf t bs os .result .returned .answer) (clearOf t bs os .result .returned .count) ≡ liveCount t
-  cleared-live bs os = go (eqb (clearOf t bs os .result .returned .answer) 0) refl
-    where
-      go : (b : Bool) → eqb (clearOf t bs os .result .returned .answer) 0 ≡ b → liveCount (clearOf t bs os .after) + pick (eqb (clearOf t bs os .result .returned .answer) 0) (clearOf t bs os .result .returned .count) 0 ≡ liveCount t
-      go true e =
-          rw e
-          (unfold liveCount in
-          omega (arith, clear-counts t bs os h, none-live (clearOf t bs os .after .nums) (slotsOf (clearOf t bs os .after)) (λ s l. clear-none t bs os (eqb-true _ _ e) s)))
-      go false e = rw e (omega (arith, ap (λ w. liveCount (w .after)) (clear-refused t bs os (eqb-false _ _ e))))
+  unfolding liveCount
+  cleared-live bs os =
+      by-test (eqb (clearOf t bs os .result .returned .answer) 0)
+      (λ e. rw e (omega (arith, clear-counts t bs os h, none-live (clearOf t bs os .after .nums) (slotsOf (clearOf t bs os .after)) (λ s l. clear-none t bs os (eqb-true _ _ e) s))))
+      (λ e. rw e (omega (arith, ap (λ w. liveCount (w .after)) (clear-refused t bs os (eqb-false _ _ e)))))
 
   -- ---- one call
   pub one-length : (o : Op) → liveCount (after t o) + objectsTakenOut t o ≡ liveCount t + putIn t o
@@ -76,14 +71,10 @@ all-length t (o ∷ os) h = omega (arith, one-length t h o, all-length (after t 
 -- an accepted `new` leaves no slot live
 none-yet : (t : Tables) (size : ℕ) → newOf t size .result ≡ 0 → liveCount (newOf t size .after) ≡ 0
 unfolding liveCount newOf built
-none-yet t size z = go (eqb (newAnswer t size) 0) refl z
-  where
-    by : Bool → Outcome ℕ
-    by b = pick b (outcome 0 (built t size)) (outcome (newAnswer t size) t)
-
-    go : (b : Bool) → eqb (newAnswer t size) 0 ≡ b → by b .result ≡ 0 → countBelow (liveAt (by b .after .nums)) (slotsOf (by b .after)) ≡ 0
-    go true e z = none-live (blankNums (slotsOf t)) (length (blankNums (slotsOf t))) (blank-not-live (slotsOf t) size)
-    go false e z = absurd (eqb-false (newAnswer t size) 0 e z)
+none-yet t size z =
+    by-test (eqb (newAnswer t size) 0)
+    (λ e. rw e (none-live (blankNums (slotsOf t)) (length (blankNums (slotsOf t))) (blank-not-live (slotsOf t) size)))
+    (λ e. absurd (eqb-false (newAnswer t size) 0 e (rw e at z)))
 
 -- since building, on tables of any content that `new` accepts: `len` answers 0 with the accepted inserts less the objects taken out
 module _ (t : Tables) (size : ℕ) (accepts : newOf t size .result ≡ 0) where
