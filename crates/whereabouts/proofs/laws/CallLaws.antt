@@ -1,7 +1,7 @@
 -- What deferred calls leave of one object: everything but its state, and the state is what its accepted calls made of it. Assumes nothing.
 use Prim.Native.Nat.{ℕ}
 use mathlib.Core.Path.{_≡_, refl, sym, ap, _∙_}
-use mathlib.Core.Bool.{Bool, true, false, not, _&&_, _||_}
+use mathlib.Core.Bool.{Bool, true, false, _||_}
 use mathlib.Core.List.{List, [], _∷_}
 use mathlib.Core.Logic.{⊎-elim}
 use lib.Dec.{eqb}
@@ -16,7 +16,7 @@ use Rattle.slots.specs.declared.Handle.{Handle}
 use Rattle.slots.specs.Meaning.Slot.{versionAt}
 use Rattle.storage.proofs.laws.FilterLaws.{by-test}
 use Rattle.point_records.specs.declared.State.{State}
-use Rattle.point_records.specs.declared.State.the-variants.{NewPos, Relocate, Removed}
+use Rattle.point_records.specs.declared.State.the-variants.{Removed}
 use Rattle.point_records.specs.declared.Record.{Record}
 use Rattle.point_records.specs.Meaning.Columns.{pendingOf}
 use Rattle.point_records.specs.Inner.Decide.{d-cell}
@@ -32,16 +32,12 @@ use Rattle.point_deferred.proofs.laws.PendedLaws.{nums-long, record-same, recor
 use Rattle.point_deferred.proofs.laws.MovesLaws.{Named, set-accepted, remove-accepted, set-done, remove-done}
 use Rattle.point_deferred.proofs.laws.AnswerLaws.{set-answer-is, remove-answer-is, call-refused}
 use Rattle.point_deferred.proofs.laws.MovesKeeps.{call-keeps}
-use Rattle.whereabouts.specs.Meaning.Whereabouts.{sameHandle, movesIt, removesIt, removedBy, lastAt}
+use Rattle.whereabouts.specs.Meaning.Whereabouts.{movesIt, removesIt, removedBy, lastAt}
 
 -- ---- the state that `set_position` gives
 aimed-goes : (size : ℕ) (c : Cell) (p q : Position) → (isRemoved (aimed size c p) ≡ false) × (pendingOf (aimed size c p) q ≡ p)
 unfolding aimed
-aimed-goes size c p q = go (said (d-cell (cellAt size p) c)) (cellAt size p)
-  where
-    go : (b : Bool) (d : Cell) → (isRemoved (pick b (NewPos p) (Relocate p d)) ≡ false) × (pendingOf (pick b (NewPos p) (Relocate p d)) q ≡ p)
-    go true d = (refl, refl)
-    go false d = (refl, refl)
+aimed-goes size c p q = by-test (said (d-cell (cellAt size p) c)) (λ e. rw e (refl, refl)) (λ e. rw e (refl, refl))
 
 -- ---- an accepted call gives the object of its handle another state
 module _ (t : Tables) (c : Call) where
@@ -177,31 +173,9 @@ module _ (h : Handle) where
           let r : removedIn u h ≡ true = ap (λ (r : Record). isRemoved (r .state)) e ∙ ap isRemoved k in
           record { names = m; removed = r ∙ or-true (removedIn t h); goes = λ q. absurd (apart (sym q ∙ r)) }
 
-  -- ---- by what the call says: whether it was accepted with this handle, and its kind
-  module _ (t u : Tables) (at : Position) where
-    abbrev Told : Bool → Bool → Type 0
-    Told a k = Follows t u (a && not k) (λ p. pick (a && k) at p)
-
-    told-other : (a k : Bool) → a ≡ false → Follows t u false (λ p. p) → Told a k
-    told-other true k e f = absurd (apart (sym e))
-    told-other false k e f = f
-
-    told-moved : (a k : Bool) → a ≡ true → k ≡ true → Follows t u false (λ p. at) → Told a k
-    told-moved true true d e f = f
-    told-moved true false d e f = absurd (apart e)
-    told-moved false k d e f = absurd (apart d)
-
-    told-removed : (a k : Bool) → a ≡ true → k ≡ false → Follows t u true (λ p. p) → Told a k
-    told-removed true false d e f = f
-    told-removed true true d e f = absurd (apart (sym e))
-    told-removed false k d e f = absurd (apart d)
-
   module _ (t : Tables) (holds : Holds t) (n : Named t h) (c : Call) where
     abbrev after : Tables
     after = callOf t c .after
-
-    abbrev accepts : Bool
-    accepts = eqb (callOf t c .result .answer) 0 && sameHandle (c .handle) h
 
     still-named : Named after h
     still-named =
@@ -211,13 +185,12 @@ module _ (h : Handle) where
           version = call-kept (λ r. r .version) (λ r s. refl) t holds c (h .slot) ∙ n .version;
         }
 
+    -- by what the call says: whether it was accepted with this handle, and its kind
     abbrev Heard : Type 0
-    Heard = Told t after (c .at) accepts (eqb (c .kind) 0)
+    Heard = Follows t after (removesIt h c (callOf t c .result)) (λ p. pick (movesIt h c (callOf t c .result)) (c .at) p)
 
     refused : (callOf t c .result .answer ≡ 0 → ⊥) → Heard
-    refused z =
-        told-other t after (c .at) accepts (eqb (c .kind) 0) (ap (λ (b : Bool). b && sameHandle (c .handle) h) (ne-eqb (callOf t c .result .answer) 0 z))
-        (stays t n after still-named (ap (λ (u : Tables). recordOn u (h .slot)) (call-refused t c z .0)))
+    refused z = rw (ne-eqb (callOf t c .result .answer) 0 z) (stays t n after still-named (ap (λ (u : Tables). recordOn u (h .slot)) (call-refused t c z .0)))
 
     module _ (z : callOf t c .result .answer ≡ 0) where
       abbrev g : Given t c
@@ -232,32 +205,30 @@ module _ (h : Handle) where
       -- another object was given a state
       there : (h .slot ≡ s → ⊥) → Heard
       there o =
-          let k = ne-eqb s (h .slot) (λ e. o (sym e)) in
-          told-other t after (c .at) accepts (eqb (c .kind) 0) (λ i. answered i && (k i && eqb (c .handle .version) (h .version)))
+          rw (answered, ne-eqb s (h .slot) (λ e. o (sym e)))
           (stays t n after still-named (ap (λ (u : Tables). recordOn u (h .slot)) (g .after) ∙ record-other t s (g .state) (holds-ready t holds) (g .names .inside) (h .slot) o))
 
       -- this one was: the handle has its version, as every good handle of its slot
       here : h .slot ≡ s → Heard
       here o =
           let v : c .handle .version ≡ h .version = sym (g .names .version) ∙ ap (versionAt (t .nums)) (sym o) ∙ n .version in
-          let a : accepts ≡ true = λ i. answered i && (eq-eqb s (h .slot) (sym o) i && eq-eqb (c .handle .version) (h .version) v i) in
           let e : recordOn after (h .slot) ≡ withState (recordOn t (h .slot)) (g .state) =
           ap (λ (u : Tables). recordOn u (h .slot)) (g .after)
           ∙ ap (recordOn (pended t s (g .state))) o
           ∙ record-same t s (g .state) (holds-ready t holds) (g .names .inside)
           ∙ ap (λ (i : ℕ). withState (recordOn t i) (g .state)) (sym o) in
-          by-test (eqb (c .kind) 0)
+          rw (answered, eq-eqb s (h .slot) (sym o), eq-eqb (c .handle .version) (h .version) v)
+          (by-test (eqb (c .kind) 0)
           (λ q.
           let w = g .moves q in
           let d = aimed-goes (sizeOf t) (recordOn t s .cell) (c .at) (recordOn t (h .slot) .position) in
-          told-moved t after (c .at) accepts (eqb (c .kind) 0) a q
-          (sent t n after still-named (g .state) e (c .at) (ap (λ (i : ℕ). isRemoved (recordOn t i .state)) o ∙ w .0) (ap isRemoved (w .1) ∙ d .0) (ap (λ (st : State). pendingOf st (recordOn t (h .slot) .position)) (w .1) ∙ d .1)))
-          (λ q. told-removed t after (c .at) accepts (eqb (c .kind) 0) a q (taken t n after still-named (g .state) e (g .removes q)))
+          rw q (sent t n after still-named (g .state) e (c .at) (ap (λ (i : ℕ). isRemoved (recordOn t i .state)) o ∙ w .0) (ap isRemoved (w .1) ∙ d .0) (ap (λ (st : State). pendingOf st (recordOn t (h .slot) .position)) (w .1) ∙ d .1)))
+          (λ q. rw q (taken t n after still-named (g .state) e (g .removes q))))
 
       accepted : Heard
       accepted = ⊎-elim here there (d-eq (h .slot) s)
 
-    call-follows : Follows t after (removesIt h c (callOf t c .result)) (λ p. pick (movesIt h c (callOf t c .result)) (c .at) p)
+    call-follows : Heard
     call-follows = ⊎-elim accepted refused (d-eq (callOf t c .result .answer) 0)
 
   -- ---- a row of calls
