@@ -2,25 +2,22 @@
 -- are due, each once. Assumes nothing.
 use Prim.Native.Nat.{ℕ}
 use mathlib.Core.Path.{_≡_, refl, sym, ap, subst, _∙_}
-use mathlib.Core.Bool.{Bool, true, false}
 use mathlib.Core.List.{List, [], _∷_}
 use lib.Dec.{eqb}
 use lib.Ieee.{Float}
-use Rattle.basics.specs.Meaning.Refusals.{pick}
 use Rattle.geometry.specs.declared.Position.{Position}
 use Rattle.slots.specs.declared.Handle.{Handle}
 use Rattle.replies.specs.Meaning.Replies.{count}
+use Rattle.storage.proofs.laws.FilterLaws.{by-test}
 use Rattle.point_records.specs.declared.Record.{Record}
 use Rattle.point_tables.specs.Meaning.Tables.{Tables}
-use Rattle.point_deferred.specs.Meaning.Moves.{setPositionOf, removeOf}
 use Rattle.point_deferred.specs.Meaning.Batch.{Call as Deferred, callOf, tablesAfter}
-use Rattle.point_maintain.specs.Meaning.Maintain.{maintainOf}
 use Rattle.point_query.specs.Meaning.Queries.{Findings, findings, aroundOf}
 use Rattle.whereabouts.specs.Meaning.Report.{ReportedAt, Reports, Due}
 use Rattle.whereabouts.proofs.laws.StandsLaws.{Settled}
 use Rattle.whereabouts.specs.Meaning.Stands.{nextMaintain}
 use Rattle.whereabouts.proofs.laws.ReportLaws.{circle-reports, reports-once}
-use Rattle.record_histories.specs.Inner.RecordHistory.{setPosition, remove, onColumns, recordsAfter, besidesAfter, SameGrid}
+use Rattle.record_histories.specs.Inner.RecordHistory.{onColumns, recordsAfter, besidesAfter, SameGrid}
 use Rattle.record_histories.proofs.laws.RecordHistory.{columnsAfter}
 use Rattle.record_histories.specs.Inner.RecordReport.{deferred, frame, reportAfter}
 use Rattle.record_histories.proofs.laws.ReadsLaws.{around-reads}
@@ -29,11 +26,7 @@ use Rattle.record_histories.proofs.laws.HistoryLaws.{history-after}
 
 deferred-is : (u : Tables) (c : Deferred) → onColumns (deferred c) u .after ≡ callOf u c .after
 unfolding onColumns callOf
-deferred-is u c = go (eqb (c .kind) 0)
-  where
-    go : (b : Bool) → onColumns (pick b (setPosition (c .handle) (c .at)) (remove (c .handle))) u .after ≡ pick b (setPositionOf u (c .handle) (c .at)) (removeOf u (c .handle)) .after
-    go true = refl
-    go false = refl
+deferred-is u c = by-test (eqb (c .kind) 0) (λ e. rw e) (λ e. rw e)
 
 frame-is : (cs : List Deferred) (u : Tables) → columnsAfter (frame cs) u ≡ nextMaintain u cs .after
 unfolding columnsAfter onColumns tablesAfter

@@ -1,41 +1,38 @@
 -- A history on records is a history on columns: the same answers, and at the end the records are the grid of the columns. Assumes nothing.
 use Prim.Native.Nat.{ℕ}
 use mathlib.Core.Path.{_≡_, refl, sym, ap, _∙_}
-use mathlib.Core.Bool.{Bool, true, false}
 use mathlib.Core.List.{List, [], _∷_}
 use lib.Dec.{eqb}
-use lib.ListN.{length, set, length-set}
-use Rattle.basics.specs.Meaning.Refusals.{pick}
+use lib.ListN.{length, length-set}
 use Rattle.geometry.specs.declared.Position.{Position}
 use Rattle.slots.specs.declared.Handle.{Handle}
+use Rattle.storage.proofs.laws.FilterLaws.{by-test}
 use Rattle.point_records.specs.declared.Record.{Record}
 use Rattle.point_records.specs.Meaning.Columns.{numsOf}
 use Rattle.point_records.specs.declared.State.the-variants.{Removed}
 use Rattle.point_records.specs.Meaning.States.{aimed}
 use Rattle.point_tables.specs.Meaning.Tables.{Tables, sizeOf, slotsOf, recordOn}
 use Rattle.point_tables.specs.Meaning.Holds.{Holds}
-use Rattle.point_tables.specs.Meaning.Decide.{holds}
-use Rattle.point_tables.specs.Meaning.Outcome.{Outcome, outcome}
+use Rattle.point_tables.specs.Meaning.Outcome.{Outcome}
 use Rattle.replies.specs.Meaning.Replies.{count, reply, inserted}
-use Rattle.point_deferred.specs.Meaning.Moves.{pended, setPositionAnswer, setPositionOf, removeAnswer, removeOf}
+use Rattle.point_deferred.specs.Meaning.Moves.{setPositionAnswer, setPositionOf, removeAnswer, removeOf}
 use Rattle.point_deferred.proofs.laws.PendedLaws.{nums-long}
 use Rattle.point_deferred.proofs.laws.MovesKeeps.{set-position-keeps, remove-keeps}
 use Rattle.point_insert.specs.Meaning.Insert.{put, insertAnswer, insertOf, newRecord, usableSlot}
 use Rattle.point_insert.proofs.laws.InsertLaws.{insert-holds}
-use Rattle.point_maintain.specs.Meaning.Maintain.{maintained, maintainedCounts, maintainOf}
+use Rattle.point_maintain.specs.Meaning.Maintain.{maintainedCounts, maintainOf}
 use Rattle.point_maintain.proofs.laws.MaintainLaws.{maintain-done, maintain-keeps}
 use Rattle.point_maintain.proofs.laws.MaintainedLaws.{maintained-slots}
 use Rattle.point_get.specs.Meaning.{got, getOf, lenOf}
 use Rattle.geometry.specs.Meaning.Zero.{zero-position}
 use Rattle.point_query.specs.Meaning.Queries.{findings, aroundOf}
 use Rattle.slots.specs.Meaning.Map.{slotIn}
-use Rattle.slots.specs.Meaning.Slot.{versionAt}
 use Rattle.point_maintain.specs.declared.Maintained.{Maintained}
 use Rattle.records.specs.Meaning.Spread.{besides, recordsIn}
 use Rattle.records.proofs.laws.SpreadLaws.{gathered-length}
 use Rattle.records.proofs.laws.AlikeLaws.{alike-itself}
 use Rattle.records.proofs.laws.AgainLaws.{alike-again}
-use Rattle.record_histories.specs.Inner.RecordHistory.{Call, insert, setPosition, remove, maintain, get, len, around, Given, entered, replied}
+use Rattle.record_histories.specs.Inner.RecordHistory.{Call, insert, setPosition, remove, maintain, get, len, around, entered, replied}
 use Rattle.record_histories.specs.Inner.RecordHistory.{settled, got as gotten, counted, found, onColumns, onTable, recordAnswers, recordsAfter}
 use Rattle.record_histories.specs.Inner.RecordHistory.{besidesAfter, SameGrid}
 use Rattle.record_histories.proofs.laws.RecordHistory.{columnAnswers, columnsAfter}
@@ -46,23 +43,19 @@ use Rattle.record_histories.proofs.laws.ReadsLaws.{get-reads, len-reads
 use Rattle.record_histories.proofs.laws.CallLaws.{call-same, call-after, read-same, read-after}
 
 -- ---- the number of slots stays
-one-of : {R : Type 0} (b : Bool) (x y : Outcome R) (n : ℕ) → slotsOf (x .after) ≡ n → slotsOf (y .after) ≡ n → slotsOf (pick b x y .after) ≡ n
-one-of true x y n e f = e
-one-of false x y n e f = f
-
 set-slots : (t : Tables) (h : Handle) (p : Position) → slotsOf (setPositionOf t h p .after) ≡ slotsOf t
 unfolding setPositionOf
-set-slots t h p = one-of (eqb (setPositionAnswer t h p) 0) _ _ (slotsOf t) (nums-long t (h .slot) (aimed (sizeOf t) (recordOn t (h .slot) .cell) p)) refl
+set-slots t h p = by-test (eqb (setPositionAnswer t h p) 0) (λ e. rw e (nums-long t (h .slot) (aimed (sizeOf t) (recordOn t (h .slot) .cell) p))) (λ e. rw e)
 
 remove-slots : (t : Tables) (h : Handle) → slotsOf (removeOf t h .after) ≡ slotsOf t
 unfolding removeOf
-remove-slots t h = one-of (eqb (removeAnswer t h) 0) _ _ (slotsOf t) (nums-long t (h .slot) Removed) refl
+remove-slots t h = by-test (eqb (removeAnswer t h) 0) (λ e. rw e (nums-long t (h .slot) Removed)) (λ e. rw e)
 
 insert-slots : (t : Tables) (p : Position) (d : ℕ) → slotsOf (insertOf t p d .after) ≡ slotsOf t
 unfolding insertOf put
 insert-slots t p d =
     let s = slotIn (usableSlot t) in
-    one-of (eqb (insertAnswer t p) 0) _ _ (slotsOf t) (length-set (t .nums) s (numsOf (newRecord t s p d))) refl
+    by-test (eqb (insertAnswer t p) 0) (λ e. rw e (length-set (t .nums) s (numsOf (newRecord t s p d)))) (λ e. rw e)
 
 maintain-slots : (t : Tables) → Holds t → slotsOf (maintainOf t .after) ≡ slotsOf t
 maintain-slots t h = ap (λ (o : Outcome Maintained). slotsOf (o .after)) (maintain-done t h) ∙ maintained-slots t h

@@ -1,37 +1,39 @@
 -- `maintain` on columns with the same records: the same counts, lists and marks, and the same records after. Assumes nothing.
 use Prim.Native.Nat.{ℕ, zero, suc, _+_, _≤_, _<_}
 use mathlib.Core.Path.{_≡_, refl, sym, ap, ap₂, subst, _∙_}
-use mathlib.Core.Bool.{Bool, true, false}
-use mathlib.Core.List.{List, [], _∷_, _++_, map}
+use mathlib.Core.Bool.{Bool}
+use mathlib.Core.List.{List, [], _++_}
 use mathlib.Core.Logic.{inl, inr}
 use native.Mathlib.Omega.{arith}
 use lib.Dec.{eqb}
-use lib.Ieee.{Float}
-use lib.ListN.{length}
 use lib.Seq.{set-out}
 use Rattle.basics.specs.Meaning.Refusals.{orElse, pick}
 use Rattle.basics.specs.Meaning.Says.{Decided}
 use Rattle.basics.proofs.laws.Says.{d-eq, d-lt}
 use Rattle.slots.specs.Meaning.Map.{givenBack}
-use Rattle.slots.specs.Meaning.Slot.{live, phaseAt}
-use Rattle.storage.specs.Meaning.Keyed.{under, onList, appendAll, written}
-use Rattle.storage.specs.Meaning.Entries.{Entry, rowOf, spotOf, entryKey}
-use Rattle.storage.specs.Meaning.CellTable.{fresh}
+use Rattle.slots.specs.Meaning.Slot.{live}
+use Rattle.storage.specs.Meaning.Keyed.{under, appendAll}
+use Rattle.storage.specs.Meaning.Entries.{Entry, entryKey}
+use Rattle.storage.proofs.laws.FilterLaws.{by-test}
 use Rattle.point_records.specs.declared.State.{State}
 use Rattle.point_records.specs.declared.Record.{Record}
 use Rattle.point_records.specs.Meaning.States.{isRemoved}
-use Rattle.point_tables.specs.Meaning.Tables.{Tables, tables, sizeOf, slotsOf, recordOn, entriesIn, cellRows, counting, slotOf}
+use Rattle.point_tables.specs.Meaning.Tables.{Tables, tables, sizeOf, slotsOf, recordOn, entriesIn, slotOf}
 use Rattle.point_tables.specs.Meaning.Holds.{Holds}
-use Rattle.point_maintain.specs.Meaning.Walk.{settled, Fate, fateBy, fate, staying, leaving, rest, walkedAfter, Walked, walk}
-use Rattle.point_maintain.specs.Meaning.Maintain.{Sweep, isDirty, visit, sweep, swept, bySlot, entriesAfter, cellKeys, maintainedBy, maintained, isMoving}
-use Rattle.point_maintain.specs.Meaning.Maintain.{countStates, maintainedCounts, maintainOf}
-use Rattle.point_maintain.proofs.laws.SettleForm.{rowsAt, rowsAfter, backBy, comesBack, settledRecord, settled-form}
+use Rattle.point_tables.specs.Inner.Count.{isLive}
+use Rattle.point_maintain.specs.Meaning.Walk.{settled, fateBy}
+use Rattle.point_maintain.specs.Meaning.Maintain.{cellKeys, maintained, isMoving, countStates, maintainedCounts, maintainOf}
+use Rattle.point_maintain.specs.Inner.Kept.{kept}
+use Rattle.point_maintain.specs.Inner.Settle.{settledIn, settledAll}
+use Rattle.point_maintain.specs.Inner.Closed.{joined, keptUnder, keptEntries, relocatedBy, relocatedBelow, relisted, settledEntries, settledTables}
 use Rattle.point_maintain.specs.Inner.SettleLaws.{Shaped}
-use Rattle.point_maintain.proofs.laws.SettleLaws.{sized-shaped, settled-shaped, settled-slots, settled-reals, settled-ints, settled-pool, settled-spots}
-use Rattle.point_maintain.proofs.laws.SettleLaws.{settled-cells, settled-other, settled-same}
+use Rattle.point_maintain.proofs.laws.SettleForm.{rowsAt, rowsAfter, backBy, comesBack, settledRecord, settled-form}
+use Rattle.point_maintain.proofs.laws.SettleLaws.{sized-shaped, settled-slots, settled-reals, settled-ints, settled-pool, settled-spots, settled-cells, settled-other, settled-same}
+use Rattle.point_maintain.proofs.laws.SettleAllLaws.{in-shaped}
+use Rattle.point_maintain.proofs.laws.SettledForm.{maintained-is}
 use Rattle.records.specs.Inner.Alike.{Alike, withColumns}
 use Rattle.records.proofs.laws.Alike.{Respects}
-use Rattle.records.proofs.laws.AlikeLaws.{both-hold, alike-itself}
+use Rattle.records.proofs.laws.AlikeLaws.{both-hold}
 use Rattle.record_histories.proofs.laws.SameLaws.{Same, same-pick, to-respect, beside}
 
 -- ---- one slot settled
@@ -81,94 +83,25 @@ module _ (t u : Tables) (like : Alike t u) (a : Shaped t) (b : Shaped u) (s : �
         rest = λ i. tables (w .nums) (w .reals) (w .ints) (same-map i) (same-pool i) (same-spots i) (same-cells i);
       }
 
--- ---- a list walked
-record WalkedAlike (a b : Walked) : Type 0 where
-  alike : Alike (a .records) (b .records)
-  shaped : Shaped (a .records) × Shaped (b .records)
-  kept : a .kept ≡ b .kept
-  moving : a .moving ≡ b .moving
+-- ---- every slot that passes
+in-alike : (test : ℕ → Bool) (t u : Tables) → Alike t u → Shaped t → Shaped u → (n : ℕ) → Alike (settledIn test n t) (settledIn test n u)
+unfolding settledIn
+in-alike test t u like a b zero = like
+in-alike test t u like a b (suc n) =
+    by-test (test n)
+    (λ e. rw e (settled-alike (settledIn test n t) (settledIn test n u) (in-alike test t u like a b n) (in-shaped test t n a) (in-shaped test u n b) n))
+    (λ e. rw e (in-alike test t u like a b n))
 
-fate-is : (t u : Tables) → Alike t u → (e : Entry) → fate t e ≡ fate u e
-fate-is t u like e = ap₂ {C = Fate} (λ (n : ℕ) (r : Record). fateBy n e (r .state)) (ap sizeOf (like .rest)) (like .each (slotOf e))
-
-walk-alike : (n : ℕ) (t u : Tables) → Alike t u → Shaped t → Shaped u → (es : List Entry) → WalkedAlike (walk n t es) (walk n u es)
-unfolding walk
-walk-alike zero t u like a b es = record { alike = like; shaped = (a, b); kept = refl; moving = refl }
-walk-alike (suc n) t u like a b [] = record { alike = like; shaped = (a, b); kept = refl; moving = refl }
-walk-alike (suc n) t u like a b (e ∷ es) =
-    let s = slotOf e in
-    let f = fate t e in
-    let w = walk-alike n (settled t s) (settled u s) (settled-alike t u like a b s) (settled-shaped t s a) (settled-shaped u s b) (rest f es) in
-    subst
-    (λ (g : Fate). WalkedAlike (walkedAfter f (walk n (settled t s) (rest f es))) (walkedAfter g (walk n (settled u s) (rest g es))))
-    (fate-is t u like e)
-    (record {
-      alike = w .alike;
-      shaped = w .shaped;
-      kept = ap (λ (l : List Entry). staying f ++ l) (w .kept);
-      moving = ap (λ (l : List Entry). leaving f ++ l) (w .moving);
-    })
-
--- ---- all lists
-record SweepAlike (a b : Sweep) : Type 0 where
-  alike : Alike (a .records) (b .records)
-  shaped : Shaped (a .records) × Shaped (b .records)
-  entries : a .entries ≡ b .entries
-  moving : a .moving ≡ b .moving
-
-module _ (rows : List (List ℕ)) where
-  either-alike : (d : Bool) (x x′ y y′ : Sweep) → SweepAlike x y → SweepAlike x′ y′ → SweepAlike (pick d x x′) (pick d y y′)
-  either-alike true x x′ y y′ p q = p
-  either-alike false x x′ y y′ p q = q
-
-  abbrev walkedOver : ℕ → Tables → List Entry → List Entry → Sweep
-  walkedOver k t es moving =
-      let l = under entryKey k es in
-      let v = walk (length l) t l in
-      record { records = v .records; entries = onList entryKey k (λ m. v .kept) es; moving = moving ++ v .moving }
-
-  visit-alike : (x y : Sweep) → SweepAlike x y → (k : ℕ) → SweepAlike (visit rows x k) (visit rows y k)
-  unfolding visit
-  visit-alike x y p k = either-alike (isDirty rows k) _ x _ y walked p
-    where
-      same-lists : SweepAlike (walkedOver k (x .records) (x .entries) (x .moving)) (walkedOver k (y .records) (x .entries) (x .moving))
-      same-lists =
-          let l = under entryKey k (x .entries) in
-          let w = walk-alike (length l) (x .records) (y .records) (p .alike) (p .shaped .0) (p .shaped .1) l in
-          record {
-            alike = w .alike;
-            shaped = w .shaped;
-            entries = ap (λ (m : List Entry). onList entryKey k (λ n. m) (x .entries)) (w .kept);
-            moving = ap (λ (m : List Entry). x .moving ++ m) (w .moving);
-          }
-
-      walked : SweepAlike (walkedOver k (x .records) (x .entries) (x .moving)) (walkedOver k (y .records) (y .entries) (y .moving))
-      walked =
-          subst (λ (m : List Entry). SweepAlike (walkedOver k (x .records) (x .entries) (x .moving)) (walkedOver k (y .records) (y .entries) m)) (p .moving)
-          (subst (λ (es : List Entry). SweepAlike (walkedOver k (x .records) (x .entries) (x .moving)) (walkedOver k (y .records) es (x .moving))) (p .entries) same-lists)
-
-  sweep-alike : (ks : List ℕ) (x y : Sweep) → SweepAlike x y → SweepAlike (sweep rows x ks) (sweep rows y ks)
-  unfolding sweep
-  sweep-alike [] x y p = p
-  sweep-alike (k ∷ ks) x y p = sweep-alike ks (visit rows x k) (visit rows y k) (visit-alike x y p k)
-
--- ---- the whole
+-- ---- the whole, as the tables with everything done that was to be done
 module _ (t u : Tables) where
   abbrev v : Tables
   v = withColumns t u
 
-  -- the columns of r beside the lists of es
-  abbrev listed : Tables → List Entry → Tables
-  listed r es =
-      let cs = fresh (map rowOf es) in
-      tables (r .nums) (r .reals) (r .ints) (counting (r .map) (length es) (length cs))
-      (written (map rowOf es) (t .pool)) (written (map spotOf es) (t .spots)) (written cs (t .cells))
-
-  relisted : (r w : Tables) → Alike r w → (es fs : List Entry) → es ≡ fs → Alike (listed r es) (listed w fs)
-  relisted r w a es fs e =
-      subst (λ (l : List Entry). Alike (listed r es) (listed w l)) e
-      (subst (λ (x : Tables). Alike (listed r es) (listed x es)) (a .rest)
-      (beside r w a (listed r es .map) (listed r es .pool) (listed r es .spots) (listed r es .cells)))
+  relisted-alike : (r w : Tables) → Alike r w → (es fs : List Entry) → es ≡ fs → Alike (relisted r es t) (relisted w fs t)
+  relisted-alike r w a es fs e =
+      subst (λ (l : List Entry). Alike (relisted r es t) (relisted w l t)) e
+      (subst (λ (x : Tables). Alike (relisted r es t) (relisted x es t)) (a .rest)
+      (beside r w a (relisted r es t .map) (relisted r es t .pool) (relisted r es t .spots) (relisted r es t .cells)))
 
   module _ (like : Alike t v) where
     count-same : (test : State → Bool) (n : ℕ) → countStates test t n ≡ countStates test v n
@@ -179,21 +112,31 @@ module _ (t u : Tables) where
     counts-same : (test : State → Bool) → countStates test t (slotsOf t) ≡ countStates test v (slotsOf v)
     counts-same test = count-same test (slotsOf t) ∙ ap (countStates test v) (like .of-nums)
 
+    -- the lists are those of the records, so they are the same
+    kept-same : keptEntries t ≡ keptEntries v
+    unfolding keptEntries keptUnder
+    kept-same = λ z. joined (λ k. kept (λ e. fateBy (sizeOf t) e (like .each (slotOf e) z .state)) (under entryKey k (entriesIn t))) (cellKeys t)
+
+    below-same : (n : ℕ) → relocatedBelow n t ≡ relocatedBelow n v
+    unfolding relocatedBelow
+    below-same zero = refl
+    below-same (suc n) =
+        ap₂ {C = List Entry} (λ (l : List Entry) (r : Record). l ++ pick (eqb (r .phase) live) (relocatedBy (sizeOf t) n (r .state)) []) (below-same n) (like .each n)
+
+    entries-same : settledEntries t ≡ settledEntries v
+    unfolding settledEntries
+    entries-same = ap₂ {C = List Entry} (appendAll entryKey) kept-same (below-same (slotsOf t) ∙ ap (λ (n : ℕ). relocatedBelow n v) (like .of-nums))
+
     module _ (h : Holds t) (k : Holds v) where
-      swept-alike : (ks : List ℕ) → SweepAlike (swept t ks) (swept v ks)
-      unfolding swept
-      swept-alike ks =
-          sweep-alike (cellRows t) ks _ _
-          (record { alike = like; shaped = (sized-shaped t (h .sized), sized-shaped v (k .sized)); entries = refl; moving = refl })
+      records-alike : Alike (settledAll t) (settledAll v)
+      unfolding settledAll
+      records-alike =
+          subst (Alike (settledIn (isLive t) (slotsOf t) t)) (λ z. settledIn (λ i. eqb (like .each i z .phase) live) (like .of-nums z) v)
+          (in-alike (isLive t) t v like (sized-shaped t (h .sized)) (sized-shaped v (k .sized)) (slotsOf t))
 
       maintained-alike : Alike (maintained t) (maintained v)
-      unfolding maintained maintainedBy entriesAfter
-      maintained-alike =
-          let ks = cellKeys t in
-          let p = swept-alike ks in
-          let m = swept t ks .records .map in
-          relisted (swept t ks .records) (swept v ks .records) (p .alike) _ _
-          (ap₂ {C = List Entry} (appendAll entryKey) (p .entries) (ap₂ {C = List Entry} bySlot (like .of-nums) (p .moving)))
+      unfolding settledTables
+      maintained-alike = rw (maintained-is t h, maintained-is v k) (relisted-alike (settledAll t) (settledAll v) records-alike (settledEntries t) (settledEntries v) entries-same)
 
       maintain-same : Same (maintainOf t) (maintainOf v)
       unfolding maintainOf

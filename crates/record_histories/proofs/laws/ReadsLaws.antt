@@ -1,8 +1,8 @@
 -- `get`, `len` and `query_around` on columns with the same records answer the same. Assumes nothing.
-use Prim.Native.Nat.{ℕ, zero, suc, _≤_, zero-le}
-use native.Mathlib.Nat.{not-suc-le-zero, suc-inj}
-use mathlib.Core.Path.{_≡_, refl, sym, ap, subst, _∙_}
-use mathlib.Core.Bool.{Bool}
+use Prim.Native.Nat.{ℕ, suc}
+use native.Mathlib.Omega.{arith}
+use native.Mathlib.Nat.{suc-inj}
+use mathlib.Core.Path.{_≡_, refl, ap, _∙_}
 use mathlib.Core.List.{List, [], _∷_, map}
 use lib.Dec.{eqb}
 use lib.Ieee.{Float}
@@ -16,7 +16,7 @@ use Rattle.point_records.specs.declared.Record.{Record}
 use Rattle.point_tables.specs.Meaning.Tables.{Tables}
 use Rattle.point_tables.specs.Meaning.Holds.{Holds}
 use Rattle.point_get.specs.Meaning.{liveHandles, getOf, lenOf}
-use Rattle.storage.specs.Meaning.Entries.{Entry, rowItem}
+use Rattle.storage.specs.Meaning.Entries.{rowItem}
 use Rattle.point_query.specs.declared.Test.the-variants.{Circle}
 use Rattle.point_query.specs.Meaning.Queries.{found, findingOn, handleOf, searchAnswer, searchOf, aroundOf}
 use Rattle.geometry.specs.Meaning.Circle.{cornerBelow, cornerAbove}
@@ -29,14 +29,11 @@ map-same : {A B : Type 0} (f g : A → B) → ((x : A) → f x ≡ g x) → (l :
 map-same f g e [] = refl
 map-same f g e (x ∷ l) = cc (e x, map-same f g e l)
 
-no-zero : (k : ℕ) → suc k ≡ 0 → ⊥
-no-zero k e = not-suc-le-zero (subst (λ (m : ℕ). m ≤ 0) (sym e) zero-le)
-
 -- the live slots are told by the phases
 live-same : (ns ms : List (List ℕ)) (s : ℕ) → length ns ≡ length ms → ((j : ℕ) → phaseAt ns j ≡ phaseAt ms j) → liveFrom s ns ≡ liveFrom s ms
 live-same [] [] s e p = refl
-live-same [] (m ∷ ms) s e p = absurd (no-zero (length ms) (sym e))
-live-same (n ∷ ns) [] s e p = absurd (no-zero (length ns) e)
+live-same [] (m ∷ ms) s e p = absurd (omega arith)
+live-same (n ∷ ns) [] s e p = absurd (omega arith)
 live-same (n ∷ ns) (m ∷ ms) s e p =
     let rest = live-same ns ms (suc s) (suc-inj e) (λ j. p (suc j)) in
     let first : eqb (getD n 1 0) live ≡ eqb (getD m 1 0) live = ap (λ (k : ℕ). eqb k live) (p 0) in
