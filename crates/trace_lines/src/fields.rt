@@ -31,10 +31,14 @@ pub fn field_end(b: &[u8], at: usize) -> usize
     i
 }
 
-fn take_number(b: &[u8], at: usize) -> TakenNumber
+// Where a field is not asked for none is taken, and the value is zero.
+pub fn number_if(b: &[u8], at: usize, asked: bool) -> TakenNumber
     requires { ⌜ length (now b) ≤ 128 ⌝ }
-    ensures { λ r. ⌜ numberTaken (was b) r ≡ takeNumber (fieldsFrom (was b) at) ⌝ }
+    ensures { λ r. ⌜ numberTaken (was b) r ≡ ifAsked asked 0 takeNumber (fieldsFrom (was b) at) ⌝ }
 {
+    if !asked {
+        return TakenNumber::At(0, at);
+    }
     if b.len() < at {
         return TakenNumber::Missing;
     }
@@ -46,10 +50,13 @@ fn take_number(b: &[u8], at: usize) -> TakenNumber
     }
 }
 
-fn take_count(b: &[u8], at: usize) -> TakenCount
+pub fn count_if(b: &[u8], at: usize, asked: bool) -> TakenCount
     requires { ⌜ length (now b) ≤ 128 ⌝ }
-    ensures { λ r. ⌜ countTaken (was b) r ≡ takeCount (fieldsFrom (was b) at) ⌝ }
+    ensures { λ r. ⌜ countTaken (was b) r ≡ ifAsked asked (pos 0) takeCount (fieldsFrom (was b) at) ⌝ }
 {
+    if !asked {
+        return TakenCount::At(0, at);
+    }
     if b.len() < at {
         return TakenCount::Missing;
     }
@@ -61,81 +68,34 @@ fn take_count(b: &[u8], at: usize) -> TakenCount
     }
 }
 
-fn take_spot(b: &[u8], at: usize) -> TakenSpot
+pub fn handle_if(b: &[u8], at: usize, asked: bool) -> TakenHandle
     requires { ⌜ length (now b) ≤ 128 ⌝ }
-    ensures { λ r. ⌜ spotTaken (was b) r ≡ takeSpot (fieldsFrom (was b) at) ⌝ }
+    ensures { λ r. ⌜ handleTaken (was b) r ≡ ifAsked asked nobody takeHandle (fieldsFrom (was b) at) ⌝ }
 {
-    let first = take_count(b, at);
-    let TakenCount::At(x, next) = first else {
-        return TakenSpot::Missing;
-    };
-    let second = take_count(b, next);
-    let TakenCount::At(y, end) = second else {
-        return TakenSpot::Missing;
-    };
-    TakenSpot::At(Spot { x, y }, end)
-}
-
-fn take_handle(b: &[u8], at: usize) -> TakenHandle
-    requires { ⌜ length (now b) ≤ 128 ⌝ }
-    ensures { λ r. ⌜ handleTaken (was b) r ≡ takeHandle (fieldsFrom (was b) at) ⌝ }
-{
-    let first = take_number(b, at);
+    let first = number_if(b, at, asked);
     let TakenNumber::At(slot, next) = first else {
         return TakenHandle::Missing;
     };
-    let second = take_number(b, next);
+    let second = number_if(b, next, asked);
     let TakenNumber::At(version, end) = second else {
         return TakenHandle::Missing;
     };
     TakenHandle::At(Handle { slot, version }, end)
 }
 
-// Where a field is not asked for none is taken, and the value is zero.
-pub fn number_if(b: &[u8], at: usize, asked: bool) -> TakenNumber
-    requires { ⌜ length (now b) ≤ 128 ⌝ }
-    ensures { λ r. ⌜ numberTaken (was b) r ≡ ifAsked asked 0 takeNumber (fieldsFrom (was b) at) ⌝ }
-{
-    if asked {
-        return take_number(b, at);
-    }
-    TakenNumber::At(0, at)
-}
-
-pub fn count_if(b: &[u8], at: usize, asked: bool) -> TakenCount
-    requires { ⌜ length (now b) ≤ 128 ⌝ }
-    ensures { λ r. ⌜ countTaken (was b) r ≡ ifAsked asked (pos 0) takeCount (fieldsFrom (was b) at) ⌝ }
-{
-    if asked {
-        return take_count(b, at);
-    }
-    TakenCount::At(0, at)
-}
-
-pub fn handle_if(b: &[u8], at: usize, asked: bool) -> TakenHandle
-    requires { ⌜ length (now b) ≤ 128 ⌝ }
-    ensures { λ r. ⌜ handleTaken (was b) r ≡ ifAsked asked nobody takeHandle (fieldsFrom (was b) at) ⌝ }
-{
-    if asked {
-        return take_handle(b, at);
-    }
-    TakenHandle::At(
-        Handle {
-            slot: 0,
-            version: 0,
-        },
-        at,
-    )
-}
-
 fn spot_if(b: &[u8], at: usize, asked: bool) -> TakenSpot
     requires { ⌜ length (now b) ≤ 128 ⌝ }
     ensures { λ r. ⌜ spotTaken (was b) r ≡ ifAsked asked origin takeSpot (fieldsFrom (was b) at) ⌝ }
 {
-    if asked {
-        return take_spot(b, at);
-    }
-    TakenSpot::At(Spot { x: 0, y: 0 }, at)
+    let first = count_if(b, at, asked);
+    let TakenCount::At(x, next) = first else {
+        return TakenSpot::Missing;
+    };
+    let second = count_if(b, next, asked);
+    let TakenCount::At(y, end) = second else {
+        return TakenSpot::Missing;
+    };
+    TakenSpot::At(Spot { x, y }, end)
 }
 
 // So many places, of two.

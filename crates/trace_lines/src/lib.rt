@@ -118,104 +118,43 @@ fn row(
     others
 }
 
-fn point_change(
-    word: &[u8],
-    others: Asks,
-    w: &[u8],
-    k: PointChange,
-    handle: bool,
-    places: u32,
-    radius: bool,
-    number: bool,
-) -> Asks
-    ensures { λ r. ⌜ r ≡ rowSays (Words·row (was w) (Line.PointChange k) handle places radius number) (was word) others ⌝ }
-{
-    row(
-        word,
-        others,
-        w,
-        Line::PointChange(k),
-        handle,
-        places,
-        radius,
-        number,
-    )
-}
-
-fn point_search(
-    word: &[u8],
-    others: Asks,
-    w: &[u8],
-    k: PointSearch,
-    handle: bool,
-    places: u32,
-    radius: bool,
-    number: bool,
-) -> Asks
-    ensures { λ r. ⌜ r ≡ rowSays (Words·row (was w) (Line.PointSearch k) handle places radius number) (was word) others ⌝ }
-{
-    row(
-        word,
-        others,
-        w,
-        Line::PointSearch(k),
-        handle,
-        places,
-        radius,
-        number,
-    )
-}
-
-fn box_change(
-    word: &[u8],
-    others: Asks,
-    w: &[u8],
-    k: BoxChange,
-    handle: bool,
-    places: u32,
-    radius: bool,
-    number: bool,
-) -> Asks
-    ensures { λ r. ⌜ r ≡ rowSays (Words·row (was w) (Line.BoxChange k) handle places radius number) (was word) others ⌝ }
-{
-    row(
-        word,
-        others,
-        w,
-        Line::BoxChange(k),
-        handle,
-        places,
-        radius,
-        number,
-    )
-}
-
 // The table of words, by grid and kind: slot and version, places, radius, number. The last row is looked at first.
 fn point_changes(word: &[u8], t: Asks) -> Asks
     ensures { λ r. ⌜ r ≡ foundIn pointChanges (was word) t ⌝ }
 {
-    let t = point_change(word, t, b"mnt", PointChange::Mnt, false, 0, false, false);
-    let t = point_change(word, t, b"now", PointChange::Now, true, 0, false, false);
-    let t = point_change(word, t, b"rem", PointChange::Rem, true, 0, false, false);
-    let t = point_change(word, t, b"pos", PointChange::Pos, true, 1, false, false);
-    point_change(word, t, b"ins", PointChange::Ins, false, 1, false, true)
+    let k = Line::PointChange(PointChange::Mnt);
+    let t = row(word, t, b"mnt", k, false, 0, false, false);
+    let k = Line::PointChange(PointChange::Now);
+    let t = row(word, t, b"now", k, true, 0, false, false);
+    let k = Line::PointChange(PointChange::Rem);
+    let t = row(word, t, b"rem", k, true, 0, false, false);
+    let k = Line::PointChange(PointChange::Pos);
+    let t = row(word, t, b"pos", k, true, 1, false, false);
+    let k = Line::PointChange(PointChange::Ins);
+    row(word, t, b"ins", k, false, 1, false, true)
 }
 
 fn point_searches(word: &[u8], t: Asks) -> Asks
     ensures { λ r. ⌜ r ≡ foundIn pointSearches (was word) t ⌝ }
 {
-    let t = point_search(word, t, b"cel", PointSearch::Cel, false, 2, false, false);
-    let t = point_search(word, t, b"rec", PointSearch::Rec, false, 2, false, false);
-    point_search(word, t, b"cir", PointSearch::Cir, false, 1, true, false)
+    let k = Line::PointSearch(PointSearch::Cel);
+    let t = row(word, t, b"cel", k, false, 2, false, false);
+    let k = Line::PointSearch(PointSearch::Rec);
+    let t = row(word, t, b"rec", k, false, 2, false, false);
+    let k = Line::PointSearch(PointSearch::Cir);
+    row(word, t, b"cir", k, false, 1, true, false)
 }
 
 fn box_lines(word: &[u8], t: Asks) -> Asks
     ensures { λ r. ⌜ r ≡ foundIn boxLines (was word) t ⌝ }
 {
     let t = row(word, t, b"bqry", Line::BoxSearch, false, 2, false, false);
-    let t = box_change(word, t, b"brem", BoxChange::Brem, true, 0, false, false);
-    let t = box_change(word, t, b"bset", BoxChange::Bset, true, 2, false, false);
-    box_change(word, t, b"bin", BoxChange::Bin, false, 2, false, true)
+    let k = Line::BoxChange(BoxChange::Brem);
+    let t = row(word, t, b"brem", k, true, 0, false, false);
+    let k = Line::BoxChange(BoxChange::Bset);
+    let t = row(word, t, b"bset", k, true, 2, false, false);
+    let k = Line::BoxChange(BoxChange::Bin);
+    row(word, t, b"bin", k, false, 2, false, true)
 }
 
 // What a word asks for; any other word is unreadable and asks for nothing.

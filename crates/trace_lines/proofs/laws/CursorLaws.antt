@@ -87,6 +87,10 @@ module _ (b : List ℕ) (at : ℕ) where
       ap (λ (t : Bool). pick t (fieldsOf (drop at b)) []) (le-leb at (length b) h) ∙
       (first-field (drop at b) ∙ (λ z. part b at (untilComma (drop at b)) h z ∷ behind-at b at (untilComma (drop at b)) h z))
 
+  -- with its end at hand
+  pub field-from : at ≤ length b → {end : ℕ} → end ≡ endFrom b at → fieldsFrom b at ≡ slice at end b ∷ fieldsFrom b (end + 1)
+  field-from h e = rw e (field-at h)
+
   pub no-field : length b < at → fieldsFrom b at ≡ []
   unfolding fieldsFrom
   no-field h = ap (λ (t : Bool). pick t (fieldsOf (drop at b)) []) (lt-leb at (length b) h)

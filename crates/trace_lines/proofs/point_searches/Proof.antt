@@ -1,11 +1,7 @@
 -- `trace_lines::point_searches` meets its contract, row by row. Assumes nothing.
 use borrow.Author.Needs.{needs}
-use Rattle.trace_lines.proofs.Shared.{then-row}
 use Rattle.trace_lines.proofs.point_searches.Statement.{statement}
 use Rattle.trace_lines.proofs.point_searches.Tie as tie
-
-returns : tie.Need-returns
-returns c = then-row _ _ (c .point-search3 .ensures) (then-row _ _ (c .before .before .point-search2 .ensures) (c .before .before .before .before .point-search .ensures))
 
 pub point-searches-spec : {M : Type 1} → statement M
 point-searches-spec =
@@ -17,4 +13,8 @@ point-searches-spec =
     (λ c κs. search needs)
     (λ c. search needs)
     (λ c κs. search needs)
-    returns)
+    (λ c. rw (
+      c .row3 .ensures,
+      c .before .before .row2 .ensures,
+      c .before .before .before .before .row .ensures,
+    )))

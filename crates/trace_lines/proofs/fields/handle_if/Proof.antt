@@ -1,17 +1,26 @@
 -- `trace_lines::fields::handle_if` meets its contract. Assumes nothing.
-use mathlib.Core.Path.{_∙_}
+use Rattle.trace_lines.proofs.laws.TakenLaws.{if-both}
+use Rattle.trace_lines.specs.Meaning.Taken.{handleOf, takeNumber}
 use borrow.Author.Needs.{needs}
-use Rattle.trace_lines.specs.Meaning.Taken.{takeHandle, nobody}
-use Rattle.trace_lines.specs.Inner.Cursor.{fieldsFrom}
-use Rattle.trace_lines.proofs.Shared.{if-asked, not-asked}
 use Rattle.trace_lines.proofs.fields.handle_if.Statement.{statement}
 use Rattle.trace_lines.proofs.fields.handle_if.Tie as tie
 
-returns : tie.Need-returns
-returns c = let a = c .before .before .before .args in c .take-handle .ensures ∙ if-asked nobody takeHandle (fieldsFrom (a .b .now) (a .at)) (c .before .if1 .taken)
-
-returns-2 : tie.Need-returns-2
-returns-2 c = let a = c .before .before .args in not-asked nobody takeHandle (fieldsFrom (a .b .now) (a .at)) (c .if1 .left)
-
 pub handle-if-spec : {M : Type 1} → statement M
-handle-if-spec = tie.close (tie.spec (λ c κs. search needs) returns returns-2)
+handle-if-spec =
+    tie.close
+    (tie.spec
+    (λ c κs. search needs)
+    (λ c. search needs)
+    (λ c. search needs)
+    (λ c. rw (if-both handleOf 0 0 takeNumber takeNumber, ← (c .before .before .number-if .ensures), c .enum-told .given .1))
+    (λ c κs. search needs)
+    (λ c. search needs)
+    (λ c. search needs)
+    (λ c.
+    let m = c .before .before in
+    let k = m .before .before in
+    rw (if-both handleOf 0 0 takeNumber takeNumber, ← (k .before .before .number-if .ensures), k .first .given .1, ← (m .number-if2 .ensures), c .enum-told2 .given .1))
+    (λ c.
+    let m = c .before .before .before in
+    let k = m .before .before in
+    rw (if-both handleOf 0 0 takeNumber takeNumber, ← (k .before .before .number-if .ensures), k .first .given .1, ← (m .number-if2 .ensures), c .before .second .given .1)))

@@ -1,17 +1,29 @@
 -- `trace_lines::fields::number_if` meets its contract. Assumes nothing.
-use mathlib.Core.Path.{_∙_}
+use native.Mathlib.Omega.{arith}
+use borrow.Author.Tests.{not-true, not-false}
+use Rattle.trace_lines.proofs.laws.CursorLaws.{end-within, field-from, no-field}
 use borrow.Author.Needs.{needs}
-use Rattle.trace_lines.specs.Meaning.Taken.{takeNumber}
-use Rattle.trace_lines.specs.Inner.Cursor.{fieldsFrom}
-use Rattle.trace_lines.proofs.Shared.{if-asked, not-asked}
 use Rattle.trace_lines.proofs.fields.number_if.Statement.{statement}
 use Rattle.trace_lines.proofs.fields.number_if.Tie as tie
 
-returns : tie.Need-returns
-returns c = let a = c .before .before .before .args in c .take-number .ensures ∙ if-asked 0 takeNumber (fieldsFrom (a .b .now) (a .at)) (c .before .if1 .taken)
-
-returns-2 : tie.Need-returns-2
-returns-2 c = let a = c .before .before .args in not-asked 0 takeNumber (fieldsFrom (a .b .now) (a .at)) (c .if1 .left)
-
 pub number-if-spec : {M : Type 1} → statement M
-number-if-spec = tie.close (tie.spec (λ c κs. search needs) returns returns-2)
+number-if-spec =
+    tie.close
+    (tie.spec
+    (λ c. let a = c .before .before .args in rw (not-true (a .asked) (c .if1 .taken)))
+    (λ c. let a = c .before .before .before .args in rw (not-false (a .asked) (c .before .if1 .left), no-field (a .b .now) (a .at) (c .if2 .taken)))
+    (λ c κs. search needs)
+    (λ c κs. let a = c .before .before .before .before .args in omega (arith, c .field-end .ensures, end-within (a .b .now) (a .at) (c .before .if2 .left)))
+    (λ c. search needs)
+    (λ c. let f = c .before .before .before .before in let a = f .before .before .before .before .args in omega (arith, f .field-end .ensures, end-within (a .b .now) (a .at) (f .before .if2 .left)))
+    (λ c. search needs)
+    (λ c.
+    let f = c .before .before .before .before in
+    let a = f .before .before .before .before .args in
+    let field = field-from (a .b .now) (a .at) (f .before .if2 .left) (f .field-end .ensures) in
+    rw (not-false (a .asked) (f .before .before .if1 .left), field, ← (c .before .before .before .read-number .ensures), c .before .n .given .1))
+    (λ c.
+    let f = c .before .before .before in
+    let a = f .before .before .before .before .args in
+    let field = field-from (a .b .now) (a .at) (f .before .if2 .left) (f .field-end .ensures) in
+    rw (not-false (a .asked) (f .before .before .if1 .left), field, ← (c .before .before .read-number .ensures), c .enum-told .given .1)))

@@ -1,17 +1,36 @@
 -- `trace_lines::fields::spot_if` meets its contract. Assumes nothing.
-use mathlib.Core.Path.{_∙_}
+use lib.IntN.{pos}
+use mir.Facts.{toZ-ofZ}
+use Rattle.trace_lines.proofs.laws.TakenLaws.{if-both}
+use Rattle.trace_lines.specs.Meaning.Taken.{spotOf, takeCount}
 use borrow.Author.Needs.{needs}
-use Rattle.trace_lines.specs.Meaning.Taken.{takeSpot, origin}
-use Rattle.trace_lines.specs.Inner.Cursor.{fieldsFrom}
-use Rattle.trace_lines.proofs.Shared.{if-asked, not-asked}
 use Rattle.trace_lines.proofs.fields.spot_if.Statement.{statement}
 use Rattle.trace_lines.proofs.fields.spot_if.Tie as tie
 
-returns : tie.Need-returns
-returns c = let a = c .before .before .before .args in c .take-spot .ensures ∙ if-asked origin takeSpot (fieldsFrom (a .b .now) (a .at)) (c .before .if1 .taken)
-
-returns-2 : tie.Need-returns-2
-returns-2 c = let a = c .before .before .args in not-asked origin takeSpot (fieldsFrom (a .b .now) (a .at)) (c .if1 .left)
-
 pub spot-if-spec : {M : Type 1} → statement M
-spot-if-spec = tie.close (tie.spec (λ c κs. search needs) returns returns-2)
+spot-if-spec =
+    tie.close
+    (tie.spec
+    (λ c κs. search needs)
+    (λ c. search needs)
+    (λ c. search needs)
+    (λ c. rw (if-both spotOf (pos 0) (pos 0) takeCount takeCount, ← (c .before .before .count-if .ensures), c .enum-told .given .1))
+    (λ c κs. search needs)
+    (λ c. search needs)
+    (λ c. search needs)
+    (λ c.
+    let m = c .before .before in
+    let k = m .before .before in
+    rw (if-both spotOf (pos 0) (pos 0) takeCount takeCount, ← (k .before .before .count-if .ensures), k .first .given .1, ← (m .count-if2 .ensures), c .enum-told2 .given .1))
+    (λ c.
+    let m = c .before .before .before in
+    let k = m .before .before in
+    rw (
+      toZ-ofZ (record { sfits = m .before .known-told .given .0 .1 }),
+      toZ-ofZ (record { sfits = c .known-told2 .given .0 .1 }),
+      if-both spotOf (pos 0) (pos 0) takeCount takeCount,
+      ← (k .before .before .count-if .ensures),
+      k .first .given .1,
+      ← (m .count-if2 .ensures),
+      c .before .second .given .1,
+    )))
