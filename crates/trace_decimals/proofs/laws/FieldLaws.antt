@@ -7,7 +7,7 @@ use mathlib.Core.Logic.{⊎-elim}
 use native.Mathlib.Omega.{arith}
 use lib.Dec.{leb, eqb}
 use lib.ListN.{getD}
-use borrow.Author.Tests.{leb-true, eqb-false, le-leb, lt-leb, ne-eqb}
+use borrow.Author.Tests.{leb-true, eqb-false, le-leb, ne-eqb}
 use Rattle.basics.specs.Meaning.Refusals.{pick}
 use Rattle.basics.proofs.laws.Says.{d-lt}
 use Rattle.trace_decimals.specs.declared.Number.the-variants.{Read, Unreadable}
@@ -16,22 +16,9 @@ use Rattle.trace_decimals.proofs.laws.TextLaws.{one-digit, last-digit, 
 use Rattle.trace_decimals.specs.Meaning.Fields.{more, digitsFrom, upTo, largest, numberOf}
 
 -- ---- one byte more
-module _ (most v c : ℕ) (l : List ℕ) where
-  pub takes : 48 ≤ c → c ≤ 57 → more v c ≤ most → digitsFrom most v (c ∷ l) ≡ digitsFrom most (more v c) l
-  unfolding digitsFrom
-  takes h k m = simp (le-leb 48 c h, le-leb c 57 k, le-leb (more v c) most m)
-
-  pub refuses-low : c < 48 → digitsFrom most v (c ∷ l) ≡ Unreadable
-  unfolding digitsFrom
-  refuses-low h = simp (lt-leb 48 c h)
-
-  pub refuses-high : 57 < c → digitsFrom most v (c ∷ l) ≡ Unreadable
-  unfolding digitsFrom
-  refuses-high h = simp (le-leb 48 c (omega arith), lt-leb c 57 h)
-
-  pub refuses-large : 48 ≤ c → c ≤ 57 → most < more v c → digitsFrom most v (c ∷ l) ≡ Unreadable
-  unfolding digitsFrom
-  refuses-large h k m = simp (le-leb 48 c h, le-leb c 57 k, lt-leb (more v c) most m)
+pub takes : (most v c : ℕ) (l : List ℕ) → 48 ≤ c → c ≤ 57 → more v c ≤ most → digitsFrom most v (c ∷ l) ≡ digitsFrom most (more v c) l
+unfolding digitsFrom
+takes most v c l h k m = simp (le-leb 48 c h, le-leb c 57 k, le-leb (more v c) most m)
 
 -- what a byte was that did not make the field unreadable
 pub record Taken (most v c : ℕ) (l : List ℕ) (n : ℕ) : Type 0 where
@@ -132,11 +119,8 @@ first-no-zero most [] h = absurd (omega arith)
 first-no-zero most (c ∷ []) h = refl
 first-no-zero most (c ∷ d ∷ l) h = simp (ne-eqb c 48 (λ e. omega arith))
 
-single-read : (most c : ℕ) → upTo most (c ∷ []) ≡ digitsFrom most 0 (c ∷ [])
-unfolding upTo
-single-read most c = refl
-
 pub up-to-read : (most n : ℕ) → n ≤ most → upTo most (decimal n) ≡ Read n
+unfolding upTo
 up-to-read most n h = ⊎-elim some none (d-lt 0 n)
   where
     some : 0 < n → upTo most (decimal n) ≡ Read n
@@ -145,7 +129,7 @@ up-to-read most n h = ⊎-elim some none (d-lt 0 n)
     none : (0 < n → ⊥) → upTo most (decimal n) ≡ Read n
     none g =
         let e : decimal n ≡ (48 + n) ∷ [] = one-digit n (omega (arith, g)) in
-        ap (upTo most) e ∙ single-read most (48 + n) ∙ ap (digitsFrom most 0) (sym e) ∙ digits-read most n h
+        rw e (rw e at (digits-read most n h))
 
 -- ---- the fields that are numbers
 pub number-text : (l : List ℕ) (n : ℕ) → numberOf l ≡ Read n → (l ≡ decimal n) × (n ≤ 4294967295)

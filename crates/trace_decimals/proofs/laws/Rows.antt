@@ -1,58 +1,23 @@
 -- Worked rows: texts, and fields that read and that do not. Assumes nothing.
 use mathlib.Core.Path.{_≡_, refl}
-use mathlib.Core.List.{[], _∷_}
+use mathlib.Core.List.{[], _∷_, map}
 use lib.IntN.{pos, negsuc}
 use Rattle.trace_decimals.specs.declared.Number.the-variants.{Read, Unreadable}
 use Rattle.trace_decimals.specs.declared.Count.the-variants.{Counted, NoCount}
-use Rattle.trace_decimals.specs.Meaning.Text.{decimal, signedText}
+use Rattle.trace_decimals.specs.Meaning.Text.{signedText}
 use Rattle.trace_decimals.specs.Meaning.Fields.{numberOf, countOf}
 
-zero-text : decimal 0 ≡ 48 ∷ []
-unfolding decimal
-zero-text = refl
-
-largest-text : decimal 4294967295 ≡ 52 ∷ 50 ∷ 57 ∷ 52 ∷ 57 ∷ 54 ∷ 55 ∷ 50 ∷ 57 ∷ 53 ∷ []
-unfolding decimal
-largest-text = refl
-
-farthest-text : signedText (negsuc 1048575) ≡ 45 ∷ 49 ∷ 48 ∷ 52 ∷ 56 ∷ 53 ∷ 55 ∷ 54 ∷ []
+-- 0, the largest number, and the count that is farthest below 0
+texts : map signedText (pos 0 ∷ pos 4294967295 ∷ negsuc 1048575 ∷ []) ≡ (48 ∷ []) ∷ (52 ∷ 50 ∷ 57 ∷ 52 ∷ 57 ∷ 54 ∷ 55 ∷ 50 ∷ 57 ∷ 53 ∷ []) ∷ (45 ∷ 49 ∷ 48 ∷ 52 ∷ 56 ∷ 53 ∷ 55 ∷ 54 ∷ []) ∷ []
 unfolding signedText
-farthest-text = refl
+texts = refl
 
 -- a field of one digit, of none, with a leading zero, with a plus, and one too large
-zero-reads : numberOf (48 ∷ []) ≡ Read 0
+numbers : map numberOf ((48 ∷ []) ∷ [] ∷ (48 ∷ 55 ∷ []) ∷ (43 ∷ 55 ∷ []) ∷ (52 ∷ 50 ∷ 57 ∷ 52 ∷ 57 ∷ 54 ∷ 55 ∷ 50 ∷ 57 ∷ 54 ∷ []) ∷ []) ≡ Read 0 ∷ Unreadable ∷ Unreadable ∷ Unreadable ∷ Unreadable ∷ []
 unfolding numberOf
-zero-reads = refl
-
-nothing : numberOf [] ≡ Unreadable
-unfolding numberOf
-nothing = refl
-
-leading-zero : numberOf (48 ∷ 55 ∷ []) ≡ Unreadable
-unfolding numberOf
-leading-zero = refl
-
-plus : numberOf (43 ∷ 55 ∷ []) ≡ Unreadable
-unfolding numberOf
-plus = refl
-
-too-large : numberOf (52 ∷ 50 ∷ 57 ∷ 52 ∷ 57 ∷ 54 ∷ 55 ∷ 50 ∷ 57 ∷ 54 ∷ []) ≡ Unreadable
-unfolding numberOf
-too-large = refl
+numbers = refl
 
 -- -160; -0, a minus alone, and one past the farthest
-minus-reads : countOf (45 ∷ 49 ∷ 54 ∷ 48 ∷ []) ≡ Counted (negsuc 159)
+counts : map countOf ((45 ∷ 49 ∷ 54 ∷ 48 ∷ []) ∷ (45 ∷ 48 ∷ []) ∷ (45 ∷ []) ∷ (49 ∷ 48 ∷ 52 ∷ 56 ∷ 53 ∷ 55 ∷ 55 ∷ []) ∷ []) ≡ Counted (negsuc 159) ∷ NoCount ∷ NoCount ∷ NoCount ∷ []
 unfolding countOf
-minus-reads = refl
-
-minus-zero : countOf (45 ∷ 48 ∷ []) ≡ NoCount
-unfolding countOf
-minus-zero = refl
-
-minus-alone : countOf (45 ∷ []) ≡ NoCount
-unfolding countOf
-minus-alone = refl
-
-too-far : countOf (49 ∷ 48 ∷ 52 ∷ 56 ∷ 53 ∷ 55 ∷ 55 ∷ []) ≡ NoCount
-unfolding countOf
-too-far = refl
+counts = refl

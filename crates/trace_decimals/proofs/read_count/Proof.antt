@@ -3,28 +3,21 @@ use mathlib.Core.Path.{sym, ap, _∙_, subst}
 use native.Mathlib.Omega.{arith}
 use borrow.Author.Needs.{needs}
 use Rattle.trace_decimals.specs.Inner.Fields.{Short}
-use Rattle.trace_decimals.specs.Meaning.Fields.{plain, negative}
+use Rattle.trace_decimals.specs.Meaning.Fields.{plain, negative, countOf}
 use Rattle.trace_decimals.proofs.laws.CountLaws.{short}
-use Rattle.trace_decimals.proofs.laws.StepLaws.{no-byte, minus, no-minus}
+use Rattle.trace_decimals.proofs.laws.StepLaws.{nothing-left, minus, no-minus}
 use Rattle.trace_decimals.proofs.read_count.Statement.{statement}
 use Rattle.trace_decimals.proofs.read_count.Tie as tie
 
 returns : tie.Need-returns
-returns c =
-    let a = c .before .before .args in
-    no-byte (a .b .now) (a .from) (a .to) (c .if1 .taken)
-
-negative-requires : tie.Need-negative-requires
-negative-requires c κs = subst Short (sym (c .read-up-to .ensures)) (short _)
+unfolding countOf
+returns c = let a = c .before .before .args in rw (nothing-left (a .b .now) (a .from) (a .to) (c .if1 .taken))
 
 returns-2 : tie.Need-returns-2
 returns-2 c =
     let s = c .before .before .before .before .before .before in
     c .negative .ensures ∙ ap negative (c .before .read-up-to .ensures)
     ∙ minus (s .args .b .now) (s .args .from) (s .args .to) (omega arith) (s .pre .1) (c .before .before .if2 .taken)
-
-plain-requires : tie.Need-plain-requires
-plain-requires c κs = subst Short (sym (c .read-up-to2 .ensures)) (short _)
 
 returns-3 : tie.Need-returns-3
 returns-3 c =
@@ -40,8 +33,8 @@ read-count-spec =
     (λ c. search needs)
     (λ c. search needs)
     (λ c κs. search needs)
-    negative-requires
+    (λ c κs. subst Short (sym (c .read-up-to .ensures)) (short _))
     returns-2
     (λ c κs. search needs)
-    plain-requires
+    (λ c κs. subst Short (sym (c .read-up-to2 .ensures)) (short _))
     returns-3)

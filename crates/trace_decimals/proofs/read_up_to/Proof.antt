@@ -4,14 +4,10 @@ use mathlib.Core.Path.{_∙_}
 use mathlib.Core.Logic.{⊎-elim}
 use native.Mathlib.Omega.{arith}
 use borrow.Author.Needs.{needs}
-use Rattle.trace_decimals.proofs.laws.StepLaws.{no-digit, leading-zero, no-leading-zero, last-byte}
+use Rattle.trace_decimals.specs.Meaning.Fields.{upTo}
+use Rattle.trace_decimals.proofs.laws.StepLaws.{nothing-left, leading-zero, no-leading-zero, last-byte}
 use Rattle.trace_decimals.proofs.read_up_to.Statement.{statement}
 use Rattle.trace_decimals.proofs.read_up_to.Tie as tie
-
-returns : tie.Need-returns
-returns c =
-    let a = c .before .before .args in
-    no-digit (a .b .now) (a .most) (a .from) (a .to) (c .if1 .taken)
 
 returns-2 : tie.Need-returns-2
 returns-2 c =
@@ -30,6 +26,13 @@ returns-3 c =
     (c .before .if2 .came)
 
 pub read-up-to-spec : {M : Type 1} → statement M
+unfolding upTo
 read-up-to-spec =
     tie.close
-    (tie.spec returns (λ c. search needs) (λ c. search needs) returns-2 (λ c κs. search needs) returns-3)
+    (tie.spec
+    (λ c. let a = c .before .before .args in rw (nothing-left (a .b .now) (a .from) (a .to) (c .if1 .taken)))
+    (λ c. search needs)
+    (λ c. search needs)
+    returns-2
+    (λ c κs. search needs)
+    returns-3)
