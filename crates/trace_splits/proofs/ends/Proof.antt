@@ -3,8 +3,5 @@ use borrow.Author.Needs.{needs}
 use Rattle.trace_splits.proofs.ends.Statement.{statement}
 use Rattle.trace_splits.proofs.ends.Tie as tie
 
-returns : tie.Need-returns
-returns c = rw (c .if1 .taken)
-
 pub ends-spec : {M : Type 1} → statement M
-ends-spec = tie.close (tie.spec returns (λ c. search needs))
+ends-spec = tie.close (tie.spec (λ c. rw (c .if1 .taken)) (λ c. search needs))

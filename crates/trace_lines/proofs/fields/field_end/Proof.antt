@@ -24,9 +24,6 @@ loop-again c =
     let l = c .before .before .before in
     (omega arith, omega (arith, at-other (l .before .args .b .now) (l .loop .i) (c .before .before .loop-test .taken) (c .if1 .left)))
 
-returns-2 : tie.Need-returns-2 Inv-loop μ-loop
-returns-2 c = omega (arith, at-end (c .before .before .args .b .now) (c .before .loop .i) (c .loop-test .left))
-
 pub field-end-spec : {M : Type 1} → statement M
 field-end-spec =
     tie.close
@@ -39,4 +36,4 @@ field-end-spec =
     (λ c. omega arith)
     (λ c. omega arith)
     loop-again
-    returns-2)
+    (λ c. omega (arith, at-end (c .before .before .args .b .now) (c .before .loop .i) (c .loop-test .left))))

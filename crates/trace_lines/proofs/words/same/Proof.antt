@@ -19,9 +19,6 @@ returns c =
     let a = c .before .args in
     sym (other-length (a .word .now) (a .w .now) (c .if1 .taken))
 
-loop-holds : tie.Need-loop-holds Inv-loop μ-loop
-loop-holds c = (omega arith, c .if1 .left, below-none _)
-
 returns-2 : tie.Need-returns-2 Inv-loop μ-loop
 returns-2 c =
     let l = c .before .before .before .before in
@@ -46,7 +43,7 @@ same-spec =
     Inv-loop
     μ-loop
     returns
-    loop-holds
+    (λ c. (omega arith, c .if1 .left, below-none _))
     (λ c. omega arith)
     (λ c. omega arith)
     returns-2
