@@ -4,11 +4,9 @@ use Rattle.trace_telling.proofs.laws.Tells.{told-done, told-refused}
 use Rattle.trace_telling.proofs.boxes.Statement.{statement}
 use Rattle.trace_telling.proofs.boxes.Tie as tie
 
-returns : tie.Need-returns
-returns c = let a = c .before .args in told-done (a .answer) (Boxes (a .count)) (c .if1 .taken)
-
-returns-2 : tie.Need-returns-2
-returns-2 c = let a = c .before .args in told-refused (a .answer) (Boxes (a .count)) (c .if1 .left)
-
 pub boxes-spec : {M : Type 1} → statement M
-boxes-spec = tie.close (tie.spec returns returns-2)
+boxes-spec =
+    tie.close
+    (tie.spec
+    (λ c. let a = c .before .args in told-done (a .answer) (Boxes (a .count)) (c .if1 .taken))
+    (λ c. let a = c .before .args in told-refused (a .answer) (Boxes (a .count)) (c .if1 .left)))

@@ -3,8 +3,10 @@ use borrow.Author.Needs.{needs}
 use Rattle.trace_telling.proofs.corners.Statement.{statement}
 use Rattle.trace_telling.proofs.corners.Tie as tie
 
-returns : tie.Need-returns
-returns c = λ z. record { ll = c .before .place .ensures z; ur = c .place2 .ensures z }
-
 pub corners-spec : {M : Type 1} → statement M
-corners-spec = tie.close (tie.spec (λ c κs. search needs) (λ c κs. search needs) returns)
+corners-spec =
+    tie.close
+    (tie.spec
+    (λ c κs. search needs)
+    (λ c κs. search needs)
+    (λ c. λ z. record { ll = c .before .place .ensures z; ur = c .place2 .ensures z }))

@@ -4,11 +4,9 @@ use Rattle.trace_telling.proofs.laws.Tells.{told-done, told-refused}
 use Rattle.trace_telling.proofs.one.Statement.{statement}
 use Rattle.trace_telling.proofs.one.Tie as tie
 
-returns : tie.Need-returns
-returns c = let a = c .before .args in told-done (a .answer) (One (a .x)) (c .if1 .taken)
-
-returns-2 : tie.Need-returns-2
-returns-2 c = let a = c .before .args in told-refused (a .answer) (One (a .x)) (c .if1 .left)
-
 pub one-spec : {M : Type 1} → statement M
-one-spec = tie.close (tie.spec returns returns-2)
+one-spec =
+    tie.close
+    (tie.spec
+    (λ c. let a = c .before .args in told-done (a .answer) (One (a .x)) (c .if1 .taken))
+    (λ c. let a = c .before .args in told-refused (a .answer) (One (a .x)) (c .if1 .left)))
