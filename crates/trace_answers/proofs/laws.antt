@@ -1,4 +1,3 @@
 -- Laws, and what the proofs share.
 pub mod ToldLaws
-pub mod AnswerLaws
 pub mod Cell

@@ -5,8 +5,12 @@ ghost use Rattle.trace_telling.specs.Meaning.Tells.{tells, doneOr};
 ghost use Rattle.trace_answers.specs.Meaning.Cell.{Builds};
 ghost use Rattle.trace_answers.specs.Inner.Answer.{Answers};
 use slots::Row;
+use trace_boxes::change_boxes;
+use trace_boxes::search_boxes;
 use trace_lines::Line;
 use trace_lines::Request;
+use trace_points::change_points;
+use trace_points::search_points;
 use trace_printing::Said;
 
 // The first refusal of two, if there is one.
@@ -64,9 +68,6 @@ pub fn answer(
     ensures { λ said. ⌜ Answers r said nums reals ints map pool spots cells bnums breals bmap bpool handles places corners objs ⌝ }
 {
     let line = r.line;
-    let h = r.h;
-    let p = r.p;
-    let q = r.q;
     match line {
         Line::Cell => cell(
             nums,
@@ -83,9 +84,9 @@ pub fn answer(
             r.n,
         ),
         Line::PointChange(k) => {
-            trace_points::change_points(nums, reals, ints, map, pool, spots, cells, k, h, p, r.n)
+            change_points(nums, reals, ints, map, pool, spots, cells, k, r.h, r.p, r.n)
         }
-        Line::PointSearch(s) => trace_points::search_points(
+        Line::PointSearch(s) => search_points(
             nums,
             reals,
             ints,
@@ -94,17 +95,15 @@ pub fn answer(
             spots,
             cells,
             s,
-            p,
-            q,
+            r.p,
+            r.q,
             r.far,
             handles,
             places,
         ),
-        Line::BoxChange(k) => {
-            trace_boxes::change_boxes(bnums, breals, bmap, bpool, k, h, p, q, r.n)
-        }
+        Line::BoxChange(k) => change_boxes(bnums, breals, bmap, bpool, k, r.h, r.p, r.q, r.n),
         Line::BoxSearch => {
-            trace_boxes::search_boxes(bnums, breals, bmap, bpool, p, q, handles, corners, objs)
+            search_boxes(bnums, breals, bmap, bpool, r.p, r.q, handles, corners, objs)
         }
         Line::Unreadable => Said::Refused(10),
     }

@@ -6,11 +6,10 @@ use borrow.Author.Needs.{needs}
 use Rattle.trace_answers.proofs.done_both.Statement.{statement}
 use Rattle.trace_answers.proofs.done_both.Tie as tie
 
-returns : tie.Need-returns
-returns c = let a = c .before .before .args in c .done .ensures ∙ told-done (a .a) (doneOr (a .b)) (c .before .if1 .taken)
-
-returns-2 : tie.Need-returns-2
-returns-2 c = let a = c .before .args in told-refused (a .a) (doneOr (a .b)) (c .if1 .left)
-
 pub done-both-spec : {M : Type 1} → statement M
-done-both-spec = tie.close (tie.spec (λ c κs. search needs) returns returns-2)
+done-both-spec =
+    tie.close
+    (tie.spec
+    (λ c κs. search needs)
+    (λ c. let a = c .before .before .args in c .done .ensures ∙ told-done (a .a) (doneOr (a .b)) (c .before .if1 .taken))
+    (λ c. let a = c .before .args in told-refused (a .a) (doneOr (a .b)) (c .if1 .left)))
