@@ -14,9 +14,6 @@ use Rattle.trace_replay.proofs.laws.ReplayLaws.{can-tell, is-replayed}
 use Rattle.trace_replay.proofs.answering.answer_record.Statement.{statement}
 use Rattle.trace_replay.proofs.answering.answer_record.Tie as tie
 
-read-requires : tie.Need-read-requires
-read-requires c κs = tt
-
 answer-requires : tie.Need-answer-requires
 answer-requires c κs =
     let r = c .before .before .before .before .before .before .before .before .before .before .before .before .before .before .before in
@@ -76,9 +73,6 @@ same-length-10 c = c .before .before .before .before .before .before .before .be
 same-length-11 : tie.Need-same-length-11
 same-length-11 c = c .before .before .before .before .before .before .before .before .before .before .before .before .before .before .before .before .before .before .before .before .before .before .before .before .answer .kept .1 .1 .1 .1 .1 .1 .1 .1 .1 .1 .0
 
-same-length-12 : tie.Need-same-length-12
-same-length-12 c = c .before .before .put-record .kept .0
-
 returns : tie.Need-returns
 unfolding ofBits
 returns c =
@@ -92,7 +86,7 @@ pub answer-record-spec : {M : Type 1} → statement M
 answer-record-spec =
     tie.close
     (tie.spec
-    read-requires
+    (λ c κs. tt)
     (λ c. search needs)
     (λ c. search needs)
     (λ c. search needs)
@@ -113,5 +107,5 @@ answer-record-spec =
     same-length-9
     same-length-10
     same-length-11
-    same-length-12
+    (λ c. c .before .before .put-record .kept .0)
     returns)

@@ -17,18 +17,6 @@ Inv-loop line₀ block from so-far₀ at₀ line so-far at =
 abbrev μ-loop : tie.MeasureT-loop
 μ-loop line₀ block from so-far₀ at₀ line so-far at = length block - at
 
-loop-holds : tie.Need-loop-holds Inv-loop μ-loop
-loop-holds c = (refl, refl)
-
-shared-slice-read-step : tie.Need-shared-slice-read-step Inv-loop μ-loop
-shared-slice-read-step c = omega arith
-
-step-requires : tie.Need-step-requires Inv-loop μ-loop
-step-requires c κs = tt
-
-add-at : tie.Need-add-at Inv-loop μ-loop
-add-at c = omega arith
-
 same-length : tie.Need-same-length Inv-loop μ-loop
 same-length c =
     let n = c .before .before .before .before in
@@ -44,9 +32,6 @@ returns c =
     a-record (length (a .line .now)) (sofar (l .loop .line) (l .loop .so-far)) (a .block .now) (l .loop .at) (omega arith) (n .step .last .0) (n .step .result)
     (n .step .ensures ∙ ap (λ (k : ℕ). feed k (sofar (l .loop .line) (l .loop .so-far)) (getD (a .block .now) (l .loop .at) 0)) (l .loop .inv .0)) (c .if1 .taken))
 
-loop-less : tie.Need-loop-less Inv-loop μ-loop
-loop-less c = omega arith
-
 loop-again : tie.Need-loop-again Inv-loop μ-loop
 loop-again c =
     let n = c .before .before .before .before in
@@ -58,9 +43,6 @@ loop-again c =
           (n .step .ensures ∙ ap (λ (k : ℕ). feed k (sofar (l .loop .line) (l .loop .so-far)) (getD (a .block .now) (l .loop .at) 0)) (l .loop .inv .0)) (c .if1 .left),
     )
 
-same-length-2 : tie.Need-same-length-2 Inv-loop μ-loop
-same-length-2 c = c .before .loop .inv .0
-
 returns-2 : tie.Need-returns-2 Inv-loop μ-loop
 returns-2 c =
     let l = c .before in
@@ -68,4 +50,18 @@ returns-2 c =
     sym (l .loop .inv .1 ∙ at-end (length (a .line .now)) (sofar (l .loop .line) (l .loop .so-far)) (a .block .now) (l .loop .at) (omega arith))
 
 pub next-record-spec : {M : Type 1} → statement M
-next-record-spec = tie.close (tie.spec Inv-loop μ-loop loop-holds shared-slice-read-step step-requires add-at same-length returns loop-less loop-again same-length-2 returns-2)
+next-record-spec =
+    tie.close
+    (tie.spec
+    Inv-loop
+    μ-loop
+    (λ c. (refl, refl))
+    (λ c. omega arith)
+    (λ c κs. tt)
+    (λ c. omega arith)
+    same-length
+    returns
+    (λ c. omega arith)
+    loop-again
+    (λ c. c .before .loop .inv .0)
+    returns-2)
