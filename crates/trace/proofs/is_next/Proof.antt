@@ -4,8 +4,5 @@ use Rattle.basics.proofs.laws.Says.{apart}
 use Rattle.trace.proofs.is_next.Statement.{statement}
 use Rattle.trace.proofs.is_next.Tie as tie
 
-returns-2 : tie.Need-returns-2
-returns-2 c = λ e. absurd (apart e)
-
 pub is-next-spec : {M : Type 1} → statement M
-is-next-spec = tie.close (tie.spec (λ c. search needs) returns-2)
+is-next-spec = tie.close (tie.spec (λ c. search needs) (λ c. λ e. absurd (apart e)))

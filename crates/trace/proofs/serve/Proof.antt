@@ -15,24 +15,6 @@ Inv-loop nums₀ reals₀ ints₀ map₀ pool₀ spots₀ cells₀ bnums₀ brea
 abbrev μ-loop : tie.MeasureT-loop
 μ-loop nums₀ reals₀ ints₀ map₀ pool₀ spots₀ cells₀ bnums₀ breals₀ bmap₀ bpool₀ line₀ block₀ out₀ p₀ turns₀ nums reals ints map pool spots cells bnums breals bmap bpool line block out p turns = turns
 
-begin-requires : tie.Need-begin-requires Inv-loop μ-loop
-begin-requires c κs = tt
-
-advance-requires : tie.Need-advance-requires Inv-loop μ-loop
-advance-requires c κs = ready-fits (c .begin .result) (c .begin .ensures)
-
-loop-holds : tie.Need-loop-holds Inv-loop μ-loop
-loop-holds c = (c .advance .ensures, refl, refl, refl, refl, refl, refl, refl, refl, refl, refl, refl)
-
-is-next-requires : tie.Need-is-next-requires Inv-loop μ-loop
-is-next-requires c κs = tt
-
-answer-requires : tie.Need-answer-requires Inv-loop μ-loop
-answer-requires c κs = c .before .before .before .before .before .before .before .before .before .before .before .before .before .before .before .loop .inv .0
-
-advance-requires-2 : tie.Need-advance-requires-2 Inv-loop μ-loop
-advance-requires-2 c κs = c .before .before .before .before .before .before .before .before .before .before .before .before .before .before .before .before .answer .ensures
-
 sub-turns : tie.Need-sub-turns Inv-loop μ-loop
 sub-turns c = c .before .before .before .before .before .before .before .before .before .before .before .before .before .before .before .before .before .before .before .before .before .before .before .before .before .before .before .before .before .before .before .before .is-next .ensures (c .before .before .before .before .before .before .before .before .before .before .before .before .before .before .before .before .before .before .before .before .before .before .before .before .before .before .before .before .before .before .before .if1 .taken)
 
@@ -59,66 +41,30 @@ loop-again c =
       a .answer .kept .1 .1 .1 .1 .1 .1 .1 .1 .1 .1 .0 ∙ l .loop .inv .11,
     )
 
-same-length : tie.Need-same-length Inv-loop μ-loop
-same-length c = c .before .before .loop .inv .1
-
-same-length-2 : tie.Need-same-length-2 Inv-loop μ-loop
-same-length-2 c = c .before .before .loop .inv .2
-
-same-length-3 : tie.Need-same-length-3 Inv-loop μ-loop
-same-length-3 c = c .before .before .loop .inv .3
-
-same-length-4 : tie.Need-same-length-4 Inv-loop μ-loop
-same-length-4 c = c .before .before .loop .inv .4
-
-same-length-5 : tie.Need-same-length-5 Inv-loop μ-loop
-same-length-5 c = c .before .before .loop .inv .5
-
-same-length-6 : tie.Need-same-length-6 Inv-loop μ-loop
-same-length-6 c = c .before .before .loop .inv .6
-
-same-length-7 : tie.Need-same-length-7 Inv-loop μ-loop
-same-length-7 c = c .before .before .loop .inv .7
-
-same-length-8 : tie.Need-same-length-8 Inv-loop μ-loop
-same-length-8 c = c .before .before .loop .inv .8
-
-same-length-9 : tie.Need-same-length-9 Inv-loop μ-loop
-same-length-9 c = c .before .before .loop .inv .9
-
-same-length-10 : tie.Need-same-length-10 Inv-loop μ-loop
-same-length-10 c = c .before .before .loop .inv .10
-
-same-length-11 : tie.Need-same-length-11 Inv-loop μ-loop
-same-length-11 c = c .before .before .loop .inv .11
-
-returns : tie.Need-returns Inv-loop μ-loop
-returns c = tt
-
 pub serve-spec : {M : Type 1} → statement M
 serve-spec =
     tie.close
     (tie.spec
     Inv-loop
     μ-loop
-    begin-requires
-    advance-requires
-    loop-holds
-    is-next-requires
-    answer-requires
-    advance-requires-2
+    (λ c κs. tt)
+    (λ c κs. ready-fits (c .begin .result) (c .begin .ensures))
+    (λ c. (c .advance .ensures, refl, refl, refl, refl, refl, refl, refl, refl, refl, refl, refl))
+    (λ c κs. tt)
+    (λ c κs. c .before .before .before .before .before .before .before .before .before .before .before .before .before .before .before .loop .inv .0)
+    (λ c κs. c .before .before .before .before .before .before .before .before .before .before .before .before .before .before .before .before .answer .ensures)
     sub-turns
     loop-less
     loop-again
-    same-length
-    same-length-2
-    same-length-3
-    same-length-4
-    same-length-5
-    same-length-6
-    same-length-7
-    same-length-8
-    same-length-9
-    same-length-10
-    same-length-11
-    returns)
+    (λ c. c .before .before .loop .inv .1)
+    (λ c. c .before .before .loop .inv .2)
+    (λ c. c .before .before .loop .inv .3)
+    (λ c. c .before .before .loop .inv .4)
+    (λ c. c .before .before .loop .inv .5)
+    (λ c. c .before .before .loop .inv .6)
+    (λ c. c .before .before .loop .inv .7)
+    (λ c. c .before .before .loop .inv .8)
+    (λ c. c .before .before .loop .inv .9)
+    (λ c. c .before .before .loop .inv .10)
+    (λ c. c .before .before .loop .inv .11)
+    (λ c. tt))
