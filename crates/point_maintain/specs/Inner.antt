@@ -2,4 +2,3 @@
 pub mod Closed
 pub mod Kept
 pub mod Settle
-pub mod SettleLaws

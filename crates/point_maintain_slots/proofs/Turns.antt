@@ -20,7 +20,7 @@ use Rattle.point_tables.specs.Meaning.Tables.{Tables, slotsOf, recordOn}
 use Rattle.point_tables.specs.Inner.Count.{isLive}
 use Rattle.point_maintain.specs.Meaning.Walk.{settled, settledBy}
 use Rattle.point_maintain.specs.Inner.Settle.{settledIn, settledAll}
-use Rattle.point_maintain.specs.Inner.SettleLaws.{Shaped}
+use Rattle.point_maintain.specs.Inner.Settle.{Shaped}
 use Rattle.point_maintain.proofs.laws.SettleAllLaws.{in-slots, in-shaped}
 use Rattle.point_maintain.specs.Inner.Closed.{relocatedBelow}
 use Rattle.point_maintain_slots.specs.Inner.Pass.{recordsIn, Slotted, Ready, Room, targetRows, pendingAt, Placed, turned, turnedRows, putAt, Passed}

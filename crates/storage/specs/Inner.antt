@@ -12,4 +12,3 @@ pub mod Store
 pub mod Tables
 pub mod Tail
 pub mod Window
-pub mod WindowLaws

@@ -14,7 +14,7 @@ use Rattle.cells.proofs.laws.Range.{inRange}
 use Rattle.storage.specs.Meaning.Keyed.{All, filter}
 use Rattle.storage.specs.Meaning.Entries.{rowKey}
 use Rattle.storage.proofs.laws.FilterLaws.{filter-all}
-use Rattle.storage.specs.Inner.WindowLaws.{windowOf}
+use Rattle.storage.specs.Inner.Window.{windowOf}
 use Rattle.storage.proofs.laws.WindowLaws.{range-fits, window-cell}
 use Rattle.box_tables.specs.Meaning.Tables.{Tables, sizeOf, slotsOf, entriesIn, aabbOn, lowCell, highCell, covers, itemOn, slotOf}
 use Rattle.box_tables.specs.Meaning.Holds.{Holds}

@@ -21,7 +21,7 @@ use Rattle.storage.specs.Meaning.Entries.{rowKey}
 use Rattle.storage.proofs.laws.PackedLaws.{first-all}
 use Rattle.storage.proofs.laws.FilterLaws.{all-any, filter-same}
 use Rattle.storage.specs.Inner.Window.{inWindow}
-use Rattle.storage.specs.Inner.WindowLaws.{windowOf}
+use Rattle.storage.specs.Inner.Window.{windowOf}
 use Rattle.storage.proofs.laws.WindowLaws.{range-fits}
 use Rattle.storage.proofs.laws.WalkLaws.{walked-window}
 use Rattle.storage.proofs.laws.RunStepLaws.{key-windows}

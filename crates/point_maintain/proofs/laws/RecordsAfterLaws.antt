@@ -23,7 +23,7 @@ use Rattle.point_tables.specs.Meaning.Holds.{RecordHolds, Holds}
 use Rattle.point_tables.specs.Inner.Count.{isLive}
 use Rattle.point_maintain.specs.Meaning.Walk.{recordTaking, settledBy, settled}
 use Rattle.point_maintain.proofs.laws.SettleForm.{Rows, rowsAt, recordIn, rowsBy, rowsAfter, settledAs, settledRecord, rows-record}
-use Rattle.point_maintain.specs.Inner.SettleLaws.{Shaped}
+use Rattle.point_maintain.specs.Inner.Settle.{Shaped}
 use Rattle.point_maintain.proofs.laws.SettleLaws.{sized-shaped}
 use Rattle.point_maintain.specs.Inner.Settle.{settledIn, settledAll}
 use Rattle.point_maintain.proofs.laws.SettleAllLaws.{in-slots, in-shaped, in-head, in-rows-past, in-rows}

@@ -18,7 +18,7 @@ use Rattle.point_records.specs.declared.State.the-variants.{Unchanged}
 use Rattle.point_tables.specs.Meaning.Tables.{Tables, slotsOf, recordOn}
 use Rattle.point_maintain.specs.Meaning.Walk.{settled}
 use Rattle.point_maintain.proofs.laws.SettleForm.{Rows, rowsAt, recordIn, rowsAfter}
-use Rattle.point_maintain.specs.Inner.SettleLaws.{Shaped}
+use Rattle.point_maintain.specs.Inner.Settle.{Shaped}
 use Rattle.point_maintain.proofs.laws.SettleLaws.{settled-slots, settled-shaped, settled-head, settled-rows-other, settled-rows-same, settled-calm}
 use Rattle.point_maintain.proofs.laws.SettleLaws.{settled-swap}
 use Rattle.point_maintain.proofs.laws.Settle.{among, Distinct, picked, settledOver}

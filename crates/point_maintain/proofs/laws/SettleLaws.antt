@@ -16,7 +16,7 @@ use Rattle.point_tables.specs.Meaning.Tables.{Tables, sizeOf, slotsOf, recordOn
 use Rattle.point_maintain.specs.Meaning.Walk.{settled}
 use Rattle.point_maintain.proofs.laws.GivenBackLaws.{given-back-swap}
 use Rattle.point_maintain.proofs.laws.SettleForm.{Rows, rowsAt, recordIn, rowsAfter, comesBack, settledRecord, placedRows, settled-form, rows-record}
-use Rattle.point_maintain.specs.Inner.SettleLaws.{Shaped}
+use Rattle.point_maintain.specs.Inner.Settle.{Shaped}
 
 pub sized-shaped : (t : Tables) → Sized t → Shaped t
 sized-shaped t z = record { of-reals = z .of-reals; of-ints = z .of-ints; of-map = z .of-map }

@@ -6,6 +6,10 @@ use Rattle.basics.specs.Meaning.Refusals.{pick}
 use Rattle.point_tables.specs.Meaning.Tables.{Tables, slotsOf}
 use Rattle.point_tables.specs.Inner.Count.{isLive}
 use Rattle.point_maintain.specs.Meaning.Walk.{settled}
+use Prim.Native.Nat.{_+_}
+use mathlib.Core.Path.{_≡_}
+use lib.ListN.{length}
+use Rattle.slots.specs.Meaning.Map.{head, wordsFor}
 
 unfoldable pub settledIn : (ℕ → Bool) → ℕ → Tables → Tables
 settledIn test zero t = t
@@ -14,3 +18,9 @@ settledIn test (suc n) t = pick (test n) (settled (settledIn test n t) n) (settl
 unfoldable pub settledAll : Tables → Tables
 unfolding settledIn
 settledAll t = settledIn (isLive t) (slotsOf t) t
+
+-- a row of each kind for each slot, and a bit
+pub record Shaped (t : Tables) : Type 0 where
+  pub of-reals : length (t .reals) ≡ slotsOf t
+  pub of-ints : length (t .ints) ≡ slotsOf t
+  pub of-map : length (t .map) ≡ head + wordsFor (slotsOf t)

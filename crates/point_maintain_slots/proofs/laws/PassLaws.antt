@@ -23,7 +23,7 @@ use Rattle.point_tables.specs.Inner.Count.{isLive}
 use Rattle.point_maintain.specs.Meaning.Walk.{settled}
 use Rattle.point_maintain.specs.Inner.Settle.{settledIn}
 use Rattle.point_maintain.proofs.laws.SettleForm.{Rows, rowsAt, recordIn}
-use Rattle.point_maintain.specs.Inner.SettleLaws.{Shaped}
+use Rattle.point_maintain.specs.Inner.Settle.{Shaped}
 use Rattle.point_maintain.proofs.laws.SettleAllLaws.{in-slots, in-shaped, in-rows-past}
 use Rattle.point_maintain.specs.Inner.Closed.{relocatedBy, relocatedAt, relocatedBelow}
 use Rattle.point_maintain_slots.specs.Inner.Pass.{Slotted, Ready, targetRows, turned, turnedRows}

@@ -15,7 +15,7 @@ use Rattle.point_tables.specs.Meaning.Tables.{Tables, sizeOf, slotsOf, recordOn
 use Rattle.point_tables.specs.Inner.Count.{isLive}
 use Rattle.point_maintain.specs.Inner.Settle.{settledAll}
 use Rattle.point_maintain.proofs.laws.SettleForm.{Rows, rowsAt, rowsBy, rowsAfter}
-use Rattle.point_maintain.specs.Inner.SettleLaws.{Shaped}
+use Rattle.point_maintain.specs.Inner.Settle.{Shaped}
 use Rattle.point_maintain.proofs.laws.SettleAllLaws.{in-rows}
 use Rattle.point_maintain.specs.Inner.Closed.{relocatedBy, relocatedAt, relocatedBelow}
 

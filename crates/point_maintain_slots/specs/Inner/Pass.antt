@@ -23,7 +23,7 @@ use Rattle.point_tables.specs.Meaning.Tables.{Tables, tables, sizeOf, slotsOf, 
 use Rattle.point_tables.specs.Inner.Count.{isLive}
 use Rattle.point_maintain.specs.Meaning.Walk.{recordTaking, settled}
 use Rattle.point_maintain.specs.Inner.Settle.{settledAll}
-use Rattle.point_maintain.specs.Inner.SettleLaws.{Shaped}
+use Rattle.point_maintain.specs.Inner.Settle.{Shaped}
 use Rattle.point_maintain.specs.Inner.Closed.{relocatedBelow}
 
 -- ---- tables that have the records and the slot map alone, and the same behind four references: at one moment, before and after a call

@@ -26,7 +26,7 @@ use Rattle.storage.specs.Meaning.Packed.{second}
 use Rattle.storage.proofs.laws.PackedLaws.{ordered-sorted}
 use Rattle.storage.proofs.laws.PoolLaws.{sorted-entries}
 use Rattle.storage.proofs.laws.FilterLaws.{by-test, all-map, filter-both}
-use Rattle.storage.specs.Inner.WindowLaws.{windowOf}
+use Rattle.storage.specs.Inner.Window.{windowOf}
 use Rattle.storage.proofs.laws.WindowLaws.{window-cell}
 use Rattle.storage.proofs.laws.WalkLaws.{walked-window}
 use Rattle.point_tables.specs.Meaning.Tables.{Tables, sizeOf, usedOf, slotsOf, recordOn, entriesIn}

@@ -15,7 +15,7 @@ use Rattle.slots.specs.Meaning.Slot.{live, phaseAt, versionAt, good}
 use Rattle.storage.specs.Meaning.Keyed.{All, filter}
 use Rattle.storage.specs.Meaning.Entries.{Entry, entryKey, entriesOf}
 use Rattle.storage.proofs.laws.FilterLaws.{by-test, all-map, all-append, filter-all}
-use Rattle.storage.specs.Inner.WindowLaws.{windowOf}
+use Rattle.storage.specs.Inner.Window.{windowOf}
 use Rattle.point_tables.specs.Meaning.Tables.{Tables, sizeOf, usedOf, slotsOf, recordOn, entriesIn, slotOf}
 use Rattle.point_tables.specs.Meaning.Holds.{Holds}
 use Rattle.point_query.specs.declared.Test.{Test}

@@ -16,7 +16,7 @@ use Rattle.cells.proofs.laws.Cover.{rectangle-cover, circle-cover}
 use Rattle.storage.specs.Meaning.Keyed.{All, filter}
 use Rattle.storage.specs.Meaning.Entries.{Entry, entryKey}
 use Rattle.storage.proofs.laws.FilterLaws.{all-map, all-both, filter-same}
-use Rattle.storage.specs.Inner.WindowLaws.{windowOf}
+use Rattle.storage.specs.Inner.Window.{windowOf}
 use Rattle.point_tables.specs.Meaning.Tables.{Tables, sizeOf, entriesIn}
 use Rattle.point_tables.specs.Meaning.Holds.{Holds}
 use Rattle.point_query.specs.declared.Test.{Test}

@@ -14,7 +14,7 @@ use Rattle.cells.specs.Inner.Key.{columnOf, lineOf}
 use Rattle.storage.specs.declared.Run.{Run}
 use Rattle.storage.specs.Meaning.Packed.{first}
 use Rattle.storage.specs.Inner.Window.{inWindow}
-use Rattle.storage.specs.Inner.WindowLaws.{windowOf}
+use Rattle.storage.specs.Inner.Window.{windowOf}
 use Rattle.storage.specs.Inner.Run.{NextRun}
 use Rattle.storage.proofs.laws.RunStepLaws.{key-windows}
 use Rattle.point_query.specs.declared.Test.{Test}

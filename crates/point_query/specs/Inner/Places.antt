@@ -6,7 +6,7 @@ use lib.Ieee.{Float}
 use Rattle.basics.specs.Meaning.Refusals.{pick}
 use Rattle.cells.specs.declared.Cell.{Cell}
 use Rattle.storage.specs.Meaning.Entries.{Entry, entryKey}
-use Rattle.storage.specs.Inner.WindowLaws.{windowOf}
+use Rattle.storage.specs.Inner.Window.{windowOf}
 use Rattle.point_records.specs.Inner.Listed.{spotAt}
 use Rattle.point_query.specs.Meaning.Queries.{passes, positionOf}
 use Rattle.point_query.specs.declared.Test.{Test}

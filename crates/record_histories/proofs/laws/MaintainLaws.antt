@@ -26,7 +26,7 @@ use Rattle.point_maintain.specs.Meaning.Maintain.{cellKeys, maintained, isMovin
 use Rattle.point_maintain.specs.Inner.Kept.{kept}
 use Rattle.point_maintain.specs.Inner.Settle.{settledIn, settledAll}
 use Rattle.point_maintain.specs.Inner.Closed.{joined, keptUnder, keptEntries, relocatedBy, relocatedBelow, relisted, settledEntries, settledTables}
-use Rattle.point_maintain.specs.Inner.SettleLaws.{Shaped}
+use Rattle.point_maintain.specs.Inner.Settle.{Shaped}
 use Rattle.point_maintain.proofs.laws.SettleForm.{rowsAt, rowsAfter, backBy, comesBack, settledRecord, settled-form}
 use Rattle.point_maintain.proofs.laws.SettleLaws.{sized-shaped, settled-slots, settled-reals, settled-ints, settled-pool, settled-spots, settled-cells, settled-other, settled-same}
 use Rattle.point_maintain.proofs.laws.SettleAllLaws.{in-shaped}

@@ -18,7 +18,7 @@ use Rattle.storage.specs.Inner.Window.{inWindow}
 use Rattle.storage.specs.Inner.Run.{NextRun}
 use Rattle.storage.specs.declared.Run.{Run}
 use Rattle.storage.proofs.laws.FilterLaws.{all-of, filter-append, filter-whole, filter-none}
-use Rattle.storage.specs.Inner.WindowLaws.{windowOf}
+use Rattle.storage.specs.Inner.Window.{windowOf}
 
 module _ {A : Type 0} (d : A) (l : List A) where
   -- a fact of the elements of a stretch, by their places

@@ -21,7 +21,7 @@ use Rattle.storage.specs.Meaning.Walk.{listsOf, walked}
 use Rattle.storage.proofs.laws.FilterLaws.{by-test, all-map, all-any, all-append, filter-append, filter-within, filter-same, filter-passes}
 use Rattle.storage.proofs.laws.KeyedLaws.{all-under, whole-under, none-under, sorted-flat, sorted-join, sorted-filter, sorted-determined}
 use Rattle.storage.proofs.laws.TakeOutLaws.{has}
-use Rattle.storage.specs.Inner.WindowLaws.{windowOf}
+use Rattle.storage.specs.Inner.Window.{windowOf}
 use Rattle.storage.proofs.laws.WindowLaws.{keyIn, key-window}
 
 -- what is above all the keys is none of them

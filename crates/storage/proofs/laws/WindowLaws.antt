@@ -24,7 +24,7 @@ use Rattle.cells.proofs.laws.RangeKeyLaws.{range-window}
 use Rattle.storage.specs.Inner.Window.{inWindow}
 use Rattle.storage.proofs.laws.TakeOutLaws.{has}
 use Rattle.storage.proofs.laws.FilterLaws.{by-test}
-use Rattle.storage.specs.Inner.WindowLaws.{windowOf}
+use Rattle.storage.specs.Inner.Window.{windowOf}
 
 -- ---- whether a list has an element that passes, by its members
 module _ {A : Type 0} (test : A → Bool) where
