@@ -12,10 +12,11 @@ use Rattle.storage.specs.Meaning.Keyed.{written}
 use Rattle.point_tables.specs.Meaning.Tables.{Tables}
 use Rattle.point_tables.specs.Meaning.Outcome.{Outcome, outcome}
 use Rattle.replies.specs.declared.Reply.{Reply}
-use Rattle.point_deferred.specs.Meaning.Batch.{Call, callsOf, handleOf, positionOf, replyRows}
+use Rattle.point_deferred.specs.Meaning.Batch.{Call, callsOf, handleOf, replyRows}
 use Rattle.point_deferred.specs.Inner.Ready.{Ready}
 use Rattle.point_deferred.specs.Inner.Held.{call, heldOf, heldAfter, heldReplies}
 use Rattle.point_deferred.proofs.laws.HeldLaws.{held-ready, SameLong, held-long}
+use Rattle.point_records.specs.Meaning.Columns.{positionIn}
 
 module _ (kinds : List ℕ) (handles : List (List ℕ)) (positions : List (List Float)) where
   -- the calls, those from the i-th on, and the i-th
@@ -26,7 +27,7 @@ module _ (kinds : List ℕ) (handles : List (List ℕ)) (positions : List (List 
   callsFrom i = callsOf (drop i kinds) (drop i handles) (drop i positions)
 
   abbrev pub callAt : ℕ → Call
-  callAt i = call (getD kinds i 0) (handleOf (getD handles i [])) (positionOf (getD positions i []))
+  callAt i = call (getD kinds i 0) (handleOf (getD handles i [])) (positionIn (getD positions i []))
 
   -- after i calls: what the rest of them makes of the tables and of the output is what all of them make of those at the start
   pub record Running (t₀ : Tables) (out₀ : List (List ℕ)) (t : Tables) (out : List (List ℕ)) (i : ℕ) : Type 0 where
@@ -42,7 +43,7 @@ module _ (kinds : List ℕ) (handles : List (List ℕ)) (positions : List (List 
   replies-long [] hs ps t = omega arith
   replies-long (k ∷ ks) [] ps t = omega arith
   replies-long (k ∷ ks) (h ∷ hs) [] t = omega arith
-  replies-long (k ∷ ks) (h ∷ hs) (p ∷ ps) t = omega (arith, replies-long ks hs ps (heldOf t (call k (handleOf h) (positionOf p)) .after))
+  replies-long (k ∷ ks) (h ∷ hs) (p ∷ ps) t = omega (arith, replies-long ks hs ps (heldOf t (call k (handleOf h) (positionIn p)) .after))
 
   next-call : length handles ≡ length kinds → length positions ≡ length kinds → (i : ℕ) → i < length kinds → callsFrom i ≡ callAt i ∷ callsFrom (suc i)
   next-call of-handles of-positions i l =

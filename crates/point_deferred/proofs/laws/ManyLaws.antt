@@ -22,7 +22,7 @@ use Rattle.storage.specs.Meaning.Packed.{first, second}
 use Rattle.point_records.specs.declared.State.{State}
 use Rattle.point_records.specs.declared.State.the-variants.{NewPos, Relocate, Removed}
 use Rattle.point_records.specs.declared.Record.{Record}
-use Rattle.point_records.specs.Meaning.Columns.{tagOf}
+use Rattle.point_records.specs.Meaning.Columns.{tagOf, tagAt}
 use Rattle.point_records.specs.Inner.Decide.{d-cell}
 use Rattle.point_records.specs.Meaning.States.{aimed}
 use Rattle.point_tables.specs.Meaning.Tables.{Tables, sizeOf, usedOf, rowsOf, slotsOf, recordOn}
@@ -40,7 +40,7 @@ use Rattle.point_deferred.specs.Inner.Held.{poolless, nextState, worked,
 use Rattle.point_deferred.proofs.laws.Held.{withPool}
 use Rattle.point_deferred.proofs.laws.HeldLaws.{held-accepted, held-done, held-refused, after-worked}
 use Rattle.point_deferred.proofs.laws.BatchLaws.{Running, callAt, calls, start, step, finish}
-use Rattle.point_deferred.specs.Inner.Marks.{tagAt, Walkable, SetRow, MarkedTo}
+use Rattle.point_deferred.specs.Inner.Marks.{Walkable, SetRow, MarkedTo}
 
 -- ---- tags
 next-tag : (size : ℕ) (r : Record) (kind : ℕ) (at : Position) → tagOf (nextState size r kind at) ≡ 0 → ⊥

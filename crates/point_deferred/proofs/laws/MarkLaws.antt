@@ -9,7 +9,8 @@ use lib.ListN.{length, getD, set, length-set}
 use lib.Seq.{getD-set-same, getD-set-other}
 use Rattle.basics.proofs.laws.Says.{d-eq, d-lt}
 use Rattle.storage.specs.Meaning.Packed.{first, second}
-use Rattle.point_deferred.specs.Inner.Marks.{tagAt, Walkable, SetRow, MarkedTo}
+use Rattle.point_deferred.specs.Inner.Marks.{Walkable, SetRow, MarkedTo}
+use Rattle.point_records.specs.Meaning.Columns.{tagAt}
 
 -- row c is not past the row of entry j
 abbrev pub Ahead : List (List ℕ) → ℕ → List (List ℕ) → ℕ → ℕ → ℕ → Type 0

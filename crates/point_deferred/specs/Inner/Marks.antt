@@ -5,11 +5,7 @@ use mathlib.Core.List.{List, [], _∷_}
 use mathlib.Core.Logic.{_⊎_}
 use lib.ListN.{length, getD}
 use Rattle.storage.specs.Meaning.Packed.{first, second, Packed}
-use Rattle.point_records.specs.Meaning.Columns.{tagIn}
-
--- the tag of a slot
-abbrev pub tagAt : List (List ℕ) → ℕ → ℕ
-tagAt nums s = tagIn (getD nums s [])
+use Rattle.point_records.specs.Meaning.Columns.{tagIn, tagAt}
 
 -- what the walk needs of the tables
 pub record Walkable (nums pool : List (List ℕ)) (used : ℕ) (cells : List (List ℕ)) (rows : ℕ) : Type 0 where

@@ -16,6 +16,7 @@ use Rattle.point_tables.specs.Meaning.Outcome.{Outcome, outcome}
 use Rattle.replies.specs.declared.Reply.{Reply}
 use Rattle.point_deferred.specs.declared.BatchReply.{BatchReply}
 use Rattle.point_deferred.specs.Meaning.Moves.{setPositionOf, removeOf}
+use Rattle.point_records.specs.Meaning.Columns.{positionIn}
 
 pub record Call : Type 0 where
   pub kind : ℕ
@@ -40,14 +41,11 @@ replies t (c ∷ cs) = callOf t c .result ∷ replies (callOf t c .after) cs
 abbrev pub handleOf : List ℕ → Handle
 handleOf row = record { slot = getD row 0 0; version = getD row 1 0 }
 
-abbrev pub positionOf : List Float → Position
-positionOf row = record { x = getD row 0 nan; y = getD row 1 nan }
-
 abbrev pub callsOf : List ℕ → List (List ℕ) → List (List Float) → List Call
 callsOf [] hs ps = []
 callsOf (k ∷ ks) [] ps = []
 callsOf (k ∷ ks) (h ∷ hs) [] = []
-callsOf (k ∷ ks) (h ∷ hs) (p ∷ ps) = record { kind = k; handle = handleOf h; at = positionOf p } ∷ callsOf ks hs ps
+callsOf (k ∷ ks) (h ∷ hs) (p ∷ ps) = record { kind = k; handle = handleOf h; at = positionIn p } ∷ callsOf ks hs ps
 
 -- ---- the output: a row (answer, data) for each call
 abbrev pub replyRows : List Reply → List (List ℕ)

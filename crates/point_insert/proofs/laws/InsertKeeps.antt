@@ -19,7 +19,7 @@ use Rattle.storage.proofs.laws.FilterLaws.{all-at, all-both}
 use Rattle.storage.proofs.laws.AppendLaws.{all-append1}
 use Rattle.storage.proofs.laws.PackedLaws.{all-first, place-filled}
 use Rattle.point_records.specs.declared.Record.{Record}
-use Rattle.point_records.specs.Meaning.Columns.{tagOf, numsOf}
+use Rattle.point_records.specs.Meaning.Columns.{tagOf, numsOf, tagAt}
 use Rattle.point_records.specs.Meaning.Occupied.{InDomain}
 use Rattle.point_tables.specs.Meaning.Tables.{Tables, sizeOf, rowsOf, slotsOf, recordOn, entriesIn, cellRows, slotOf}
 use Rattle.point_tables.specs.Meaning.Holds.{RecordHolds, ListsHold, Pending, Holds}
@@ -44,11 +44,11 @@ module _ (t : Tables) (h : Holds t) (s : ℕ) (inside : s < slotsOf t) (is-free 
   old-phase i n = ap (λ (r : Record). r .phase) (is-old i n)
 
   -- ---- the records
-  old-tag : (i : ℕ) → (i ≡ s → ⊥) → getD (getD (after .nums) i []) 3 0 ≡ getD (getD (t .nums) i []) 3 0
+  old-tag : (i : ℕ) → (i ≡ s → ⊥) → tagAt (after .nums) i ≡ tagAt (t .nums) i
   unfolding put
   old-tag i n = rw (getD-set-other (t .nums) s i (numsOf (newRecord t s p d)) [] n)
 
-  new-tag : getD (getD (after .nums) s []) 3 0 ≡ 0
+  new-tag : tagAt (after .nums) s ≡ 0
   unfolding put
   new-tag = rw (getD-set-same (t .nums) s (numsOf (newRecord t s p d)) [] inside)
 

@@ -18,7 +18,7 @@ use Rattle.storage.proofs.laws.KeepsLaws.{packed-written}
 use Rattle.storage.proofs.laws.FilterLaws.{all-map, all-any, all-at, all-over}
 use Rattle.point_records.specs.declared.State.the-variants.{Unchanged}
 use Rattle.point_records.specs.declared.Record.{Record}
-use Rattle.point_records.specs.Meaning.Columns.{tagOf}
+use Rattle.point_records.specs.Meaning.Columns.{tagOf, tagAt}
 use Rattle.point_tables.specs.Meaning.Tables.{Tables, sizeOf, usedOf, rowsOf, slotsOf, recordOn, entriesIn, Sized, slotOf}
 use Rattle.point_tables.specs.Meaning.Holds.{Counted, RecordHolds, Pending, ListsHold, Holds}
 use Rattle.point_tables.specs.Inner.Count.{isLive}
@@ -137,7 +137,7 @@ module _ (t : Tables) (h : Holds t) where
         occupied = rw (after-record i, after-size) (occupied-after t h i (was i l) (live-was i p));
       }
     where
-      tag : getD (getD (settledTables t .nums) i []) 3 0 ≤ 3
+      tag : tagAt (settledTables t .nums) i ≤ 3
       tag = unfold settledTables in tag-after t h i (was i l) (live-was i p)
 
   not-pending : (i : ℕ) → i < slotsOf (settledTables t) → Pending (settledTables t) i → ⊥

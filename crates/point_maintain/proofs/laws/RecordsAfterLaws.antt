@@ -15,7 +15,7 @@ use Rattle.storage.proofs.laws.FilterLaws.{by-test}
 use Rattle.point_records.specs.declared.State.{State}
 use Rattle.point_records.specs.declared.State.the-variants.{Unchanged, NewPos, Relocate, Removed}
 use Rattle.point_records.specs.declared.Record.{Record}
-use Rattle.point_records.specs.Meaning.Columns.{numsOf}
+use Rattle.point_records.specs.Meaning.Columns.{numsOf, tagAt, tagIn}
 use Rattle.point_records.specs.Meaning.Occupied.{Agrees, Occupied}
 use Rattle.point_records.specs.Meaning.States.{isRemoved}
 use Rattle.point_tables.specs.Meaning.Tables.{Tables, sizeOf, slotsOf, recordOn}
@@ -48,11 +48,11 @@ settled-occupied size r n o = go (r .state) refl n (o .agrees)
     go (Relocate p c) e n a = (record { in-domain = a .0; in-cell = a .1; agrees = tt }, refl)
     go Removed e n a = absurd (apart (sym n))
 
-rows-tag : (w : Rows) → isRemoved (recordIn w .state) ≡ false → getD (w .nums) 3 0 ≤ 3 → getD (rowsAfter w .nums) 3 0 ≤ 3
+rows-tag : (w : Rows) → isRemoved (recordIn w .state) ≡ false → tagIn (w .nums) ≤ 3 → tagIn (rowsAfter w .nums) ≤ 3
 unfolding rowsAfter
 rows-tag w n l = go (recordIn w .state) n
   where
-    go : (st : State) → isRemoved st ≡ false → getD (rowsBy w st .nums) 3 0 ≤ 3
+    go : (st : State) → isRemoved st ≡ false → tagIn (rowsBy w st .nums) ≤ 3
     go Unchanged n = l
     go (NewPos p) n = omega arith
     go (Relocate p c) n = omega arith
@@ -140,7 +140,7 @@ module _ (t : Tables) (h : Holds t) where
       pub calm-after : recordOn (settledAll t) i .state ≡ Unchanged
       calm-after = ap (λ (r : Record). r .state) record-after ∙ settled-occupied (sizeOf t) (recordOn t i) not-removed (held .occupied) .1
 
-      pub tag-after : getD (getD (settledAll t .nums) i []) 3 0 ≤ 3
+      pub tag-after : tagAt (settledAll t .nums) i ≤ 3
       tag-after =
           let e : rowsAt (settledAll t) i ≡ rowsAfter (rowsAt t i) = all-rows ∙ rw was-live in
-          subst (λ (w : Rows). getD (w .nums) 3 0 ≤ 3) (sym e) (rows-tag (rowsAt t i) not-removed (held .tagged))
+          subst (λ (w : Rows). tagIn (w .nums) ≤ 3) (sym e) (rows-tag (rowsAt t i) not-removed (held .tagged))

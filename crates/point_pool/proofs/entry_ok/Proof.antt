@@ -10,11 +10,11 @@ use Rattle.basics.specs.Meaning.Says.{Says}
 use Rattle.basics.proofs.laws.Says.{says-yes, says-no, apart}
 use Rattle.cells.specs.declared.Cell.{Cell}
 use Rattle.cells.specs.Inner.Span.{Spans}
-use Rattle.point_records.specs.Meaning.Columns.{recordAt, pendingIn}
+use Rattle.point_records.specs.Meaning.Columns.{recordAt, pendingIn, tagAt}
 use Rattle.point_records.specs.Meaning.Occupied.{Agrees}
 use Rattle.point_records.specs.Inner.Occupied.{InCell}
 use Rattle.point_records.proofs.laws.OccupiedLaws.{to-occupied, of-occupied}
-use Rattle.point_pool.specs.Inner.Pass.{tagAt, Right}
+use Rattle.point_pool.specs.Inner.Pass.{Right}
 use Rattle.point_pool.proofs.entry_ok.Statement.{statement}
 use Rattle.point_pool.proofs.entry_ok.Tie as tie
 

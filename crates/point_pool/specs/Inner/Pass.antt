@@ -15,13 +15,9 @@ use Rattle.cells.specs.Meaning.Key.{keyOf}
 use Rattle.slots.specs.Meaning.Slot.{live, versionAt, phaseAt}
 use Rattle.storage.specs.Meaning.Packed.{first, second, Packed}
 use Rattle.point_records.specs.declared.Entry.{Entry}
-use Rattle.point_records.specs.Meaning.Columns.{tagIn, recordAt}
+use Rattle.point_records.specs.Meaning.Columns.{tagIn, recordAt, tagAt}
 use Rattle.point_records.specs.Inner.Listed.{listedAt}
 use Rattle.point_records.specs.Meaning.Occupied.{Occupied}
-
--- the state tag of a slot
-abbrev pub tagAt : List (List ℕ) → ℕ → ℕ
-tagAt nums s = tagIn (getD nums s [])
 
 -- an entry of this key is that of its slot: the slot is occupied, its cell has the key, and its position is the entry's, no NaN
 pub record Fits (nums : List (List ℕ)) (reals : List (List Float)) (ints : List (List ℤ)) (key : ℕ) (e : Entry) : Type 0 where

@@ -22,6 +22,10 @@ pickState false a b = b
 abbrev pub tagIn : List ℕ → ℕ
 tagIn n = getD n 3 0
 
+-- that of slot s
+abbrev pub tagAt : List (List ℕ) → ℕ → ℕ
+tagAt nums s = tagIn (getD nums s [])
+
 -- the state that a tag says, with the pending position and cell
 abbrev pub stateOf : ℕ → Position → Cell → State
 stateOf tag p c = pickState (eqb tag 0) Unchanged (pickState (eqb tag 1) (NewPos p) (pickState (eqb tag 2) (Relocate p c) Removed))

@@ -18,10 +18,10 @@ use Rattle.basics.proofs.laws.Counting.{named-count}
 use Rattle.slots.specs.Meaning.Slot.{live, versionAt, phaseAt}
 use Rattle.storage.specs.Meaning.Packed.{first, second}
 use Rattle.point_records.specs.declared.State.the-variants.{Unchanged, NewPos, Relocate, Removed}
-use Rattle.point_records.specs.Meaning.Columns.{tagOf, stateOf, pickState}
+use Rattle.point_records.specs.Meaning.Columns.{tagOf, stateOf, pickState, tagAt}
 use Rattle.point_pool.specs.Inner.Pass
 use Rattle.point_records.specs.Inner.Listed.{listedAt}
-use Rattle.point_pool.specs.Inner.Pass.{Fits, tagAt, Passes, Named}
+use Rattle.point_pool.specs.Inner.Pass.{Fits, Passes, Named}
 use Rattle.point_tables.specs.Meaning.Tables.{Tables, sizeOf, usedOf, rowsOf, slotsOf, recordOn, Sized}
 use Rattle.point_tables.specs.Meaning.Holds.{Counted, RecordHolds, EntryHolds, ListsHold, Pending, Holds}
 use Rattle.point_tables.specs.Inner.Check.{Counts, SlotsOk, Room, Listed}

@@ -9,7 +9,7 @@ use Rattle.cells.specs.Meaning.Size.{SizeInDomain}
 use Rattle.cells.specs.Meaning.Key.{keyOf}
 use Rattle.slots.specs.Meaning.Slot.{live, phaseAt, SlotsHold}
 use Rattle.storage.specs.Meaning.Packed.{first, second, Packed}
-use Rattle.point_records.specs.Meaning.Columns.{tagOf}
+use Rattle.point_records.specs.Meaning.Columns.{tagOf, tagAt}
 use Rattle.point_records.specs.Meaning.Occupied.{Occupied}
 use Rattle.point_tables.specs.Meaning.Tables.{Tables, sizeOf, usedOf, rowsOf, slotsOf, recordOn, Sized}
 
@@ -21,7 +21,7 @@ pub record Counted (t : Tables) : Type 0 where
 
 -- an occupied slot: its tag is one of four, its numbers are in the domain, its cell is that of its position, and what is pending agrees
 pub record RecordHolds (t : Tables) (s : ℕ) : Type 0 where
-  pub tagged : getD (getD (t .nums) s []) 3 0 ≤ 3
+  pub tagged : tagAt (t .nums) s ≤ 3
   pub occupied : Occupied (sizeOf t) (recordOn t s)
 
 -- entry j names an occupied slot, under the key of its cell, with its recorded position: equal as data, so by bits

@@ -8,10 +8,11 @@ use Rattle.point_tables.specs.Meaning.Tables.{Tables}
 use Rattle.point_tables.specs.Meaning.Holds.{Holds}
 use Rattle.point_tables.specs.Meaning.Outcome.{Outcome}
 use Rattle.records.specs.Inner.Alike.{Alike}
+use Rattle.point_records.specs.Meaning.Columns.{tagAt}
 
 -- every tag is one of four, as in columns that were spread
 abbrev pub Tagged : List (List ℕ) → Type 0
-Tagged ns = (s : ℕ) → getD (getD ns s []) 3 0 ≤ 3
+Tagged ns = (s : ℕ) → tagAt ns s ≤ 3
 
 -- a call answers the same on tables of a grid that are alike, and leaves tables that are alike
 abbrev pub Respects : {R : Type 0} → (Tables → Outcome R) → Type 0

@@ -6,11 +6,12 @@ use mathlib.Core.Logic.{⊎-elim}
 use native.Mathlib.Omega.{arith}
 use lib.ListN.{length}
 use Rattle.storage.specs.Meaning.Packed.{first, second}
-use Rattle.point_deferred.specs.Inner.Marks.{tagAt, Walkable, MarkedTo}
+use Rattle.point_deferred.specs.Inner.Marks.{Walkable, MarkedTo}
 use Rattle.point_deferred.proofs.laws.MarkLaws.{Ahead, start, ahead-start, in-rows, ahead-entry, ahead-row, key-kept, passed-by, set-row}
 use borrow.Author.Needs.{needs}
 use Rattle.point_deferred.proofs.marks.mark_all.Statement.{statement}
 use Rattle.point_deferred.proofs.marks.mark_all.Tie as tie
+use Rattle.point_records.specs.Meaning.Columns.{tagAt}
 
 abbrev Inv-loop : tie.InvT-loop
 Inv-loop nums pool used cells₀ rows c₀ j₀ cells c j =
