@@ -22,7 +22,7 @@ use Rattle.storage.specs.Inner.Keyed.{Sorted}
 use Rattle.storage.specs.Meaning.Keyed.{written}
 use Rattle.storage.specs.Meaning.Entries.{rowKey}
 use Rattle.storage.proofs.laws.WrittenLaws.{length-written}
-use Rattle.box_cover.specs.Meaning.Coverage.{entered, left}
+use Rattle.box_cover.specs.Meaning.Coverage.{enteredAll, leftAll}
 use Rattle.box_cover.specs.Inner.Taken.{Leaving}
 use Rattle.box_cover.proofs.laws.EnterLaws.{entered-length}
 use Rattle.box_cover.proofs.laws.LeaveLaws.{left-sorted, left-length}
@@ -74,7 +74,7 @@ module _ {m : List ℕ} {pool : List (List ℕ)} {s : ℕ} {p q : Span} (f : Shi
     leave-asks = rw (eu, ei) (record { fits = f .used-most; sorted = f .sorted; near-low = f .old-low; near-high = f .old-high; stands = f .stands })
 
     -- the pool after leaving
-    module _ {k : ℕ} {pool₁ : List (List ℕ)} (e : (k ≡ length (left (p .low) (p .high) i (take u pool))) × (pool₁ ≡ written (left (p .low) (p .high) i (take u pool)) pool)) where
+    module _ {k : ℕ} {pool₁ : List (List ℕ)} (e : (k ≡ length (leftAll (p .low) (p .high) i (take u pool))) × (pool₁ ≡ written (leftAll (p .low) (p .high) i (take u pool)) pool)) where
       k-is : k ≡ length (leftIn s p rows)
       k-is = e .0 ∙ rw (eu, ei)
 
@@ -98,7 +98,7 @@ module _ {m : List ℕ} {pool : List (List ℕ)} {s : ℕ} {p q : Span} (f : Shi
       pub count-small : k + q .cells ≤ 12288
       count-small = omega (arith, k-is, less, f .used-most, f .pool-most, f .few)
 
-      pub pool-after : {j : ℕ} → j ≡ itemIn s q → {pool₂ : List (List ℕ)} → pool₂ ≡ written (entered (q .low) (q .high) j (take k pool₁)) pool₁ → pool₂ ≡ shiftedPool s p q m pool
+      pub pool-after : {j : ℕ} → j ≡ itemIn s q → {pool₂ : List (List ℕ)} → pool₂ ≡ written (enteredAll (q .low) (q .high) j (take k pool₁)) pool₁ → pool₂ ≡ shiftedPool s p q m pool
       pool-after ej g = g ∙ rw (first-are, pool-is, ej)
 
       pub map-after : {w : ℕ} → w ≡ k → counting m (w + q .cells) ≡ shiftedMap s p q m pool

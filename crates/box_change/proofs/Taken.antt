@@ -12,7 +12,7 @@ use Rattle.slots.specs.declared.Handle.{Handle}
 use Rattle.slots.specs.Meaning.Slot.{handleTest, handleRefusal, emptiedNums, emptiedMap}
 use Rattle.slots.proofs.laws.HandleLaws.{not-refused}
 use Rattle.storage.specs.Meaning.Keyed.{written}
-use Rattle.box_cover.specs.Meaning.Coverage.{left}
+use Rattle.box_cover.specs.Meaning.Coverage.{leftAll}
 use Rattle.box_cover.specs.Inner.Taken.{Leaving}
 use Rattle.box_tables.specs.Meaning.Tables.{Tables, tables, sizeOf, usedOf, counting, aabbOn, objOn, itemOf}
 use Rattle.box_tables.specs.Meaning.Decide.{holds, holds-says}
@@ -35,14 +35,14 @@ module _ (t : Tables) (s : ℕ) (o : Object t s) (u : ℕ) (eu : u ≡ usedOf t)
 
   pub taken-is :
       (k : ℕ) (ns : List (List ℕ)) (m : List ℕ) (pool : List (List ℕ)) (d : ℕ)
-      → (k ≡ length (left (p .low) (p .high) i (take u (t .pool)))) × (pool ≡ written (left (p .low) (p .high) i (take u (t .pool))) (t .pool))
+      → (k ≡ length (leftAll (p .low) (p .high) i (take u (t .pool)))) × (pool ≡ written (leftAll (p .low) (p .high) i (take u (t .pool))) (t .pool))
       → ns ≡ emptiedNums (t .nums) s
       → m ≡ counting (emptiedMap (t .nums) (t .map) s) k
       → d ≡ objOn t s
       → outcome d (tables ns (t .reals) m pool) ≡ outcome (objOn t s) (takenOut t s)
   unfolding takenOut
   taken-is k ns m pool d e1 e2 e3 e4 =
-      let rows-are : left (p .low) (p .high) i (take u (t .pool)) ≡ entriesWithout t s = rw (eu, ei, ep) in
+      let rows-are : leftAll (p .low) (p .high) i (take u (t .pool)) ≡ entriesWithout t s = rw (eu, ei, ep) in
       rw (e4, e2, e3, e1 .0, e1 .1, rows-are)
 
 -- ---- the outcome by the answer

@@ -14,7 +14,7 @@ use Rattle.slots.specs.Meaning.Slot.{live, versionAt}
 use Rattle.storage.specs.Inner.Keyed.{Sorted}
 use Rattle.storage.specs.Meaning.Keyed.{written}
 use Rattle.storage.specs.Meaning.Entries.{rowKey}
-use Rattle.box_cover.specs.Meaning.Coverage.{entered}
+use Rattle.box_cover.specs.Meaning.Coverage.{enteredAll}
 use Rattle.box_tables.specs.Meaning.Tables.{Tables, tables, sizeOf, usedOf, counting, covers, itemOf, cornersOf}
 use Rattle.box_tables.specs.Inner.Way.{spanOf}
 use Rattle.box_tables.proofs.laws.BoxLaws.{low-near, high-near}
@@ -44,12 +44,12 @@ module _ (t : Tables) (s : ℕ) (b : Aabb) (f : Fresh t s b) (u : ℕ) (eu : u �
         (ns : List (List ℕ)) (qs : List (List Float)) (m : List ℕ) (pool : List (List ℕ))
         → ns ≡ set (t .nums) s (versionAt (t .nums) s ∷ live ∷ d ∷ 0 ∷ [])
         → qs ≡ set (t .reals) s (cornersOf b)
-        → pool ≡ written (entered (p .low) (p .high) i (take u (t .pool))) (t .pool)
+        → pool ≡ written (enteredAll (p .low) (p .high) i (take u (t .pool))) (t .pool)
         → m ≡ counting (taken (t .map) s) (u + n)
         → tables ns qs m pool ≡ put t s b d
     unfolding put
     put-is ns qs m pool e1 e2 e3 e4 =
-        let e5 : pool ≡ written (entered (p .low) (p .high) (itemOf s (eqb (p .cells) 1)) (take (usedOf t) (t .pool))) (t .pool) = e3 ∙ rw (ei, eu) in
-        let e6 : pool ≡ put t s b d .pool = e5 ∙ ap (λ (q : Span). written (entered (q .low) (q .high) (itemOf s (eqb (q .cells) 1)) (take (usedOf t) (t .pool))) (t .pool)) ep in
+        let e5 : pool ≡ written (enteredAll (p .low) (p .high) (itemOf s (eqb (p .cells) 1)) (take (usedOf t) (t .pool))) (t .pool) = e3 ∙ rw (ei, eu) in
+        let e6 : pool ≡ put t s b d .pool = e5 ∙ ap (λ (q : Span). written (enteredAll (q .low) (q .high) (itemOf s (eqb (q .cells) 1)) (take (usedOf t) (t .pool))) (t .pool)) ep in
         let e7 : m ≡ counting (taken (t .map) s) (usedOf t + covers (sizeOf t) b) = e4 ∙ rw (eu, en, cells-are) in
         λ z. tables (e1 z) (e2 z) (e7 z) (e6 z)

@@ -19,7 +19,7 @@ use Rattle.box_tables.specs.Meaning.Tables.{Tables}
 use Rattle.box_tables.specs.Meaning.Holds.{Holds}
 use Rattle.box_tables.specs.Meaning.Decide.{holds, holds-says}
 use Rattle.box_tables.specs.Inner.Way.{nextIn, lastIn, jumpIn, itemIn, trackOf, wayOf, wayAt}
-use Rattle.box_tables.specs.Inner.Check.{BoxOk, rowAt, Long, Ways, Given}
+use Rattle.box_tables.specs.Inner.Check.{BoxOk, wayRow, Long, Ways, Given}
 use Rattle.box_tables.proofs.laws.WayLaws.{way-slot}
 
 pub jump-some : (s : ℕ) (p : Span) → jumpIn (wayOf s p) ≡ 0 → ⊥
@@ -42,7 +42,7 @@ box-refused size b q r e f n h = subst T (ap aabbInDomain (sym e) ∙ sym f ∙ 
 -- ---- the ways of one slot more, where its item and its last column are known by equations
 module _ (nexts stops jumps ends : List ℕ) (k next stop jump end : ℕ) where
   abbrev after : ℕ → List ℕ
-  after m = rowAt (set nexts k next) (set stops k stop) (set jumps k jump) (set ends k end) m
+  after m = wayRow (set nexts k next) (set stops k stop) (set jumps k jump) (set ends k end) m
 
   row-same : Long nexts stops jumps ends → k < 512 → after k ≡ next ∷ stop ∷ jump ∷ end ∷ []
   row-same g h =
@@ -52,7 +52,7 @@ module _ (nexts stops jumps ends : List ℕ) (k next stop jump end : ℕ) where
       let d = getD-set-same ends k end 0 (omega (arith, g .of-ends)) in
       λ z. a z ∷ b z ∷ c z ∷ d z ∷ []
 
-  row-other : (m : ℕ) → (m ≡ k → ⊥) → after m ≡ rowAt nexts stops jumps ends m
+  row-other : (m : ℕ) → (m ≡ k → ⊥) → after m ≡ wayRow nexts stops jumps ends m
   row-other m n =
       let a = getD-set-other nexts k m next 0 n in
       let b = getD-set-other stops k m stop 0 n in

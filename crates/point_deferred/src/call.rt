@@ -9,7 +9,7 @@ ghost use Rattle.point_records.specs.Meaning.Occupied.{InDomain};
 ghost use Rattle.point_tables.specs.Meaning.Outcome.{outcome};
 ghost use Rattle.point_deferred.specs.Inner.Ready.{Ready, Workable};
 ghost use Rattle.point_deferred.specs.Inner.Held;
-ghost use Rattle.point_deferred.specs.Inner.Held.{lentPoolless, poollessBefore, poollessAfter, recordsBefore, recordsAfter, setRefusal};
+ghost use Rattle.point_deferred.specs.Inner.Held.{lentPoolless, poollessBefore, poollessAfter, columnsBefore, columnsAfter, setRefusal};
 ghost use Rattle.point_deferred.specs.Inner.Held.{refusalOf, tagTo, PendedRows, worked, heldOf, unmarkedOf};
 use cells::Cell;
 use geometry::Position;
@@ -127,7 +127,7 @@ pub fn unmarked(
     at: Position,
 ) -> Reply
     requires { ⌜ (length (now reals) ≡ length (now nums)) × (length (now ints) ≡ length (now nums)) × SizeInDomain size ⌝ }
-    ensures { λ r. ⌜ outcome r (recordsAfter nums reals ints size) ≡ unmarkedOf (recordsBefore nums reals ints size) (Held.call kind h at) ⌝ }
+    ensures { λ r. ⌜ outcome r (columnsAfter nums reals ints size) ≡ unmarkedOf (columnsBefore nums reals ints size) (Held.call kind h at) ⌝ }
 {
     let a = refusal(nums, reals, ints, kind, h, at);
     if a != 0 {

@@ -21,22 +21,22 @@ use Rattle.point_tables.specs.Meaning.Outcome.{outcome}
 use Rattle.replies.specs.declared.Inserted.{Inserted}
 use Rattle.point_insert.specs.Meaning.Insert.{usableSlot, put, insertAnswer, insertOf}
 use Rattle.point_insert.specs.Inner.Insert.{answerBy}
-use Rattle.point_insert.specs.Inner.Fresh.{Fresh, Chose}
+use Rattle.point_insert.specs.Inner.Fresh.{Fresh, Chosen}
 use Rattle.point_insert.proofs.laws.InsertLaws.{insert-done}
 use Rattle.replies.specs.Meaning.Replies.{inserted}
 
 -- ---- the choice, test by test
 module _ (held : Bool) (p : Position) (m : List ℕ) (n : ℕ) where
-  pub chose-3 : held ≡ false → Chose held p m n 3 0
+  pub chose-3 : held ≡ false → Chosen held p m n 3 0
   chose-3 e = (rw e, λ q. absurd (omega arith))
 
-  pub chose-6 : held ≡ true → positionInDomain p ≡ false → Chose held p m n 6 0
+  pub chose-6 : held ≡ true → positionInDomain p ≡ false → Chosen held p m n 6 0
   chose-6 e f = (rw (e, f), λ q. absurd (omega arith))
 
-  pub chose-4 : held ≡ true → positionInDomain p ≡ true → lowestUsable m n ≡ Nothing → Chose held p m n 4 0
+  pub chose-4 : held ≡ true → positionInDomain p ≡ true → lowestUsable m n ≡ Nothing → Chosen held p m n 4 0
   chose-4 e f u = (rw (e, f, u), λ q. absurd (omega arith))
 
-  pub chose-slot : held ≡ true → positionInDomain p ≡ true → (s : ℕ) → lowestUsable m n ≡ At s → Chose held p m n 0 s
+  pub chose-slot : held ≡ true → positionInDomain p ≡ true → (s : ℕ) → lowestUsable m n ≡ At s → Chosen held p m n 0 s
   chose-slot e f s u = (rw (e, f, u), λ q. u)
 
 all-passed : (a b : Bool) (u : Usable) → answerBy a b u ≡ 0 → (a ≡ true) × (b ≡ true)

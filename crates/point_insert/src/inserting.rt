@@ -13,7 +13,7 @@ ghost use Rattle.point_tables.specs.Meaning.Lent.{after, before, lent};
 ghost use Rattle.point_tables.specs.Meaning.Outcome.{outcome};
 ghost use Rattle.point_insert.specs.Meaning.Insert;
 ghost use Rattle.point_insert.specs.Meaning.Insert.{insertOf};
-ghost use Rattle.point_insert.specs.Inner.Fresh.{Fresh, Chose, freshRecord, Stored};
+ghost use Rattle.point_insert.specs.Inner.Fresh.{Fresh, Chosen, freshRecord, Stored};
 ghost use Rattle.replies.specs.Meaning.Replies.{inserted};
 use cells::Cell;
 use geometry::Position;
@@ -34,7 +34,7 @@ struct Choice {
 // The first refusal that applies, or the lowest usable slot.
 fn choose(nums: &[Row], map: &[u64], held: bool, at: Position) -> Choice
     requires { ⌜ (held ≡ true → (length (now map) ≡ 3 + wordsFor (length (now nums))) × (length (now nums) ≤ mostSlots) × NonePast (now map) (length (now nums))) ⌝ }
-    ensures { λ r. ⌜ Chose held at (was map) (length (was nums)) (r .answer) (r .slot) ⌝ }
+    ensures { λ r. ⌜ Chosen held at (was map) (length (was nums)) (r .answer) (r .slot) ⌝ }
 {
     if !held {
         return Choice { answer: 3, slot: 0 };

@@ -23,7 +23,7 @@ use Rattle.point_maintain.specs.Inner.Settle.{settledIn, settledAll}
 use Rattle.point_maintain.specs.Inner.Settle.{Shaped}
 use Rattle.point_maintain.proofs.laws.SettleAllLaws.{in-slots, in-shaped}
 use Rattle.point_maintain.specs.Inner.Closed.{relocatedBelow}
-use Rattle.point_maintain_slots.specs.Inner.Pass.{recordsIn, Slotted, Ready, Room, targetRows, pendingAt, Placed, turned, turnedRows, putAt, Passed}
+use Rattle.point_maintain_slots.specs.Inner.Pass.{recordTables, Slotted, Ready, Room, targetRows, pendingAt, Placed, turned, turnedRows, putAt, Passed}
 use Rattle.point_maintain_slots.proofs.laws.PutLaws.{put-none, put-one, put-length, put-more}
 use Rattle.point_maintain_slots.proofs.laws.PassLaws.{next-turned, next-rows, next-slotted, below-next, below-count, below-grows}
 
@@ -38,7 +38,7 @@ made ns qs zs s c x y u v ex ey eu ev = (refl, refl, cc)
 -- ---- the turn of slot s, by its phase and its tag: what stands in the tables then, the rows put, and the pool
 module _ (ns : List (List ℕ)) (qs : List (List Float)) (zs : List (List ℤ)) (m : List ℕ) (s at : ℕ) (l : List (List ℕ)) where
   abbrev t : Tables
-  t = recordsIn ns qs zs m
+  t = recordTables ns qs zs m
 
   abbrev tag : ℕ
   tag = tagIn (getD ns s [])
@@ -56,8 +56,8 @@ module _ (ns : List (List ℕ)) (qs : List (List Float)) (zs : List (List ℤ)) 
   turn-idle n = rw (ne-eqb (phaseAt ns s) live n) (refl, (refl, sym (put-none at l)))
 
   -- the columns with the object at its pending position in cell c
-  stored-at : (c : Cell) (ns′ : List (List ℕ)) (qs′ : List (List Float)) (zs′ : List (List ℤ)) → Placed ns qs zs s c ns′ qs′ zs′ → recordsIn ns′ qs′ zs′ m ≡ settledBy t s (Relocate (pendingAt qs s) c)
-  stored-at c ns′ qs′ zs′ w = λ z. recordsIn (w .0 z) (w .1 z) (w .2 z) m
+  stored-at : (c : Cell) (ns′ : List (List ℕ)) (qs′ : List (List Float)) (zs′ : List (List ℤ)) → Placed ns qs zs s c ns′ qs′ zs′ → recordTables ns′ qs′ zs′ m ≡ settledBy t s (Relocate (pendingAt qs s) c)
+  stored-at c ns′ qs′ zs′ w = λ z. recordTables (w .0 z) (w .1 z) (w .2 z) m
 
   module _ (p : phaseAt ns s ≡ live) where
     turned-by : (st : State) → recordOn t s .state ≡ st → settledBy t s st ≡ turned t s
@@ -74,16 +74,16 @@ module _ (ns : List (List ℕ)) (qs : List (List Float)) (zs : List (List ℤ)) 
     pub turn-unchanged : tag ≡ 0 → Turned t 0 l
     turn-unchanged e = turn-by Unchanged (rw (eq-eqb tag 0 e)) refl refl (sym (put-none at l))
 
-    pub turn-moved : tag ≡ 1 → (c : Cell) → c ≡ cell → (ns′ : List (List ℕ)) (qs′ : List (List Float)) (zs′ : List (List ℤ)) → Placed ns qs zs s c ns′ qs′ zs′ → Turned (recordsIn ns′ qs′ zs′ m) 0 l
+    pub turn-moved : tag ≡ 1 → (c : Cell) → c ≡ cell → (ns′ : List (List ℕ)) (qs′ : List (List Float)) (zs′ : List (List ℤ)) → Placed ns qs zs s c ns′ qs′ zs′ → Turned (recordTables ns′ qs′ zs′ m) 0 l
     turn-moved e c q ns′ qs′ zs′ w =
         turn-by (NewPos (pendingAt qs s)) (rw (ne-eqb tag 0 (λ z. omega arith), eq-eqb tag 1 e))
         (stored-at c ns′ qs′ zs′ w ∙ ap (λ (d : Cell). settledBy t s (Relocate (pendingAt qs s) d)) q)
         refl
         (sym (put-none at l))
 
-    pub turn-removed : (tag ≡ 0 → ⊥) → (tag ≡ 1 → ⊥) → (tag ≡ 2 → ⊥) → (ns′ : List (List ℕ)) (m′ : List ℕ) → ns′ ≡ emptiedNums ns s → m′ ≡ emptiedMap ns m s → Turned (recordsIn ns′ qs zs m′) 0 l
+    pub turn-removed : (tag ≡ 0 → ⊥) → (tag ≡ 1 → ⊥) → (tag ≡ 2 → ⊥) → (ns′ : List (List ℕ)) (m′ : List ℕ) → ns′ ≡ emptiedNums ns s → m′ ≡ emptiedMap ns m s → Turned (recordTables ns′ qs zs m′) 0 l
     turn-removed x y z ns′ m′ a b =
-        turn-by Removed (rw (ne-eqb tag 0 x, ne-eqb tag 1 y, ne-eqb tag 2 z)) (λ k. recordsIn (a k) qs zs (b k)) refl (sym (put-none at l))
+        turn-by Removed (rw (ne-eqb tag 0 x, ne-eqb tag 1 y, ne-eqb tag 2 z)) (λ k. recordTables (a k) qs zs (b k)) refl (sym (put-none at l))
 
     -- a relocated object has one row
     module _ (e : tag ≡ 2) (c : Cell) (q : c ≡ target) (room : at + length (turnedRows t s) ≤ length l) where
@@ -93,7 +93,7 @@ module _ (ns : List (List ℕ)) (qs : List (List Float)) (zs : List (List ℤ)) 
       pub target-room : at < length l
       target-room = omega (arith, ap length (rows-by (Relocate (pendingAt qs s) target) relocates))
 
-      pub turn-relocated : (ns′ : List (List ℕ)) (qs′ : List (List Float)) (zs′ : List (List ℤ)) → Placed ns qs zs s c ns′ qs′ zs′ → (n : ℕ) (put : List (List ℕ)) → (n ≡ 1) × (put ≡ set l at (keyOf c ∷ s ∷ [])) → Turned (recordsIn ns′ qs′ zs′ m) n put
+      pub turn-relocated : (ns′ : List (List ℕ)) (qs′ : List (List Float)) (zs′ : List (List ℤ)) → Placed ns qs zs s c ns′ qs′ zs′ → (n : ℕ) (put : List (List ℕ)) → (n ≡ 1) × (put ≡ set l at (keyOf c ∷ s ∷ [])) → Turned (recordTables ns′ qs′ zs′ m) n put
       turn-relocated ns′ qs′ zs′ w n put o =
           turn-by (Relocate (pendingAt qs s) target) relocates
           (stored-at c ns′ qs′ zs′ w ∙ ap (λ (d : Cell). settledBy t s (Relocate (pendingAt qs s) d)) q)

@@ -5,9 +5,9 @@ ghost use lib.ListN.{length, set, take};
 ghost use Rattle.basics.specs.Meaning.Limits.{mostSlots};
 ghost use Rattle.basics.specs.Meaning.Lent.{was, is};
 ghost use Rattle.storage.specs.Meaning.Keyed.{written};
-ghost use Rattle.point_query.specs.Meaning.Queries.{handleOf, placeOf, findings};
+ghost use Rattle.point_query.specs.Meaning.Queries.{handleRow, placeRow, findings};
 ghost use Rattle.point_query.specs.Inner.Fill.{findingOf, filled};
-ghost use Rattle.point_query.specs.Inner.Asked.{Searchable, searched, BegunBy, Reportable, Reported, SearchReported, StretchReportable, StretchReported};
+ghost use Rattle.point_query.specs.Inner.Asked.{Searchable, searchFills, BegunBy, Reportable, Reported, SearchReported, StretchReportable, StretchReported};
 use crate::Finding;
 use crate::Part;
 use crate::Test;
@@ -40,7 +40,7 @@ fn finding_of(nums: &[Row], e: Entry) -> Finding
 // A finding goes to place k of the outputs.
 fn put_finding(handles: &mut [[u32; 2]], places: &mut [[f32; 2]], k: usize, f: Finding)
     requires { ⌜ (k < length (now handles)) × (k < length (now places)) ⌝ }
-    ensures { λ _. ⌜ (is handles ≡ set (was handles) k (handleOf f)) × (is places ≡ set (was places) k (placeOf f)) ⌝ }
+    ensures { λ _. ⌜ (is handles ≡ set (was handles) k (handleRow f)) × (is places ≡ set (was places) k (placeRow f)) ⌝ }
 {
     let h = f.handle;
     let p = f.position;
@@ -131,7 +131,7 @@ fn fill_many(
     places: &mut [[f32; 2]],
 ) -> Count
     requires { ⌜ Searchable a b (now nums) (now pool) (now spots) used × (part .place ≤ used) × BegunBy a b test (now pool) (now spots) part (now few) ⌝ }
-    ensures { λ r. ⌜ findings r (is handles) (is places) ≡ searched a b test (was nums) (was pool) (was spots) used (was handles) (was places) ⌝ }
+    ensures { λ r. ⌜ findings r (is handles) (is places) ≡ searchFills a b test (was nums) (was pool) (was spots) used (was handles) (was places) ⌝ }
 {
     let mut all: [u32; basics::MOST_SLOTS] = [0; basics::MOST_SLOTS];
     copy(few, part.number, &mut all);
@@ -152,7 +152,7 @@ fn fill_few(
     places: &mut [[f32; 2]],
 ) -> Count
     requires { ⌜ Searchable a b (now nums) (now pool) (now spots) used ⌝ }
-    ensures { λ r. ⌜ findings r (is handles) (is places) ≡ searched a b test (was nums) (was pool) (was spots) used (was handles) (was places) ⌝ }
+    ensures { λ r. ⌜ findings r (is handles) (is places) ≡ searchFills a b test (was nums) (was pool) (was spots) used (was handles) (was places) ⌝ }
 {
     let mut few: [u32; 256] = [0; 256];
     let start = Part {
@@ -258,7 +258,7 @@ pub fn fill(
     places: &mut [[f32; 2]],
 ) -> Count
     requires { ⌜ Searchable a b (now nums) (now pool) (now spots) used ⌝ }
-    ensures { λ r. ⌜ findings r (is handles) (is places) ≡ searched a b test (was nums) (was pool) (was spots) used (was handles) (was places) ⌝ }
+    ensures { λ r. ⌜ findings r (is handles) (is places) ≡ searchFills a b test (was nums) (was pool) (was spots) used (was handles) (was places) ⌝ }
 {
     if lesser(handles.len(), places.len()) < used {
         return fill_few(nums, pool, spots, used, a, b, test, handles, places);

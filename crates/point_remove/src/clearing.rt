@@ -11,7 +11,7 @@ ghost use Rattle.point_tables.specs.Meaning.Lent.{before, after};
 ghost use Rattle.point_tables.specs.Meaning.Tables.{counting};
 ghost use Rattle.slot_walks.specs.Meaning.Live.{liveFrom};
 ghost use Rattle.slot_walks.specs.Meaning.Cleared.{clearedRows, clearedMap};
-ghost use Rattle.point_remove.specs.Meaning.Clear.{seen, clearInto};
+ghost use Rattle.point_remove.specs.Meaning.Clear.{wroteLent, clearInto};
 ghost use Rattle.point_remove.specs.Inner.{roomAnswer, countBy, placesOf, objsOf, Room};
 use replies::Count;
 use slots::Row;
@@ -90,7 +90,7 @@ pub fn clear(
     places: &mut [[f32; 2]],
     objs: &mut [u32],
 ) -> Count
-    ensures { λ r. ⌜ seen r places objs (after nums reals ints map pool spots cells) ≡ clearInto (before nums reals ints map pool spots cells) places objs ⌝ }
+    ensures { λ r. ⌜ wroteLent r places objs (after nums reals ints map pool spots cells) ≡ clearInto (before nums reals ints map pool spots cells) places objs ⌝ }
 {
     let held = point_tables::check(nums, reals, ints, map, pool, spots, cells);
     let c = answer(map, held, places.len(), objs.len());

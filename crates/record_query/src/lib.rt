@@ -4,7 +4,7 @@ ghost use Rattle.basics.specs.Meaning.Lent.{was, is};
 ghost use Rattle.point_tables.specs.Meaning.Lent.{before};
 ghost use Rattle.point_query.specs.Meaning.Queries.{findings};
 ghost use Rattle.record_query.specs.Inner.Calls.{aroundFor};
-ghost use Rattle.record_query.specs.Meaning.Calls.{aroundOn, Finds};
+ghost use Rattle.record_query.specs.Meaning.Calls.{aroundOn, FindsIn};
 use geometry::Position;
 use point_records::Record;
 use replies::Count;
@@ -63,7 +63,7 @@ pub fn query_around(
     found: &mut [[u32; 2]],
     places: &mut [[f32; 2]],
 ) -> Count
-    ensures { λ r. ⌜ Finds (λ rs t. aroundOn rs t centre radius) r found places records nums reals ints map pool spots cells ⌝ }
+    ensures { λ r. ⌜ FindsIn (λ rs t. aroundOn rs t centre radius) r found places records nums reals ints map pool spots cells ⌝ }
 {
     records::spread(records, nums, reals, ints);
     let n = records.len();

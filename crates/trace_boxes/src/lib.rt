@@ -5,7 +5,7 @@ ghost use Rattle.trace_lines.specs.Inner.Texts.{SpotInRange};
 ghost use Rattle.box_tables.specs.Meaning.Lent.{after, before};
 ghost use Rattle.box_tables.specs.Meaning.Outcome.{outcome};
 ghost use Rattle.trace_boxes.specs.Meaning.Changes.{changeOf, insertedOf, placedOf, takenOf};
-ghost use Rattle.trace_boxes.specs.Meaning.Searches.{searched, searchOf};
+ghost use Rattle.trace_boxes.specs.Meaning.Searches.{searched, boxSearchOf};
 use slots::Handle;
 use slots::Row;
 use trace_lines::BoxChange;
@@ -95,7 +95,7 @@ pub fn search_boxes(
     objs: &mut [u32],
 ) -> Said
     requires { ⌜ SpotInRange ll × SpotInRange ur ⌝ }
-    ensures { λ r. ⌜ searched r (is handles) (is corners) (is objs) ≡ searchOf (before nums reals map pool) ll ur (was handles) (was corners) (was objs) ⌝ }
+    ensures { λ r. ⌜ searched r (is handles) (is corners) (is objs) ≡ boxSearchOf (before nums reals map pool) ll ur (was handles) (was corners) (was objs) ⌝ }
 {
     let q = trace_telling::corners(ll, ur);
     let r = boxes::query(nums, reals, map, pool, q, handles, corners, objs);

@@ -4,7 +4,7 @@ ghost use Prim.Native.Nat.{_≤_};
 ghost use lib.IntN.{pos};
 ghost use lib.ListN.{length};
 ghost use Rattle.basics.specs.Meaning.Lent.{was};
-ghost use Rattle.trace_lines.specs.Meaning.Taken.{takeNumber, takeCount, takeSpot, takeHandle, ifAsked, nobody, origin, takePlaces};
+ghost use Rattle.trace_lines.specs.Meaning.Taken.{takeNumber, takeCount, takeSpot, takeHandle, ifAsked, nobody, noSpot, takePlaces};
 ghost use Rattle.trace_lines.specs.Inner.Cursor.{endFrom, fieldsFrom, numberTaken, countTaken, spotTaken, spotsTaken, handleTaken};
 use crate::Spot;
 use crate::TakenCount;
@@ -85,7 +85,7 @@ pub fn handle_if(b: &[u8], at: usize, asked: bool) -> TakenHandle
 
 fn spot_if(b: &[u8], at: usize, asked: bool) -> TakenSpot
     requires { ⌜ length (now b) ≤ 128 ⌝ }
-    ensures { λ r. ⌜ spotTaken (was b) r ≡ ifAsked asked origin takeSpot (fieldsFrom (was b) at) ⌝ }
+    ensures { λ r. ⌜ spotTaken (was b) r ≡ ifAsked asked noSpot takeSpot (fieldsFrom (was b) at) ⌝ }
 {
     let first = count_if(b, at, asked);
     let TakenCount::At(x, next) = first else {

@@ -3,7 +3,7 @@ ghost use mathlib.Core.Path.{_≡_};
 ghost use Prim.Native.Nat.{_≤_};
 ghost use lib.ListN.{length, take};
 ghost use Rattle.basics.specs.Meaning.Lent.{was};
-ghost use Rattle.trace_lines.specs.Meaning.Words.{row as Words·row, rowSays, pointChanges, pointSearches, boxLines, foundIn, askedBy};
+ghost use Rattle.trace_lines.specs.Meaning.Words.{wordRow as Words·row, rowSays, pointChanges, pointSearches, boxLines, foundIn, askedBy};
 ghost use Rattle.trace_lines.specs.Meaning.Requests.{requestOf};
 use slots::Handle;
 

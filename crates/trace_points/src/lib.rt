@@ -5,7 +5,7 @@ ghost use Rattle.trace_lines.specs.Inner.Texts.{SpotInRange, CountInRange};
 ghost use Rattle.point_tables.specs.Meaning.Lent.{after, before};
 ghost use Rattle.point_tables.specs.Meaning.Outcome.{outcome};
 ghost use Rattle.trace_points.specs.Meaning.Changes.{changeOf, movedOf, insertedOf, takenOf, markedOf, maintainedOf};
-ghost use Rattle.trace_points.specs.Meaning.Searches.{searched, findingsOf, searchOf};
+ghost use Rattle.trace_points.specs.Meaning.Searches.{searched, findingsOf, pointSearchOf};
 ghost use Rattle.point_query.specs.Meaning.Queries.{findings};
 use geometry::Position;
 use replies::Count;
@@ -212,7 +212,7 @@ pub fn search_points(
     places: &mut [[f32; 2]],
 ) -> Said
     requires { ⌜ (SpotInRange p × SpotInRange q) × CountInRange far ⌝ }
-    ensures { λ said. ⌜ searched said (is handles) (is places) ≡ searchOf (before nums reals ints map pool spots cells) s p q far (was handles) (was places) ⌝ }
+    ensures { λ said. ⌜ searched said (is handles) (is places) ≡ pointSearchOf (before nums reals ints map pool spots cells) s p q far (was handles) (was places) ⌝ }
 {
     let a = trace_telling::place(p);
     let b = trace_telling::place(q);

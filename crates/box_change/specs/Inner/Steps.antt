@@ -18,7 +18,7 @@ use Rattle.slots.specs.Meaning.Slot.{live, phaseAt}
 use Rattle.storage.specs.Inner.Keyed.{Sorted}
 use Rattle.storage.specs.Meaning.Keyed.{written}
 use Rattle.storage.specs.Meaning.Entries.{rowKey}
-use Rattle.box_cover.specs.Meaning.Coverage.{entered, left, Stands}
+use Rattle.box_cover.specs.Meaning.Coverage.{enteredAll, leftAll, Stands}
 use Rattle.box_tables.specs.Meaning.Tables.{Tables, slotsOf, counting, aabbAt, itemOf}
 use Rattle.box_tables.specs.Meaning.Holds.{Holds}
 use Rattle.box_tables.specs.declared.Span.{Span}
@@ -37,10 +37,10 @@ abbrev pub itemIn : ℕ → Span → ℕ
 itemIn s p = itemOf s (eqb (p .cells) 1)
 
 abbrev pub leftIn : ℕ → Span → List (List ℕ) → List (List ℕ)
-leftIn s p rows = left (p .low) (p .high) (itemIn s p) rows
+leftIn s p rows = leftAll (p .low) (p .high) (itemIn s p) rows
 
 abbrev pub shiftedRows : ℕ → Span → Span → List (List ℕ) → List (List ℕ)
-shiftedRows s p q rows = entered (q .low) (q .high) (itemIn s q) (leftIn s p rows)
+shiftedRows s p q rows = enteredAll (q .low) (q .high) (itemIn s q) (leftIn s p rows)
 
 abbrev pub stayIn : Span → Span → Bool
 stayIn p q = said (d-stay (p .low) (p .high) (q .low) (q .high))

@@ -7,7 +7,7 @@ use Rattle.geometry.specs.declared.Aabb.{Aabb}
 use Rattle.slots.specs.declared.Handle.{Handle}
 use Rattle.slots.specs.Meaning.Slot.{handleTest, emptiedNums, emptiedMap}
 use Rattle.storage.specs.Meaning.Keyed.{written}
-use Rattle.box_cover.specs.Meaning.Coverage.{left}
+use Rattle.box_cover.specs.Meaning.Coverage.{leftAll}
 use Rattle.box_tables.specs.Meaning.Tables.{Tables, tables, sizeOf, counting, entriesIn, aabbOn, objOn, lowCell, highCell, itemFor}
 use Rattle.box_tables.specs.Meaning.Decide.{holds}
 use Rattle.box_tables.specs.Meaning.Outcome.{Outcome, outcome}
@@ -16,7 +16,7 @@ use Rattle.replies.specs.Meaning.Replies.{reply}
 
 -- box b of slot s taken out of the list of every cell that it covers
 abbrev pub leftBy : ℕ → ℕ → Aabb → List (List ℕ) → List (List ℕ)
-leftBy size s b rows = left (lowCell size b) (highCell size b) (itemFor size s b) rows
+leftBy size s b rows = leftAll (lowCell size b) (highCell size b) (itemFor size s b) rows
 
 -- the entries without those of slot s
 abbrev pub entriesWithout : Tables → ℕ → List (List ℕ)

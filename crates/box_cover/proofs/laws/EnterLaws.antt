@@ -21,8 +21,8 @@ use Rattle.storage.proofs.laws.FilterLaws.{all-any, all-over, filter-whole, fil
 use Rattle.storage.proofs.laws.KeepsLaws.{sorted-map}
 use Rattle.storage.proofs.laws.AppendLaws.{sorted-appendAll, length-appendAll, all-appendAll}
 use Rattle.storage.proofs.laws.MergeLaws.{appendAll-sort, sort-sorted}
-use Rattle.box_cover.specs.Meaning.Coverage.{rowIn, entered, Stands}
-use Rattle.box_cover.specs.Inner.Walk.{rowAt}
+use Rattle.box_cover.specs.Meaning.Coverage.{rowIn, enteredAll, Stands}
+use Rattle.box_cover.specs.Inner.Walk.{rowFor}
 use Rattle.box_cover.proofs.laws.ListLaws.{filter-appendAll}
 
 -- ---- the rows of an item in the lists of some cells
@@ -45,41 +45,41 @@ pub rising-sorted : (ks : List ℕ) → Rising ks → Sorted (λ k. k) ks
 rising-sorted [] r = tt
 rising-sorted (k ∷ ks) r = (keys-above k ks (r .0), rising-sorted ks (r .1))
 
-pub rows-sorted : (i : ℕ) (ks : List ℕ) → Rising ks → Sorted rowKey (map (rowAt i) ks)
-rows-sorted i ks r = sorted-map (rowAt i) (λ k. k) rowKey (λ k. refl) ks (rising-sorted ks r)
+pub rows-sorted : (i : ℕ) (ks : List ℕ) → Rising ks → Sorted rowKey (map (rowFor i) ks)
+rows-sorted i ks r = sorted-map (rowFor i) (λ k. k) rowKey (λ k. refl) ks (rising-sorted ks r)
 
 pub range-sorted : (a b : Cell) → Near a → Near b → (i : ℕ) → Sorted rowKey (rowsIn i (rangeCells a b))
-range-sorted a b na nb i = rw (map-map (rowAt i) keyOf (rangeCells a b)) at (rows-sorted i (map keyOf (rangeCells a b)) (range-rising a b (near-fits a na) (near-fits b nb)))
+range-sorted a b na nb i = rw (map-map (rowFor i) keyOf (rangeCells a b)) at (rows-sorted i (map keyOf (rangeCells a b)) (range-rising a b (near-fits a na) (near-fits b nb)))
 
 -- ---- entering
 module _ (a b : Cell) (i : ℕ) (rows : List (List ℕ)) where
-  pub entered-sorted : Sorted rowKey rows → Sorted rowKey (entered a b i rows)
-  unfolding entered
+  pub entered-sorted : Sorted rowKey rows → Sorted rowKey (enteredAll a b i rows)
+  unfolding enteredAll
   entered-sorted s = sorted-appendAll rowKey rows (rowsIn i (rangeCells a b)) s
 
-  pub entered-length : length (entered a b i rows) ≡ length rows + cellsIn a b
-  unfolding entered
+  pub entered-length : length (enteredAll a b i rows) ≡ length rows + cellsIn a b
+  unfolding enteredAll
   entered-length = length-appendAll rowKey rows (rowsIn i (rangeCells a b)) ∙ ap (λ (n : ℕ). length rows + n) (length-map (rangeCells a b) (rowIn i) ∙ range-length a b)
 
-  pub entered-all : (P : List ℕ → Type 0) → All P rows → ((c : Cell) → P (rowIn i c)) → All P (entered a b i rows)
-  unfolding entered
+  pub entered-all : (P : List ℕ → Type 0) → All P rows → ((c : Cell) → P (rowIn i c)) → All P (enteredAll a b i rows)
+  unfolding enteredAll
   entered-all P p q = all-appendAll rowKey P rows (rowsIn i (rangeCells a b)) p (all-over P (rowIn i) (rangeCells a b) (all-any (λ c. P (rowIn i c)) q (rangeCells a b)))
 
   -- the entries of another item
-  pub entered-others : Sorted rowKey rows → (j : ℕ) → (j ≡ i → ⊥) → filter (isItem j) (entered a b i rows) ≡ filter (isItem j) rows
-  unfolding entered
+  pub entered-others : Sorted rowKey rows → (j : ℕ) → (j ≡ i → ⊥) → filter (isItem j) (enteredAll a b i rows) ≡ filter (isItem j) rows
+  unfolding enteredAll
   entered-others s j n = filter-appendAll rowKey (isItem j) rows (rowsIn i (rangeCells a b)) s ∙ rw (rows-other i j n (rangeCells a b)) (unfold appendAll in refl)
 
   -- its own, where it had none
-  pub entered-own : Near a → Near b → Sorted rowKey rows → filter (isItem i) rows ≡ [] → filter (isItem i) (entered a b i rows) ≡ rowsIn i (rangeCells a b)
-  unfolding entered
+  pub entered-own : Near a → Near b → Sorted rowKey rows → filter (isItem i) rows ≡ [] → filter (isItem i) (enteredAll a b i rows) ≡ rowsIn i (rangeCells a b)
+  unfolding enteredAll
   entered-own na nb s e =
       filter-appendAll rowKey (isItem i) rows (rowsIn i (rangeCells a b)) s
       ∙ rw (e, rows-own i (rangeCells a b)) (appendAll-sort rowKey (rowsIn i (rangeCells a b)) ∙ sort-sorted rowKey (rowsIn i (rangeCells a b)) (range-sorted a b na nb i))
 
-  pub entered-stands : Near a → Near b → Sorted rowKey rows → filter (isItem i) rows ≡ [] → Stands a b i (entered a b i rows)
+  pub entered-stands : Near a → Near b → Sorted rowKey rows → filter (isItem i) rows ≡ [] → Stands a b i (enteredAll a b i rows)
   entered-stands na nb s e = ap (map rowKey) (entered-own na nb s e) ∙ map-map rowKey (rowIn i) (rangeCells a b)
 
   -- another item stands where it stood
-  pub entered-keeps : Sorted rowKey rows → (c d : Cell) (j : ℕ) → (j ≡ i → ⊥) → Stands c d j rows → Stands c d j (entered a b i rows)
+  pub entered-keeps : Sorted rowKey rows → (c d : Cell) (j : ℕ) → (j ≡ i → ⊥) → Stands c d j rows → Stands c d j (enteredAll a b i rows)
   entered-keeps s c d j n st = ap (map rowKey) (entered-others s j n) ∙ st

@@ -24,7 +24,7 @@ use Rattle.storage.proofs.laws.FilterLaws.{by-test, all-over, all-of, filter-al
 use Rattle.storage.proofs.laws.KeyedLaws.{all-under, sorted-filter, sorted-determined}
 use Rattle.storage.proofs.laws.KeepsLaws.{sorted-map}
 use Rattle.storage.proofs.laws.TakeOutLaws.{has, has-at, all-takeOut, takeOut-none}
-use Rattle.box_cover.specs.Meaning.Coverage.{leftFrom, left, Stands}
+use Rattle.box_cover.specs.Meaning.Coverage.{leftFrom, leftAll, Stands}
 use Rattle.box_cover.specs.Inner.Taken.{takenFrom}
 use Rattle.box_cover.proofs.laws.TakenLaws.{taken-all, taken-sorted, taken-under, taken-length}
 use Rattle.box_cover.proofs.laws.ListLaws.{filter-swap, has-filter, has-map, filter-taken, length-filter-taken, alike, rising-once}
@@ -36,14 +36,14 @@ from-keys (c ∷ cs) i rows = from-keys cs i (onList rowKey (keyOf c) (takeOut (
 -- ---- leaving
 module _ (a b : Cell) (i : ℕ) (rows : List (List ℕ)) where
   -- taken out of the lists of the range's keys
-  pub left-keys : left a b i rows ≡ takenFrom (map keyOf (rangeCells a b)) i rows
-  unfolding left
+  pub left-keys : leftAll a b i rows ≡ takenFrom (map keyOf (rangeCells a b)) i rows
+  unfolding leftAll
   left-keys = from-keys (rangeCells a b) i rows
 
-  pub left-sorted : Sorted rowKey rows → Sorted rowKey (left a b i rows)
+  pub left-sorted : Sorted rowKey rows → Sorted rowKey (leftAll a b i rows)
   left-sorted s = rw left-keys (taken-sorted i (map keyOf (rangeCells a b)) rows s)
 
-  pub left-all : (P : List ℕ → Type 0) → All P rows → All P (left a b i rows)
+  pub left-all : (P : List ℕ → Type 0) → All P rows → All P (leftAll a b i rows)
   left-all P p = rw left-keys (taken-all i P (map keyOf (rangeCells a b)) rows p)
 
 -- where the item stands
@@ -59,7 +59,7 @@ module _ (a b : Cell) (na : Near a) (nb : Near b) (i : ℕ) (rows : List (List �
       ∙ has-filter (λ r. eqb (rowKey r) k) (isItem i) rows
 
   -- every list has lost the item
-  pub left-under : (k : ℕ) → under rowKey k (left a b i rows) ≡ takeOut (isItem i) (under rowKey k rows)
+  pub left-under : (k : ℕ) → under rowKey k (leftAll a b i rows) ≡ takeOut (isItem i) (under rowKey k rows)
   left-under k =
       ap (under rowKey k) (left-keys a b i rows)
       ∙ taken-under i k (map keyOf (rangeCells a b)) rows rising
@@ -68,7 +68,7 @@ module _ (a b : Cell) (na : Near a) (nb : Near b) (i : ℕ) (rows : List (List �
       (λ e. rw e)
       (λ e. rw e (sym (takeOut-none (isItem i) (under rowKey k rows) e)))
 
-  pub left-length : length (left a b i rows) + cellsIn a b ≡ length rows
+  pub left-length : length (leftAll a b i rows) + cellsIn a b ≡ length rows
   left-length =
       ap₂ _+_ (ap length (left-keys a b i rows)) (sym (length-map (rangeCells a b) keyOf ∙ range-length a b))
       ∙ taken-length i (map keyOf (rangeCells a b)) rows rising
@@ -87,11 +87,11 @@ module _ (a b : Cell) (na : Near a) (nb : Near b) (i : ℕ) (rows : List (List �
       )
 
   module _ (s : Sorted rowKey rows) where
-    pub left-none : filter (isItem i) (left a b i rows) ≡ []
+    pub left-none : filter (isItem i) (leftAll a b i rows) ≡ []
     left-none =
-        sorted-determined rowKey (filter (isItem i) (left a b i rows)) [] (sorted-filter rowKey (isItem i) (left a b i rows) (left-sorted a b i rows s)) tt
+        sorted-determined rowKey (filter (isItem i) (leftAll a b i rows)) [] (sorted-filter rowKey (isItem i) (leftAll a b i rows) (left-sorted a b i rows s)) tt
         (λ k.
-        filter-swap (λ r. eqb (rowKey r) k) (isItem i) (left a b i rows)
+        filter-swap (λ r. eqb (rowKey r) k) (isItem i) (leftAll a b i rows)
         ∙ ap (filter (isItem i)) (left-under k)
         ∙ filter-taken (isItem i) (under rowKey k rows) (stands-once k))
 
@@ -109,11 +109,11 @@ module _ (a b : Cell) (na : Near a) (nb : Near b) (i : ℕ) (rows : List (List �
       not-both : (r : List ℕ) → isItem i r ≡ true → isItem j r ≡ false
       not-both r e = ne-eqb (getD r 1 0) j (λ q. n (sym q ∙ eqb-true (getD r 1 0) i e))
 
-      pub left-others : map rowKey (filter (isItem j) (left a b i rows)) ≡ map rowKey (filter (isItem j) rows)
+      pub left-others : map rowKey (filter (isItem j) (leftAll a b i rows)) ≡ map rowKey (filter (isItem j) rows)
       left-others =
-          sorted-determined (λ k. k) (map rowKey (filter (isItem j) (left a b i rows))) (map rowKey (filter (isItem j) rows)) (keys-sorted (left a b i rows) (left-sorted a b i rows s)) (keys-sorted rows s)
+          sorted-determined (λ k. k) (map rowKey (filter (isItem j) (leftAll a b i rows))) (map rowKey (filter (isItem j) rows)) (keys-sorted (leftAll a b i rows) (left-sorted a b i rows s)) (keys-sorted rows s)
           (λ k.
-          keys-under k (left a b i rows)
+          keys-under k (leftAll a b i rows)
           ∙ ap (λ m. map rowKey (filter (isItem j) m)) (left-under k)
           ∙ alike k (map rowKey (filter (isItem j) (takeOut (isItem i) (under rowKey k rows)))) (map rowKey (filter (isItem j) (under rowKey k rows)))
           (keys-flat k (takeOut (isItem i) (under rowKey k rows)) (all-takeOut (λ r. rowKey r ≡ k) (isItem i) (under rowKey k rows) (all-under rowKey k rows)))
@@ -124,5 +124,5 @@ module _ (a b : Cell) (na : Near a) (nb : Near b) (i : ℕ) (rows : List (List �
           ∙ sym (keys-under k rows))
 
       -- another item stands where it stood
-      pub left-keeps : (c d : Cell) → Stands c d j rows → Stands c d j (left a b i rows)
+      pub left-keeps : (c d : Cell) → Stands c d j rows → Stands c d j (leftAll a b i rows)
       left-keeps c d q = left-others ∙ q

@@ -14,16 +14,16 @@ abbrev pub rowIn : ℕ → Cell → List ℕ
 rowIn item c = keyOf c ∷ item ∷ []
 
 -- ---- appended to the list of every cell of a range
-unfoldable pub entered : Cell → Cell → ℕ → List (List ℕ) → List (List ℕ)
-entered a b item rows = appendAll rowKey rows (map (rowIn item) (rangeCells a b))
+unfoldable pub enteredAll : Cell → Cell → ℕ → List (List ℕ) → List (List ℕ)
+enteredAll a b item rows = appendAll rowKey rows (map (rowIn item) (rangeCells a b))
 
 -- ---- taken out of the list of every cell of a range: in each the last entry moves into the gap
 abbrev pub leftFrom : List Cell → ℕ → List (List ℕ) → List (List ℕ)
 leftFrom [] item rows = rows
 leftFrom (c ∷ cs) item rows = leftFrom cs item (onList rowKey (keyOf c) (takeOut (isItem item)) rows)
 
-unfoldable pub left : Cell → Cell → ℕ → List (List ℕ) → List (List ℕ)
-left a b item rows = leftFrom (rangeCells a b) item rows
+unfoldable pub leftAll : Cell → Cell → ℕ → List (List ℕ) → List (List ℕ)
+leftAll a b item rows = leftFrom (rangeCells a b) item rows
 
 -- ---- the item stands once in the list of each cell of the range, and in no other list: the pool is in the order of the keys, which is
 -- the order of the range

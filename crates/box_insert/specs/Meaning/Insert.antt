@@ -12,7 +12,7 @@ use Rattle.slots.specs.declared.Usable.{Usable}
 use Rattle.slots.specs.Meaning.Map.{taken, lowestUsable, isSome, slotIn}
 use Rattle.slots.specs.Meaning.Slot.{live, versionAt}
 use Rattle.storage.specs.Meaning.Keyed.{written}
-use Rattle.box_cover.specs.Meaning.Coverage.{entered}
+use Rattle.box_cover.specs.Meaning.Coverage.{enteredAll}
 use Rattle.box_tables.specs.Meaning.Tables.{Tables, tables, sizeOf, usedOf, counting, slotsOf, entriesIn, lowCell, highCell, covers, itemFor}
 use Rattle.box_tables.specs.Meaning.Tables.{cornersOf}
 use Rattle.box_tables.specs.Meaning.Decide.{holds}
@@ -25,7 +25,7 @@ usableSlot t = lowestUsable (t .map) (slotsOf t)
 
 -- box b of slot s appended to the list of every cell that it covers
 abbrev pub enteredBy : ℕ → ℕ → Aabb → List (List ℕ) → List (List ℕ)
-enteredBy size s b rows = entered (lowCell size b) (highCell size b) (itemFor size s b) rows
+enteredBy size s b rows = enteredAll (lowCell size b) (highCell size b) (itemFor size s b) rows
 
 abbrev pub entriesWith : Tables → ℕ → Aabb → List (List ℕ)
 entriesWith t s b = enteredBy (sizeOf t) s b (entriesIn t)

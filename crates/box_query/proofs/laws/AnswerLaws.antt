@@ -16,7 +16,7 @@ use Rattle.storage.specs.Meaning.Keyed.{written}
 use Rattle.box_tables.specs.Meaning.Tables.{Tables, sizeOf, covers, objOn}
 use Rattle.box_tables.specs.Meaning.Decide.{holds}
 use Rattle.replies.specs.declared.Count.{Count}
-use Rattle.box_query.specs.Meaning.Queries.{broad, narrow, boxRow, answerOf, Handles, handlesOf, broadOf, Findings, findings, roomOf, queryOf}
+use Rattle.box_query.specs.Meaning.Queries.{broad, narrow, boxRow, lookAnswer, Handles, handlesOf, broadOf, Findings, findings, roomOf, queryOf}
 use Rattle.box_query.specs.Inner.Look.{earlyOf}
 use Rattle.replies.specs.Meaning.Replies.{count}
 use Rattle.slot_walks.specs.Meaning.Live.{handleAt}
@@ -50,39 +50,39 @@ module _ {A : Type 0} (done : A) (refused : Count → A) (n : ℕ) where
 module _ (t : Tables) (q : Aabb) where
   -- ---- the refusals that do not look at the outputs
   pub early-3 : holds t ≡ false → earlyOf t q ≡ 3
-  unfolding answerOf
+  unfolding lookAnswer
   early-3 e = simp e
 
   pub early-6 : holds t ≡ true → aabbInDomain q ≡ false → earlyOf t q ≡ 6
-  unfolding answerOf
+  unfolding lookAnswer
   early-6 e f = simp (e, f)
 
   pub early-7 : holds t ≡ true → aabbInDomain q ≡ true → mostCells < covers (sizeOf t) q → earlyOf t q ≡ 7
-  unfolding answerOf
+  unfolding lookAnswer
   early-7 e f l = simp (e, f, lt-leb (covers (sizeOf t) q) mostCells l)
 
   pub early-0 : holds t ≡ true → aabbInDomain q ≡ true → covers (sizeOf t) q ≤ mostCells → earlyOf t q ≡ 0
-  unfolding answerOf
+  unfolding lookAnswer
   early-0 e f l = simp (e, f, le-leb (covers (sizeOf t) q) mostCells l)
 
   pub early-passed : earlyOf t q ≡ 0 → (holds t ≡ true) × (aabbInDomain q ≡ true)
-  unfolding answerOf
+  unfolding lookAnswer
   early-passed h = tests (holds t) (aabbInDomain q) (leb (covers (sizeOf t) q) mostCells) h
 
   -- ---- a call that has such a refusal, and one that has not
   module _ {A : Type 0} (done : A) (refused : Count → A) (n room : ℕ) where
-    settled-early : (earlyOf t q ≡ 0 → ⊥) → refused (count (earlyOf t q) 0) ≡ settled (answerOf t q n room) n done refused
-    unfolding answerOf
+    settled-early : (earlyOf t q ≡ 0 → ⊥) → refused (count (earlyOf t q) 0) ≡ settled (lookAnswer t q n room) n done refused
+    unfolding lookAnswer
     settled-early h = early done refused n (holds t) (aabbInDomain q) (leb (covers (sizeOf t) q) mostCells) (leb n room) h
 
-    settled-late : earlyOf t q ≡ 0 → settled (answer true true true (leb n room)) n done refused ≡ settled (answerOf t q n room) n done refused
-    unfolding answerOf
+    settled-late : earlyOf t q ≡ 0 → settled (answer true true true (leb n room)) n done refused ≡ settled (lookAnswer t q n room) n done refused
+    unfolding lookAnswer
     settled-late h = late done refused n (holds t) (aabbInDomain q) (leb (covers (sizeOf t) q) mostCells) (leb n room) h
 
-    settled-9 : earlyOf t q ≡ 0 → room < n → refused (count 9 n) ≡ settled (answerOf t q n room) n done refused
+    settled-9 : earlyOf t q ≡ 0 → room < n → refused (count 9 n) ≡ settled (lookAnswer t q n room) n done refused
     settled-9 h l = ap (λ (b : Bool). settled (answer true true true b) n done refused) (sym (lt-leb n room l)) ∙ settled-late h
 
-    settled-0 : earlyOf t q ≡ 0 → n ≤ room → done ≡ settled (answerOf t q n room) n done refused
+    settled-0 : earlyOf t q ≡ 0 → n ≤ room → done ≡ settled (lookAnswer t q n room) n done refused
     settled-0 h l = ap (λ (b : Bool). settled (answer true true true b) n done refused) (sym (le-leb n room l)) ∙ settled-late h
 
   -- ---- `query_broad`

@@ -20,7 +20,7 @@ use Rattle.box_tables.specs.Meaning.Tables.{Tables, sizeOf, slotsOf, entriesIn,
 use Rattle.box_tables.specs.Meaning.Holds.{Holds}
 use Rattle.box_tables.proofs.laws.BoxLaws.{item-slot}
 use Rattle.box_tables.proofs.laws.HoldsLaws.{named-slot}
-use Rattle.box_query.specs.Meaning.Queries.{walk, broad, narrow}
+use Rattle.box_query.specs.Meaning.Queries.{rangeEntries, broad, narrow}
 use Rattle.box_query.proofs.laws.Shared.{Met}
 use Rattle.box_query.proofs.laws.FirstsLaws.{filter-member, member-filter, Once, firsts-once, firsts-of, of-firsts}
 use Rattle.box_query.proofs.laws.StandsLaws.{member-all, cell-stands}
@@ -35,7 +35,7 @@ module _ (t : Tables) (q : Aabb) where
   -- no slot twice
   pub broad-once : Once (broad t q)
   unfolding broad
-  broad-once = firsts-once (map slotOf (walk t q))
+  broad-once = firsts-once (map slotOf (rangeEntries t q))
 
 module _ (t : Tables) (h : Holds t) (q : Aabb) (d : T (aabbInDomain q)) where
   abbrev a : Cell
@@ -48,7 +48,7 @@ module _ (t : Tables) (h : Holds t) (q : Aabb) (d : T (aabbInDomain q)) where
   window r = windowOf a b (rowKey r)
 
   -- ---- an entry of the walk, and the slot that it names
-  walk-met : (r : List ℕ) → List·Memᴰ r (walk t q) → Met t q (slotOf r)
+  walk-met : (r : List ℕ) → List·Memᴰ r (rangeEntries t q) → Met t q (slotOf r)
   walk-met r m =
       let f = member-filter window r (entriesIn t) (subst (List·Memᴰ r) (walk-window t h q d) m) in
       let n = entry-named t h r (f .0) in
@@ -60,7 +60,7 @@ module _ (t : Tables) (h : Holds t) (q : Aabb) (d : T (aabbInDomain q)) where
   pub broad-met : (s : ℕ) → List·Memᴰ s (broad t q) → Met t q s
   unfolding broad
   broad-met s m =
-      let r = Memᴰ·of-map slotOf (walk t q) (firsts-of s (map slotOf (walk t q)) m) in
+      let r = Memᴰ·of-map slotOf (rangeEntries t q) (firsts-of s (map slotOf (rangeEntries t q)) m) in
       subst (Met t q) (r .2) (walk-met (r .0) (r .1))
 
   -- ---- an occupied slot whose box shares a cell has an entry in the walk
@@ -71,9 +71,9 @@ module _ (t : Tables) (h : Holds t) (q : Aabb) (d : T (aabbInDomain q)) where
       let r = cell-stands (lowCell (sizeOf t) (aabbOn t s)) (highCell (sizeOf t) (aabbOn t s)) (itemOn t s) (entriesIn t) (h .every s (m .inside) (m .occupied)) c (m .shared .of-second) in
       let w : window (r .0) ≡ true =
       ap (windowOf a b) (r .3) ∙ window-cell a b (a-fits t h q d) (b-fits t h q d) c (range-fits a b (a-fits t h q d) (b-fits t h q d) c (m .shared .of-first)) ∙ m .shared .of-first in
-      let k : List·Memᴰ (r .0) (walk t q) = subst (List·Memᴰ (r .0)) (sym (walk-window t h q d)) (filter-member window (r .0) (entriesIn t) (r .1) w) in
+      let k : List·Memᴰ (r .0) (rangeEntries t q) = subst (List·Memᴰ (r .0)) (sym (walk-window t h q d)) (filter-member window (r .0) (entriesIn t) (r .1) w) in
       let e : s ≡ slotOf (r .0) = sym (ap (λ (i : ℕ). i / 2) (r .2) ∙ item-slot s (eqb (covers (sizeOf t) (aabbOn t s)) 1)) in
-      of-firsts s (map slotOf (walk t q)) (Memᴰ·cast e (Memᴰ·map slotOf k))
+      of-firsts s (map slotOf (rangeEntries t q)) (Memᴰ·cast e (Memᴰ·map slotOf k))
 
   -- ---- found exactly when
   pub broad-exactly : (s : ℕ) → (List·Memᴰ s (broad t q) → Met t q s) × (Met t q s → List·Memᴰ s (broad t q))

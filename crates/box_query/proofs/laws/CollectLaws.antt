@@ -19,7 +19,7 @@ use Rattle.storage.proofs.laws.PackedLaws.{all-first}
 use Rattle.storage.proofs.laws.FilterLaws.{all-back, all-over, filter-all}
 use Rattle.box_tables.specs.Meaning.Tables.{slotOf}
 use Rattle.box_query.specs.Meaning.Firsts.{firsts}
-use Rattle.box_query.specs.Inner.Marks.{marksAfter, fresh, unmarked}
+use Rattle.box_query.specs.Inner.Marks.{marksAfter, firstMet, unmarked}
 use Rattle.box_query.proofs.laws.MarksLaws.{length-marks-after, marks-after-append, fresh-append, fresh-firsts, fresh-room, unmarked-none, unmarked-some}
 use Rattle.box_query.specs.Inner.Gather.{Slots, slotsIn, inside}
 use Rattle.box_query.specs.Inner.Collected.{Collected}
@@ -46,23 +46,23 @@ module _ (pool : List (List ℕ)) (from : ℕ) where
 -- ---- slot after slot
 module _ (m : List Bool) (fs : List ℕ) (n : ℕ) where
   pub collected-none : (l : List ℕ) → l ≡ [] → Collected m fs n l m fs n
-  unfolding marksAfter fresh
+  unfolding marksAfter firstMet
   collected-none l e =
       record {
-        number = omega (arith, ap (λ (l : List ℕ). length (fresh m l)) e);
+        number = omega (arith, ap (λ (l : List ℕ). length (firstMet m l)) e);
         marks-after = ap (marksAfter m) (sym e);
-        first = sym (ap (λ (l : List ℕ). take n fs ++ fresh m l) e ∙ append-nil (take n fs));
+        first = sym (ap (λ (l : List ℕ). take n fs ++ firstMet m l) e ∙ append-nil (take n fs));
         size = refl;
       }
 
   module _ (l : List ℕ) (marks : List Bool) (found : List ℕ) (k s : ℕ) (c : Collected m fs n l marks found k) where
     -- what the slot s adds
-    one-more : (b : Bool) → getD marks s false ≡ b → fresh m (l ++ (s ∷ [])) ≡ fresh m l ++ pick b [] (s ∷ [])
-    unfolding fresh
+    one-more : (b : Bool) → getD marks s false ≡ b → firstMet m (l ++ (s ∷ [])) ≡ firstMet m l ++ pick b [] (s ∷ [])
+    unfolding firstMet
     one-more b e =
         fresh-append m l (s ∷ [])
-        ∙ ap (λ (w : List Bool). fresh m l ++ pick (getD w s false) [] (s ∷ [])) (sym (c .marks-after))
-        ∙ ap (λ (w : Bool). fresh m l ++ pick w [] (s ∷ [])) e
+        ∙ ap (λ (w : List Bool). firstMet m l ++ pick (getD w s false) [] (s ∷ [])) (sym (c .marks-after))
+        ∙ ap (λ (w : Bool). firstMet m l ++ pick w [] (s ∷ [])) e
 
     one-marked : set marks s true ≡ marksAfter m (l ++ (s ∷ []))
     unfolding marksAfter
@@ -77,20 +77,20 @@ module _ (m : List Bool) (fs : List ℕ) (n : ℕ) where
     pub collected-taken : getD marks s false ≡ false → k < length fs → Collected m fs n (l ++ (s ∷ [])) (set marks s true) (set found k s) (k + 1)
     collected-taken e h =
         record {
-          number = omega (arith, c .number, ap length (one-more false e) ∙ length-append (fresh m l) (s ∷ []));
+          number = omega (arith, c .number, ap length (one-more false e) ∙ length-append (firstMet m l) (s ∷ []));
           marks-after = one-marked;
           first =
               ap (λ (i : ℕ). take i (set found k s)) (add-one k)
               ∙ take-suc-set found k s (omega (arith, c .size))
               ∙ ap (λ (w : List ℕ). w ++ (s ∷ [])) (c .first)
-              ∙ append-assoc (take n fs) (fresh m l) (s ∷ [])
+              ∙ append-assoc (take n fs) (firstMet m l) (s ∷ [])
               ∙ ap (λ (w : List ℕ). take n fs ++ w) (sym (one-more false e));
           size = length-set found k s ∙ c .size;
         }
 
     pub collected-passed : getD marks s false ≡ true → Collected m fs n (l ++ (s ∷ [])) (set marks s true) found k
     collected-passed e =
-        let same : fresh m (l ++ (s ∷ [])) ≡ fresh m l = one-more true e ∙ append-nil (fresh m l) in
+        let same : firstMet m (l ++ (s ∷ [])) ≡ firstMet m l = one-more true e ∙ append-nil (firstMet m l) in
         record {
           number = c .number ∙ ap (λ (w : List ℕ). n + length w) (sym same);
           marks-after = one-marked;
@@ -108,7 +108,7 @@ pub record Gathered (low high : ℕ) (rows : List (List ℕ)) (i : ℕ) (marks :
   pub few : n + unmarked marks ≤ 256
   pub marks-size : length marks ≡ 256
   pub size : length found ≡ 256
-  pub whole : take n found ++ fresh marks (map slotOf (inside low high (drop i rows))) ≡ firsts (map slotOf (inside low high rows))
+  pub whole : take n found ++ firstMet marks (map slotOf (inside low high (drop i rows))) ≡ firsts (map slotOf (inside low high rows))
 
 module _ (low high : ℕ) (pool : List (List ℕ)) (used : ℕ) (room : used ≤ length pool) (below : Slots pool used) where
   abbrev rows : List (List ℕ)
@@ -148,15 +148,15 @@ module _ (low high : ℕ) (pool : List (List ℕ)) (used : ℕ) (room : used ≤
           marks-size = ap length (c .marks-after) ∙ length-marks-after marks l ∙ g .marks-size;
           size = c .size ∙ g .size;
           whole =
-              (λ z. c .first z ++ fresh (c .marks-after z) (slotsFrom (r .to)))
-              ∙ append-assoc (take n found) (fresh marks l) (fresh (marksAfter marks l) (slotsFrom (r .to)))
+              (λ z. c .first z ++ firstMet (c .marks-after z) (slotsFrom (r .to)))
+              ∙ append-assoc (take n found) (firstMet marks l) (firstMet (marksAfter marks l) (slotsFrom (r .to)))
               ∙ ap (λ (x : List ℕ). take n found ++ x) (sym (fresh-append marks l (slotsFrom (r .to))))
-              ∙ ap (λ (x : List ℕ). take n found ++ fresh marks x) (sym stretch)
+              ∙ ap (λ (x : List ℕ). take n found ++ firstMet marks x) (sym stretch)
               ∙ g .whole;
         }
 
   pub gathered-end : (marks : List Bool) (found : List ℕ) (n : ℕ) → Gathered low high rows used marks found n → take n found ≡ firsts (map slotOf (inside low high rows))
-  unfolding fresh
+  unfolding firstMet
   gathered-end marks found n g =
       let none : drop used rows ≡ [] = ap (λ (k : ℕ). drop k rows) (sym (length-take-le used pool room)) ∙ drop-length rows in
-      sym (append-nil (take n found)) ∙ ap (λ (x : List (List ℕ)). take n found ++ fresh marks (map slotOf (inside low high x))) (sym none) ∙ g .whole
+      sym (append-nil (take n found)) ∙ ap (λ (x : List (List ℕ)). take n found ++ firstMet marks (map slotOf (inside low high x))) (sym none) ∙ g .whole

@@ -14,7 +14,7 @@ use Rattle.storage.specs.Meaning.Keyed.{All, filter}
 use Rattle.storage.proofs.laws.FilterLaws.{by-test, all-map, all-any, filter-whole, filter-same, filter-both}
 use Rattle.box_query.specs.Meaning.Firsts.{isOther, firsts}
 use Rattle.box_query.proofs.laws.FirstsLaws.{other-yes, all-firsts}
-use Rattle.box_query.specs.Inner.Marks.{marksAfter, fresh, unmarked}
+use Rattle.box_query.specs.Inner.Marks.{marksAfter, firstMet, unmarked}
 
 -- ---- list after list
 pub length-marks-after : (m : List Bool) (l : List ℕ) → length (marksAfter m l) ≡ length m
@@ -27,8 +27,8 @@ unfolding marksAfter
 marks-after-append m [] b = refl
 marks-after-append m (s ∷ a) b = marks-after-append (set m s true) a b
 
-pub fresh-append : (m : List Bool) (a b : List ℕ) → fresh m (a ++ b) ≡ fresh m a ++ fresh (marksAfter m a) b
-unfolding fresh marksAfter
+pub fresh-append : (m : List Bool) (a b : List ℕ) → firstMet m (a ++ b) ≡ firstMet m a ++ firstMet (marksAfter m a) b
+unfolding firstMet marksAfter
 fresh-append m [] b = refl
 fresh-append m (s ∷ a) b =
     by-test (getD m s false)
@@ -48,11 +48,11 @@ free-set m s h y =
     (λ n. rw (other-yes s y n, getD-set-other m s y true false n))
     (d-eq y s)
 
-pub fresh-filter : (m : List Bool) (l : List ℕ) → All (λ s. s < length m) l → fresh m l ≡ filter (free m) (firsts l)
-unfolding fresh firsts
+pub fresh-filter : (m : List Bool) (l : List ℕ) → All (λ s. s < length m) l → firstMet m l ≡ filter (free m) (firsts l)
+unfolding firstMet firsts
 fresh-filter m [] a = refl
 fresh-filter m (s ∷ l) a =
-    let within : fresh (set m s true) l ≡ filter (free m) (filter (isOther s) (firsts l)) =
+    let within : firstMet (set m s true) l ≡ filter (free m) (filter (isOther s) (firsts l)) =
     fresh-filter (set m s true) l (rw (length-set m s true) (a .1))
     ∙ filter-same (free (set m s true)) (λ y. isOther s y && free m y) (firsts l) (all-any (λ y. free (set m s true) y ≡ (isOther s y && free m y)) (free-set m s (a .0)) (firsts l))
     ∙ sym (filter-both (isOther s) (free m) (firsts l)) in
@@ -60,7 +60,7 @@ fresh-filter m (s ∷ l) a =
     (λ e. rw e within)
     (λ e. rw e (ap (λ (l : List ℕ). s ∷ l) within))
 
-pub fresh-firsts : (n : ℕ) (l : List ℕ) → All (λ s. s < n) l → fresh (replicate n false) l ≡ firsts l
+pub fresh-firsts : (n : ℕ) (l : List ℕ) → All (λ s. s < n) l → firstMet (replicate n false) l ≡ firsts l
 fresh-firsts n l a =
     let m = replicate n false in
     fresh-filter m l (rw (length-replicate n false) a)
@@ -73,8 +73,8 @@ unmarked-set [] s h = absurd (omega arith)
 unmarked-set (b ∷ m) zero h = omega arith
 unmarked-set (b ∷ m) (suc s) h = omega (arith, unmarked-set m s (omega arith))
 
-pub fresh-room : (m : List Bool) (l : List ℕ) → All (λ s. s < length m) l → length (fresh m l) + unmarked (marksAfter m l) ≡ unmarked m
-unfolding fresh marksAfter
+pub fresh-room : (m : List Bool) (l : List ℕ) → All (λ s. s < length m) l → length (firstMet m l) + unmarked (marksAfter m l) ≡ unmarked m
+unfolding firstMet marksAfter
 fresh-room m [] a = omega arith
 fresh-room m (s ∷ l) a =
     let rest = fresh-room (set m s true) l (rw (length-set m s true) (a .1)) in

@@ -30,7 +30,7 @@ use Rattle.box_tables.specs.Meaning.Holds.{Holds}
 use Rattle.box_tables.proofs.laws.BoxLaws as Box
 use Rattle.box_tables.proofs.laws.HoldsLaws.{Named, named-slot, used-in-pool, entries-sorted, entries-named, low-near, high-near}
 use Rattle.box_query.specs.Meaning.Firsts.{firsts}
-use Rattle.box_query.specs.Meaning.Queries.{walk, broad}
+use Rattle.box_query.specs.Meaning.Queries.{rangeEntries, broad}
 use Rattle.box_query.specs.Inner.Gather.{Slots, inside}
 use Rattle.box_query.proofs.laws.StandsLaws.{all-member, member-all, stands-cell}
 
@@ -83,8 +83,8 @@ module _ (t : Tables) (h : Holds t) where
     pub b-fits : Fits b
     b-fits = near-fits b (Box.high-near q d (sizeOf t))
 
-    pub walk-window : walk t q ≡ filter (λ r. windowOf a b (rowKey r)) (entriesIn t)
-    unfolding walk
+    pub walk-window : rangeEntries t q ≡ filter (λ r. windowOf a b (rowKey r)) (entriesIn t)
+    unfolding rangeEntries
     walk-window = walked-window rowKey a b a-fits b-fits (entriesIn t) (entries-sorted t h) keys-small
 
     -- gathering between the keys of the two cells

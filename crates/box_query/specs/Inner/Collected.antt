@@ -5,13 +5,13 @@ use mathlib.Core.Bool.{Bool}
 use mathlib.Core.List.{List, _++_}
 use lib.ListN.{length, take}
 use Rattle.basics.specs.Meaning.Limits.{mostBoxes}
-use Rattle.box_query.specs.Inner.Marks.{marksAfter, fresh, unmarked}
+use Rattle.box_query.specs.Inner.Marks.{marksAfter, firstMet, unmarked}
 use Rattle.box_query.specs.Inner.Gather.{Slots}
 
 pub record Collected (m : List Bool) (fs : List ℕ) (n : ℕ) (l : List ℕ) (marks : List Bool) (found : List ℕ) (k : ℕ) : Type 0 where
-  pub number : k ≡ n + length (fresh m l)
+  pub number : k ≡ n + length (firstMet m l)
   pub marks-after : marks ≡ marksAfter m l
-  pub first : take k found ≡ take n fs ++ fresh m l
+  pub first : take k found ≡ take n fs ++ firstMet m l
   pub size : length found ≡ length fs
 
 -- what collecting the slots of a stretch asks for: room behind the first n for each slot that has no mark

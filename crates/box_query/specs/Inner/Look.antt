@@ -7,11 +7,11 @@ use Rattle.basics.specs.Meaning.Limits.{mostBoxes}
 use Rattle.geometry.specs.declared.Aabb.{Aabb}
 use Rattle.box_tables.specs.Meaning.Tables.{Tables}
 use Rattle.replies.specs.declared.Count.{Count}
-use Rattle.box_query.specs.Meaning.Queries.{answerOf, broad}
+use Rattle.box_query.specs.Meaning.Queries.{lookAnswer, broad}
 
 -- nothing needs no room: the answers 3, 6 and 7
 abbrev pub earlyOf : Tables → Aabb → ℕ
-earlyOf t q = answerOf t q 0 0
+earlyOf t q = lookAnswer t q 0 0
 
 -- r is the refusal; or the number of the boxes, whose slots are the first of `found`
 pub record Looked (t : Tables) (q : Aabb) (r : Count) (found : List ℕ) : Type 0 where

@@ -11,9 +11,9 @@ marksAfter marks [] = marks
 marksAfter marks (s ∷ l) = marksAfter (set marks s true) l
 
 -- the slots of a list that have no mark, each once
-unfoldable pub fresh : List Bool → List ℕ → List ℕ
-fresh marks [] = []
-fresh marks (s ∷ l) = pick (getD marks s false) (fresh (set marks s true) l) (s ∷ fresh (set marks s true) l)
+unfoldable pub firstMet : List Bool → List ℕ → List ℕ
+firstMet marks [] = []
+firstMet marks (s ∷ l) = pick (getD marks s false) (firstMet (set marks s true) l) (s ∷ firstMet (set marks s true) l)
 
 -- how many have no mark
 unfoldable pub unmarked : List Bool → ℕ

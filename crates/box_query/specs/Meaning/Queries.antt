@@ -22,13 +22,13 @@ use Rattle.slot_walks.specs.Meaning.Live.{handleAt}
 
 -- ---- what is found
 -- the entries of the cells of the query box, in range order and then in list order
-unfoldable pub walk : Tables → Aabb → List (List ℕ)
-walk t q = walked rowKey (lowCell (sizeOf t) q) (highCell (sizeOf t) q) (entriesIn t)
+unfoldable pub rangeEntries : Tables → Aabb → List (List ℕ)
+rangeEntries t q = walked rowKey (lowCell (sizeOf t) q) (highCell (sizeOf t) q) (entriesIn t)
 
 -- their slots, each once, at its first place in the walk
 unfoldable pub broad : Tables → Aabb → List ℕ
-unfolding walk
-broad t q = firsts (map slotOf (walk t q))
+unfolding rangeEntries
+broad t q = firsts (map slotOf (rangeEntries t q))
 
 -- those whose box the query box intersects, in binary32
 unfoldable pub narrow : Tables → Aabb → List ℕ
@@ -48,8 +48,8 @@ lookTests t q number room =
     ∷ unless (leb number room) 9
     ∷ []
 
-unfoldable pub answerOf : Tables → Aabb → ℕ → ℕ → ℕ
-answerOf t q number room = firstOf (lookTests t q number room)
+unfoldable pub lookAnswer : Tables → Aabb → ℕ → ℕ → ℕ
+lookAnswer t q number room = firstOf (lookTests t q number room)
 
 -- ---- `query_broad`: what it returns, and its output after it; 9 returns the number found
 pub record Handles : Type 0 where
@@ -63,7 +63,7 @@ abbrev pub broadTests : Tables → Aabb → List (List ℕ) → List Refusal
 broadTests t q handles = lookTests t q (length (broad t q)) (length handles)
 
 unfoldable pub broadOf : Tables → Aabb → List (List ℕ) → Handles
-unfolding answerOf broad
+unfolding lookAnswer broad
 broadOf t q handles =
     let ss = broad t q in
     byTests (broadTests t q handles)
@@ -88,7 +88,7 @@ abbrev pub queryTests : Tables → Aabb → List (List ℕ) → List (List Float
 queryTests t q handles boxes objs = lookTests t q (length (narrow t q)) (roomOf handles boxes objs)
 
 unfoldable pub queryOf : Tables → Aabb → List (List ℕ) → List (List Float) → List ℕ → Findings
-unfolding answerOf narrow
+unfolding lookAnswer narrow
 queryOf t q handles boxes objs =
     let ss = narrow t q in
     byTests (queryTests t q handles boxes objs)

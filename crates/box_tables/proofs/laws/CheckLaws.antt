@@ -21,7 +21,7 @@ use Rattle.box_tables.specs.Meaning.Tables.{Tables, sizeOf, usedOf, slot
 use Rattle.box_tables.specs.Meaning.Tables.{Sized}
 use Rattle.box_tables.specs.Meaning.Holds.{Holds}
 use Rattle.box_tables.specs.Inner.Way.{itemIn, trackOf, OnTrack, spanOf, wayOf, noWay, wayAt}
-use Rattle.box_tables.specs.Inner.Check.{Counts, SlotsOk, Room, rowAt, blankRow, Ways, keysOf, Passes, Ready}
+use Rattle.box_tables.specs.Inner.Check.{Counts, SlotsOk, Room, wayRow, blankRow, Ways, keysOf, Passes, Ready}
 use Rattle.box_tables.proofs.laws.BoxLaws.{item-slot}
 use Rattle.box_tables.proofs.laws.HoldsLaws.{Named, StandsOn, entries-named, unnamed}
 use Rattle.box_tables.proofs.laws.WayLaws.{Bounded, to-come-one, way-of-box, way-live, way-none, way-slot, slot-bounded}
@@ -63,7 +63,7 @@ module _ (t : Tables) where
 
   module _ (z : Sized t) (c : CountsOf) (o : SlotsOf) {nexts stops jumps ends : List ℕ} (w : WaysOf nexts stops jumps ends) where
     abbrev row : ℕ → List ℕ
-    row i = rowAt nexts stops jumps ends i
+    row i = wayRow nexts stops jumps ends i
 
     row-own : (i : ℕ) → Of i → row i ≡ trackOf (way (i / 2))
     row-own i p = ap row (sym (p .1)) ∙ w .are (i / 2) (p .0)
@@ -163,15 +163,15 @@ module _ (t : Tables) where
           (entriesIn t) (entries-named t h))
 
       -- no entry, and the next key is the end
-      none-on : (i : ℕ) → filter (isItem i) (entriesIn t) ≡ [] → getD nexts i 0 ≡ getD ends i 0 → OnTrack (rowAt nexts stops jumps ends i) (keysOf (t .pool) (usedOf t) i)
-      none-on i e q = subst (OnTrack (rowAt nexts stops jumps ends i)) (sym (ap (map rowKey) e)) q
+      none-on : (i : ℕ) → filter (isItem i) (entriesIn t) ≡ [] → getD nexts i 0 ≡ getD ends i 0 → OnTrack (wayRow nexts stops jumps ends i) (keysOf (t .pool) (usedOf t) i)
+      none-on i e q = subst (OnTrack (wayRow nexts stops jumps ends i)) (sym (ap (map rowKey) e)) q
 
-      every-own : (i : ℕ) → Of i → Decided (phaseAt (t .nums) (i / 2) ≡ live) → OnTrack (rowAt nexts stops jumps ends i) (keysOf (t .pool) (usedOf t) i)
+      every-own : (i : ℕ) → Of i → Decided (phaseAt (t .nums) (i / 2) ≡ live) → OnTrack (wayRow nexts stops jumps ends i) (keysOf (t .pool) (usedOf t) i)
       every-own i p (inl q) =
           let s = i / 2 in
           let e : itemOn t s ≡ i = sym (live-item s q) ∙ p .1 in
-          subst (λ (k : ℕ). OnTrack (rowAt nexts stops jumps ends k) (keysOf (t .pool) (usedOf t) k)) e
-          (subst (OnTrack (rowAt nexts stops jumps ends (itemOn t s))) (sym (h .every s (p .0) q)) (range-on (h .sized) counts-of slots-of w s (p .0) q))
+          subst (λ (k : ℕ). OnTrack (wayRow nexts stops jumps ends k) (keysOf (t .pool) (usedOf t) k)) e
+          (subst (OnTrack (wayRow nexts stops jumps ends (itemOn t s))) (sym (h .every s (p .0) q)) (range-on (h .sized) counts-of slots-of w s (p .0) q))
       every-own i p (inr n) =
           let s = i / 2 in
           let e : itemOf s false ≡ i = sym (ap itemIn (way-none (t .nums) (t .reals) (sizeOf t) s n)) ∙ p .1 in

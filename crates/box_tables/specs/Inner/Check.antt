@@ -30,8 +30,8 @@ pub record BoxOk (size : ℕ) (b : Aabb) : Type 0 where
   pub cells-most : covers size b ≤ mostCells
 
 -- ---- the ways in four arrays, by items: next key, last column, step, end
-abbrev pub rowAt : List ℕ → List ℕ → List ℕ → List ℕ → ℕ → List ℕ
-rowAt nexts stops jumps ends i = getD nexts i 0 ∷ getD stops i 0 ∷ getD jumps i 0 ∷ getD ends i 0 ∷ []
+abbrev pub wayRow : List ℕ → List ℕ → List ℕ → List ℕ → ℕ → List ℕ
+wayRow nexts stops jumps ends i = getD nexts i 0 ∷ getD stops i 0 ∷ getD jumps i 0 ∷ getD ends i 0 ∷ []
 
 abbrev pub blankRow : List ℕ
 blankRow = 0 ∷ 0 ∷ 1 ∷ 0 ∷ []
@@ -68,8 +68,8 @@ module _ (nums : List (List ℕ)) (reals : List (List Float)) where
   -- the ways of the first i slots are those of their boxes, each at its item; at no other item does a key come
   pub record Ways (size : ℕ) (nexts stops jumps ends : List ℕ) (i : ℕ) : Type 0 where
     pub long : Long nexts stops jumps ends
-    pub are : (s : ℕ) → s < i → rowAt nexts stops jumps ends (itemIn (wayAt nums reals size s)) ≡ trackOf (wayAt nums reals size s)
-    pub blank : (k : ℕ) → ((s : ℕ) → s < i → itemIn (wayAt nums reals size s) ≡ k → ⊥) → k < 512 → rowAt nexts stops jumps ends k ≡ blankRow
+    pub are : (s : ℕ) → s < i → wayRow nexts stops jumps ends (itemIn (wayAt nums reals size s)) ≡ trackOf (wayAt nums reals size s)
+    pub blank : (k : ℕ) → ((s : ℕ) → s < i → itemIn (wayAt nums reals size s) ≡ k → ⊥) → k < 512 → wayRow nexts stops jumps ends k ≡ blankRow
 
   -- by the cell size that the map's head word has
   abbrev pub WaysTo : List ℕ → List ℕ → List ℕ → List ℕ → List ℕ → ℕ → Type 0
@@ -89,7 +89,7 @@ keysOf pool j i = map rowKey (filter (isItem i) (take j pool))
 pub record Passes (pool : List (List ℕ)) (nexts stops jumps ends : List ℕ) (used : ℕ) : Type 0 where
   pub ordered : (i j : ℕ) → j < used → i < j → first pool i ≤ first pool j
   pub inside : (j : ℕ) → j < used → second pool j < 512
-  pub every : (i : ℕ) → i < 512 → OnTrack (rowAt nexts stops jumps ends i) (keysOf pool used i)
+  pub every : (i : ℕ) → i < 512 → OnTrack (wayRow nexts stops jumps ends i) (keysOf pool used i)
 
 -- lengths that let every entry be read, and steps that fit
 pub record Ready (pool : List (List ℕ)) (nexts jumps : List ℕ) (used : ℕ) : Type 0 where

@@ -42,11 +42,11 @@ abbrev pub poollessAfter : Lent (List (List ℕ)) → Lent (List (List Float)) �
 poollessAfter nums reals ints map cells = lentPoolless (nums .exit) (reals .exit) (ints .exit) (map .entry) (cells .exit)
 
 -- the records with a cell size alone, before a call and after it
-abbrev pub recordsBefore : Lent (List (List ℕ)) → Lent (List (List Float)) → Lent (List (List ℤ)) → ℕ → Tables
-recordsBefore nums reals ints size = poolless (was nums) (was reals) (was ints) (size ∷ []) []
+abbrev pub columnsBefore : Lent (List (List ℕ)) → Lent (List (List Float)) → Lent (List (List ℤ)) → ℕ → Tables
+columnsBefore nums reals ints size = poolless (was nums) (was reals) (was ints) (size ∷ []) []
 
-abbrev pub recordsAfter : Lent (List (List ℕ)) → Lent (List (List Float)) → Lent (List (List ℤ)) → ℕ → Tables
-recordsAfter nums reals ints size = poolless (is nums) (is reals) (is ints) (size ∷ []) []
+abbrev pub columnsAfter : Lent (List (List ℕ)) → Lent (List (List Float)) → Lent (List (List ℤ)) → ℕ → Tables
+columnsAfter nums reals ints size = poolless (is nums) (is reals) (is ints) (size ∷ []) []
 
 abbrev pub call : ℕ → Handle → Position → Call
 call k h p = record { kind = k; handle = h; at = p }

@@ -29,8 +29,8 @@ pub record Fresh (t : Tables) (s : ℕ) (p : Position) : Type 0 where
   pub is-free : phaseAt (t .nums) s ≡ free
 
 -- what is chosen, by the map m of n slots: the answer a, and where it is 0 the lowest usable slot s
-abbrev pub Chose : Bool → Position → List ℕ → ℕ → ℕ → ℕ → Type 0
-Chose held p m n a s = (a ≡ answerBy held (positionInDomain p) (lowestUsable m n)) × (a ≡ 0 → lowestUsable m n ≡ At s)
+abbrev pub Chosen : Bool → Position → List ℕ → ℕ → ℕ → ℕ → Type 0
+Chosen held p m n a s = (a ≡ answerBy held (positionInDomain p) (lowestUsable m n)) × (a ≡ 0 → lowestUsable m n ≡ At s)
 
 -- an object at p, in its cell, with nothing pending
 abbrev pub freshRecord : ℕ → Position → Cell → ℕ → Record

@@ -29,7 +29,7 @@ use Rattle.point_records.specs.Meaning.States.{isRemoved}
 use Rattle.point_tables.specs.Meaning.Tables.{Tables, sizeOf, slotsOf, recordOn, entriesIn, slotOf}
 use Rattle.point_tables.specs.Meaning.Holds.{Holds}
 use Rattle.point_tables.specs.Inner.Count.{isLive}
-use Rattle.point_maintain.specs.Meaning.Walk.{entryTaking, entryAt, fateBy, fate, staying}
+use Rattle.point_maintain.specs.Meaning.Walk.{entryTaking, entryFor, fateBy, fate, staying}
 use Rattle.point_maintain.specs.Meaning.Maintain.{cellKeys}
 use Rattle.point_maintain.proofs.laws.SettleForm.{settledAs}
 use Rattle.point_maintain.proofs.laws.Settle.{among, picked}
@@ -159,7 +159,7 @@ module _ (t : Tables) (h : Holds t) where
       go : phaseAt (t .nums) i ≡ live → (st : State) → recordOn t i .state ≡ st → Agrees (sizeOf t) (recordOn t i .cell) st → All (Named (settledAll t)) (relocatedBy (sizeOf t) i st)
       go p Unchanged q a = tt
       go p (NewPos at) q a = tt
-      go p (Relocate at c) q a = (named-as (entryAt (sizeOf t) i at) l _ (after-as i l p (Relocate at c) q) p (ap keyOf (a .1)) refl refl, tt)
+      go p (Relocate at c) q a = (named-as (entryFor (sizeOf t) i at) l _ (after-as i l p (Relocate at c) q) p (ap keyOf (a .1)) refl refl, tt)
       go p Removed q a = tt
 
   moves-named : (n : ℕ) → n ≤ slotsOf t → All (Named (settledAll t)) (relocatedBelow n t)

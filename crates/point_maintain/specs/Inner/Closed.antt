@@ -12,7 +12,7 @@ use Rattle.point_records.specs.declared.State.{State}
 use Rattle.point_records.specs.declared.State.the-variants.{Unchanged, NewPos, Relocate, Removed}
 use Rattle.point_tables.specs.Meaning.Tables.{Tables, tables, counting, sizeOf, slotsOf, recordOn, entriesIn}
 use Rattle.point_tables.specs.Inner.Count.{isLive}
-use Rattle.point_maintain.specs.Meaning.Walk.{entryAt, fate}
+use Rattle.point_maintain.specs.Meaning.Walk.{entryFor, fate}
 use Rattle.point_maintain.specs.Meaning.Maintain.{cellKeys}
 use Rattle.point_maintain.specs.Inner.Settle.{settledAll}
 use Rattle.point_maintain.specs.Inner.Kept.{kept}
@@ -35,7 +35,7 @@ keptEntries t = joined (keptUnder t) (cellKeys t)
 abbrev pub relocatedBy : ℕ → ℕ → State → List Entry
 relocatedBy size i Unchanged = []
 relocatedBy size i (NewPos p) = []
-relocatedBy size i (Relocate p c) = entryAt size i p ∷ []
+relocatedBy size i (Relocate p c) = entryFor size i p ∷ []
 relocatedBy size i Removed = []
 
 abbrev pub relocatedAt : Tables → ℕ → List Entry

@@ -20,8 +20,8 @@ abbrev pub entryTaking : Entry → Position → Entry
 entryTaking e p = entry (e .row) (p .x ∷ p .y ∷ [])
 
 -- the entry of slot s at p, in the list of p's cell
-abbrev pub entryAt : ℕ → ℕ → Position → Entry
-entryAt size s p = entry (keyOf (cellAt size p) ∷ s ∷ []) (p .x ∷ p .y ∷ [])
+abbrev pub entryFor : ℕ → ℕ → Position → Entry
+entryFor size s p = entry (keyOf (cellAt size p) ∷ s ∷ []) (p .x ∷ p .y ∷ [])
 
 -- ---- the record of an object once what is pending is done
 abbrev pub recordTaking : Record → Position → Cell → Record
@@ -53,7 +53,7 @@ pub data Fate : Type 0 where
 abbrev pub fateBy : ℕ → Entry → State → Fate
 fateBy size e Unchanged = stays e
 fateBy size e (NewPos p) = stays (entryTaking e p)
-fateBy size e (Relocate p c) = leaves (entryAt size (slotOf e) p ∷ [])
+fateBy size e (Relocate p c) = leaves (entryFor size (slotOf e) p ∷ [])
 fateBy size e Removed = leaves []
 
 abbrev pub fate : Tables → Entry → Fate

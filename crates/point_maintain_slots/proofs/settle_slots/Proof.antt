@@ -5,21 +5,21 @@ use mathlib.Core.Path.{_≡_}
 use native.Mathlib.Omega.{arith}
 use lib.ListN.{length}
 use Rattle.point_tables.specs.Meaning.Tables.{Tables}
-use Rattle.point_maintain_slots.specs.Inner.Pass.{recordsIn}
+use Rattle.point_maintain_slots.specs.Inner.Pass.{recordTables}
 use Rattle.point_maintain_slots.proofs.Turns.{Done, none-done, all-done, done-slots, done-reals, done-ints, done-map, done-room, put-long, turn-slotted, turn-room, turn-done}
 use Rattle.point_maintain_slots.proofs.settle_slots.Statement.{statement}
 use Rattle.point_maintain_slots.proofs.settle_slots.Tie as tie
 
 abbrev Inv-loop : tie.InvT-loop
 Inv-loop nums₀ reals₀ ints₀ map₀ pool₀ w k₀ i₀ nums reals ints map pool k i =
-    Done (recordsIn nums₀ reals₀ ints₀ map₀) w pool₀ i (recordsIn nums reals ints map) pool k
+    Done (recordTables nums₀ reals₀ ints₀ map₀) w pool₀ i (recordTables nums reals ints map) pool k
 
 abbrev μ-loop : tie.MeasureT-loop
 μ-loop nums₀ reals₀ ints₀ map₀ pool₀ w k₀ i₀ nums reals ints map pool k i = length nums₀ - i
 
 -- the records at entry, and those in a turn
 abbrev at-entry : tie.Start Inv-loop μ-loop → Tables
-at-entry s = recordsIn (s .args .nums .now) (s .args .reals .now) (s .args .ints .now) (s .args .map .now)
+at-entry s = recordTables (s .args .nums .now) (s .args .reals .now) (s .args .ints .now) (s .args .map .now)
 
 abbrev start : tie.At-loop Inv-loop μ-loop → tie.Start Inv-loop μ-loop
 start l = l .before .before
@@ -43,7 +43,7 @@ turn-requires c κs =
     (turn-slotted (l .loop .inv) (s .pre .0) (s .pre .1) (inside t), turn-room (l .loop .inv) (s .pre .0) (s .pre .1) (inside t))
 
 -- one slot more
-after : (c : tie.After-pool Inv-loop μ-loop) → let u = c .before .before .before .before .before .before in let l = u .before .before .before .before .before .before .before in let s = start l in Done (at-entry s) (s .args .w) (s .args .pool .now) (l .loop .i + 1) (recordsIn (u .turn .last .0) (u .turn .last .1 .0) (u .turn .last .1 .1 .0) (u .turn .last .1 .1 .1 .0)) (u .turn .last .1 .1 .1 .1 .0) (l .loop .k + u .turn .result)
+after : (c : tie.After-pool Inv-loop μ-loop) → let u = c .before .before .before .before .before .before in let l = u .before .before .before .before .before .before .before in let s = start l in Done (at-entry s) (s .args .w) (s .args .pool .now) (l .loop .i + 1) (recordTables (u .turn .last .0) (u .turn .last .1 .0) (u .turn .last .1 .1 .0) (u .turn .last .1 .1 .1 .0)) (u .turn .last .1 .1 .1 .1 .0) (l .loop .k + u .turn .result)
 after c =
     let u = c .before .before .before .before .before .before in
     let t = u .before .before .before .before .before .before in

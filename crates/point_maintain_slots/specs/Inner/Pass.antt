@@ -27,11 +27,11 @@ use Rattle.point_maintain.specs.Inner.Settle.{Shaped}
 use Rattle.point_maintain.specs.Inner.Closed.{relocatedBelow}
 
 -- ---- tables that have the records and the slot map alone, and the same behind four references: at one moment, before and after a call
-abbrev pub recordsIn : List (List ℕ) → List (List Float) → List (List ℤ) → List ℕ → Tables
-recordsIn nums reals ints map = tables nums reals ints map [] [] []
+abbrev pub recordTables : List (List ℕ) → List (List Float) → List (List ℤ) → List ℕ → Tables
+recordTables nums reals ints map = tables nums reals ints map [] [] []
 
 abbrev pub lentRecords : RefT (List (List ℕ)) → RefT (List (List Float)) → RefT (List (List ℤ)) → RefT (List ℕ) → Tables
-lentRecords nums reals ints map = recordsIn (now nums) (now reals) (now ints) (now map)
+lentRecords nums reals ints map = recordTables (now nums) (now reals) (now ints) (now map)
 
 abbrev pub recordsBefore : Lent (List (List ℕ)) → Lent (List (List Float)) → Lent (List (List ℤ)) → Lent (List ℕ) → Tables
 recordsBefore nums reals ints map = lentRecords (nums .entry) (reals .entry) (ints .entry) (map .entry)

@@ -22,7 +22,7 @@ use Rattle.point_tables.specs.Meaning.Holds.{Holds}
 use Rattle.point_tables.specs.Meaning.Decide.{holds, holds-says}
 use Rattle.point_query.specs.declared.Finding.{Finding}
 use Rattle.point_query.specs.declared.Test.{Test}
-use Rattle.point_query.specs.Meaning.Queries.{found, findingOn, handleOf, placeOf, outputs, room, filling, Findings, findings, reportOf, searchOf}
+use Rattle.point_query.specs.Meaning.Queries.{found, findingOn, handleRow, placeRow, outputs, room, filling, Findings, findings, reportOf, searchOf}
 use Rattle.point_query.specs.Inner.Places.{wantedAt, placesOf}
 use Rattle.point_query.proofs.laws.PlacesLaws.{places-inside}
 use Rattle.point_query.specs.Inner.Fill.{findingAt, filled, Stocked, Findable}
@@ -51,7 +51,7 @@ module _ (nums pool : List (List ℕ)) (spots : List (List Float)) (js : List �
 reported-map : {A B : Type 0} (report : B → Finding) (g : A → B) (l : List A) (handles : List (List ℕ)) (places : List (List Float))
     → reportOf report (map g l) (outputs handles places) ≡ reportOf (λ a. report (g a)) l (outputs handles places)
 reported-map report g l handles places =
-    λ z. findings (count 0 (length-map l g z)) (written (map-map (λ b. handleOf (report b)) g l z) handles) (written (map-map (λ b. placeOf (report b)) g l z) places)
+    λ z. findings (count 0 (length-map l g z)) (written (map-map (λ b. handleRow (report b)) g l z) handles) (written (map-map (λ b. placeRow (report b)) g l z) places)
 
 module _ (t : Tables) (h : Holds t) where
   pub stocked : Stocked (t .pool) (t .spots) (usedOf t)

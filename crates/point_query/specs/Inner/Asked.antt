@@ -12,7 +12,7 @@ use Rattle.point_query.specs.declared.Part.{Part}
 use Rattle.point_query.specs.declared.Test.{Test}
 use Rattle.point_query.specs.Meaning.Queries.{outputs, filling, Findings}
 use Rattle.point_query.specs.Inner.Places.{placesOf, stretchPlaces}
-use Rattle.point_query.specs.Inner.Fill.{findingAt, handleAt, placeAt, filled, Stocked, Findable}
+use Rattle.point_query.specs.Inner.Fill.{findingAt, handleRowAt, placeRowAt, filled, Stocked, Findable}
 use Rattle.point_query.specs.Inner.Begun.{Begun}
 
 -- what a search asks for: sorted columns, corners near enough, and a slot for each entry in use
@@ -21,8 +21,8 @@ Searchable a b nums pool spots used =
     Stocked pool spots used × Near a × Near b × (length nums ≤ mostSlots) × ((j : ℕ) → j < used → Findable nums pool spots j)
 
 -- what a search writes and returns
-abbrev pub searched : Cell → Cell → Test → List (List ℕ) → List (List ℕ) → List (List Float) → ℕ → List (List ℕ) → List (List Float) → Findings
-searched a b test nums pool spots used handles places = filled nums pool spots (placesOf a b test pool spots used) handles places
+abbrev pub searchFills : Cell → Cell → Test → List (List ℕ) → List (List ℕ) → List (List Float) → ℕ → List (List ℕ) → List (List Float) → Findings
+searchFills a b test nums pool spots used handles places = filled nums pool spots (placesOf a b test pool spots used) handles places
 
 -- a part has collected the places below its own
 abbrev pub BegunBy : Cell → Cell → Test → List (List ℕ) → List (List Float) → Part → List ℕ → Type 0
@@ -55,8 +55,8 @@ StretchGathered test spots from to n places r places′ =
 abbrev pub StretchReported : Test → List (List ℕ) → List (List ℕ) → List (List Float) → ℕ → ℕ → ℕ → List (List ℕ) → List (List Float) → ℕ → List (List ℕ) → List (List Float) → Type 0
 StretchReported test nums pool spots from to n handles places r handles′ places′ =
     (r ≡ n + length (stretchPlaces test spots from to))
-    × (handles′ ≡ written (take n handles ++ map (handleAt nums pool spots) (stretchPlaces test spots from to)) handles)
-    × (places′ ≡ written (take n places ++ map (placeAt nums pool spots) (stretchPlaces test spots from to)) places)
+    × (handles′ ≡ written (take n handles ++ map (handleRowAt nums pool spots) (stretchPlaces test spots from to)) handles)
+    × (places′ ≡ written (take n places ++ map (placeRowAt nums pool spots) (stretchPlaces test spots from to)) places)
 
 -- what reporting a stretch asks for: room behind the first n findings, and a slot for each entry below its end
 abbrev pub StretchReportable : List (List ℕ) → List (List ℕ) → List (List Float) → ℕ → ℕ → ℕ → List (List ℕ) → List (List Float) → Type 0

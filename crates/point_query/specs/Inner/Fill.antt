@@ -13,7 +13,7 @@ use Rattle.storage.specs.Meaning.Packed.{second}
 use Rattle.point_records.specs.declared.Entry.{Entry}
 use Rattle.point_records.specs.Inner.Listed.{listedAt}
 use Rattle.point_query.specs.declared.Finding.{Finding}
-use Rattle.point_query.specs.Meaning.Queries.{finding, handleOf, placeOf, outputs, room, Findings, findings, reportOf}
+use Rattle.point_query.specs.Meaning.Queries.{finding, handleRow, placeRow, outputs, room, Findings, findings, reportOf}
 use Rattle.replies.specs.Meaning.Replies.{count}
 
 -- what is reported of an entry
@@ -24,11 +24,11 @@ findingOf nums e = finding nums (e .slot) (e .position)
 abbrev pub findingAt : List (List ℕ) → List (List ℕ) → List (List Float) → ℕ → Finding
 findingAt nums pool spots j = findingOf nums (listedAt pool spots j)
 
-abbrev pub handleAt : List (List ℕ) → List (List ℕ) → List (List Float) → ℕ → List ℕ
-handleAt nums pool spots j = handleOf (findingAt nums pool spots j)
+abbrev pub handleRowAt : List (List ℕ) → List (List ℕ) → List (List Float) → ℕ → List ℕ
+handleRowAt nums pool spots j = handleRow (findingAt nums pool spots j)
 
-abbrev pub placeAt : List (List ℕ) → List (List ℕ) → List (List Float) → ℕ → List Float
-placeAt nums pool spots j = placeOf (findingAt nums pool spots j)
+abbrev pub placeRowAt : List (List ℕ) → List (List ℕ) → List (List Float) → ℕ → List Float
+placeRowAt nums pool spots j = placeRow (findingAt nums pool spots j)
 
 unfoldable pub filled : List (List ℕ) → List (List ℕ) → List (List Float) → List ℕ → List (List ℕ) → List (List Float) → Findings
 filled nums pool spots js handles places =

@@ -48,11 +48,11 @@ abbrev pub findingOn : Tables → Entry → Finding
 findingOn t e = finding (t .nums) (slotOf e) (positionOf e)
 
 -- its rows: (slot, version) and (x, y)
-abbrev pub handleOf : Finding → List ℕ
-handleOf f = f .handle .slot ∷ f .handle .version ∷ []
+abbrev pub handleRow : Finding → List ℕ
+handleRow f = f .handle .slot ∷ f .handle .version ∷ []
 
-abbrev pub placeOf : Finding → List Float
-placeOf f = f .position .x ∷ f .position .y ∷ []
+abbrev pub placeRow : Finding → List Float
+placeRow f = f .position .x ∷ f .position .y ∷ []
 
 -- ---- the outputs of a query: a column for each row of a finding
 pub record Outputs : Type 0 where
@@ -68,7 +68,7 @@ room o = min (length (o .handles)) (length (o .places))
 
 -- what is reported of each of a list, from place 0 of every column on
 abbrev pub filling : {A : Type 0} → (A → Finding) → List A → Outputs → Outputs
-filling report l o = outputs (written (map (λ a. handleOf (report a)) l) (o .handles)) (written (map (λ a. placeOf (report a)) l) (o .places))
+filling report l o = outputs (written (map (λ a. handleRow (report a)) l) (o .handles)) (written (map (λ a. placeRow (report a)) l) (o .places))
 
 -- ---- what a query returns, and its outputs after it
 pub record Findings : Type 0 where

@@ -40,8 +40,8 @@ abbrev pub wrote : Count → List (List Float) → List ℕ → Written
 wrote c p o = record { returned = c; places = p; objs = o }
 
 -- the outcome seen, with the lent outputs after the call
-abbrev pub seen : Count → Lent (List (List Float)) → Lent (List ℕ) → Tables → Outcome Written
-seen c places objs t = outcome (wrote c (is places) (is objs)) t
+abbrev pub wroteLent : Count → Lent (List (List Float)) → Lent (List ℕ) → Tables → Outcome Written
+wroteLent c places objs t = outcome (wrote c (is places) (is objs)) t
 
 abbrev pub clearTests : Tables → List (List Float) → List ℕ → List Refusal
 clearTests t places objs = unless (holds t) 3 ∷ unless (leb (length (liveSlots t)) (min (length places) (length objs))) 9 ∷ []

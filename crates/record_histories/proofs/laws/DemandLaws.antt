@@ -17,7 +17,7 @@ use Rattle.whereabouts.specs.Meaning.Report.{ReportedAt, Reports, Due}
 use Rattle.whereabouts.proofs.laws.StandsLaws.{Settled}
 use Rattle.whereabouts.specs.Meaning.Stands.{nextMaintain}
 use Rattle.whereabouts.proofs.laws.ReportLaws.{circle-reports, reports-once}
-use Rattle.record_histories.specs.Inner.RecordHistory.{onColumns, recordsAfter, besidesAfter, SameGrid}
+use Rattle.record_histories.specs.Inner.RecordHistory.{onColumns, tableAfter, besidesAfter, SameGrid}
 use Rattle.record_histories.proofs.laws.RecordHistory.{columnsAfter}
 use Rattle.record_histories.specs.Inner.RecordReport.{deferred, frame, reportAfter}
 use Rattle.record_histories.proofs.laws.ReadsLaws.{around-reads}
@@ -38,12 +38,12 @@ module _ (rs : List Record) (t u : Tables) (g : SameGrid rs t u) (cs : List Defe
   abbrev report : Findings
   report = reportAfter rs t cs centre radius handles places
 
-  after-frame : SameGrid (recordsAfter (frame cs) rs t) (besidesAfter (frame cs) rs t) (nextMaintain u cs .after)
-  after-frame = subst (SameGrid (recordsAfter (frame cs) rs t) (besidesAfter (frame cs) rs t)) (frame-is cs u) (history-after (frame cs) rs t u g)
+  after-frame : SameGrid (tableAfter (frame cs) rs t) (besidesAfter (frame cs) rs t) (nextMaintain u cs .after)
+  after-frame = subst (SameGrid (tableAfter (frame cs) rs t) (besidesAfter (frame cs) rs t)) (frame-is cs u) (history-after (frame cs) rs t u g)
 
   pub same-report : report ≡ aroundOf (nextMaintain u cs .after) centre radius handles places
   same-report =
-      read-same (recordsAfter (frame cs) rs t) (besidesAfter (frame cs) rs t) (nextMaintain u cs .after) after-frame
+      read-same (tableAfter (frame cs) rs t) (besidesAfter (frame cs) rs t) (nextMaintain u cs .after) after-frame
       (λ w. aroundOf w centre radius handles places) (findings (count 3 0) handles places) (around-reads centre radius handles places)
 
   module _ (s : Settled u) (a : report .returned .answer ≡ 0) where

@@ -32,8 +32,8 @@ use Rattle.records.specs.Meaning.Spread.{besides, recordsIn}
 use Rattle.records.proofs.laws.SpreadLaws.{gathered-length}
 use Rattle.records.proofs.laws.AlikeLaws.{alike-itself}
 use Rattle.records.proofs.laws.AgainLaws.{alike-again}
-use Rattle.record_histories.specs.Inner.RecordHistory.{Call, insert, setPosition, remove, maintain, get, len, around, entered, replied}
-use Rattle.record_histories.specs.Inner.RecordHistory.{settled, got as gotten, counted, found, onColumns, onTable, recordAnswers, recordsAfter}
+use Rattle.record_histories.specs.Inner.RecordHistory.{RecordCall, insert, setPosition, remove, maintain, get, len, around, entered, replied}
+use Rattle.record_histories.specs.Inner.RecordHistory.{settled, got as gotten, counted, found, onColumns, onTable, recordAnswers, tableAfter}
 use Rattle.record_histories.specs.Inner.RecordHistory.{besidesAfter, SameGrid}
 use Rattle.record_histories.proofs.laws.RecordHistory.{columnAnswers, columnsAfter}
 use Rattle.record_histories.proofs.laws.MovesLaws.{set-position-respects, remove-respects}
@@ -62,7 +62,7 @@ maintain-slots t h = ap (λ (o : Outcome Maintained). slotsOf (o .after)) (maint
 
 -- ---- one call
 module _ (rs : List Record) (t u : Tables) (g : SameGrid rs t u) where
-  pub same-answer : (c : Call) → onTable c rs t .result ≡ onColumns c u .result
+  pub same-answer : (c : RecordCall) → onTable c rs t .result ≡ onColumns c u .result
   unfolding onTable onColumns
   same-answer (insert p d) = ap entered (call-same rs t u g (λ w. insertOf w p d) (inserted 3 0 0) (insert-respects p d) (λ w h. insert-holds w p d h) (λ w h. insert-slots w p d))
   same-answer (setPosition k p) = ap replied (call-same rs t u g (λ w. setPositionOf w k p) (reply 3 0) (set-position-respects k p) (λ w h. set-position-keeps w k p h) (λ w h. set-slots w k p))
@@ -72,7 +72,7 @@ module _ (rs : List Record) (t u : Tables) (g : SameGrid rs t u) where
   same-answer len = ap counted (read-same rs t u g lenOf (count 3 0) len-reads)
   same-answer (around c r handles places) = ap found (read-same rs t u g (λ w. aroundOf w c r handles places) (findings (count 3 0) handles places) (around-reads c r handles places))
 
-  pub same-after : (c : Call) → SameGrid (onTable c rs t .records) (onTable c rs t .after) (onColumns c u .after)
+  pub same-after : (c : RecordCall) → SameGrid (onTable c rs t .records) (onTable c rs t .after) (onColumns c u .after)
   unfolding onTable onColumns
   same-after (insert p d) = call-after rs t u g (λ w. insertOf w p d) (inserted 3 0 0) (insert-respects p d) (λ w h. insert-holds w p d h) (λ w h. insert-slots w p d)
   same-after (setPosition k p) = call-after rs t u g (λ w. setPositionOf w k p) (reply 3 0) (set-position-respects k p) (λ w h. set-position-keeps w k p h) (λ w h. set-slots w k p)
@@ -83,15 +83,15 @@ module _ (rs : List Record) (t u : Tables) (g : SameGrid rs t u) where
   same-after (around c r handles places) = read-after rs t u g
 
 -- ---- a history
-pub history-answers : (cs : List Call) (rs : List Record) (t u : Tables) → SameGrid rs t u → recordAnswers cs rs t ≡ columnAnswers cs u
+pub history-answers : (cs : List RecordCall) (rs : List Record) (t u : Tables) → SameGrid rs t u → recordAnswers cs rs t ≡ columnAnswers cs u
 unfolding recordAnswers columnAnswers
 history-answers [] rs t u g = refl
 history-answers (c ∷ cs) rs t u g =
     let r = onTable c rs t in
     cc (same-answer rs t u g c, history-answers cs (r .records) (r .after) (onColumns c u .after) (same-after rs t u g c))
 
-pub history-after : (cs : List Call) (rs : List Record) (t u : Tables) → SameGrid rs t u → SameGrid (recordsAfter cs rs t) (besidesAfter cs rs t) (columnsAfter cs u)
-unfolding recordsAfter besidesAfter columnsAfter
+pub history-after : (cs : List RecordCall) (rs : List Record) (t u : Tables) → SameGrid rs t u → SameGrid (tableAfter cs rs t) (besidesAfter cs rs t) (columnsAfter cs u)
+unfolding tableAfter besidesAfter columnsAfter
 history-after [] rs t u g = g
 history-after (c ∷ cs) rs t u g =
     let r = onTable c rs t in

@@ -18,7 +18,7 @@ use Rattle.point_tables.specs.Meaning.Holds.{Holds}
 use Rattle.point_get.specs.Meaning.{liveHandles, getOf, lenOf}
 use Rattle.storage.specs.Meaning.Entries.{rowItem}
 use Rattle.point_query.specs.declared.Test.the-variants.{Circle}
-use Rattle.point_query.specs.Meaning.Queries.{found, findingOn, handleOf, searchAnswer, searchOf, aroundOf}
+use Rattle.point_query.specs.Meaning.Queries.{found, findingOn, handleRow, searchAnswer, searchOf, aroundOf}
 use Rattle.geometry.specs.Meaning.Circle.{cornerBelow, cornerAbove}
 use Rattle.records.specs.Inner.Alike.{Alike, withColumns}
 use Rattle.records.proofs.laws.Alike.{Reads}
@@ -65,7 +65,7 @@ module _ (t u : Tables) where
       around-same : (c : Position) (r : Float) (handles : List (List ℕ)) (places : List (List Float)) → aroundOf t c r handles places ≡ aroundOf v c r handles places
       unfolding aroundOf searchOf searchAnswer found
       around-same c r handles places =
-          let rows = map-same (λ e. handleOf (findingOn t e)) (λ e. handleOf (findingOn v e)) (λ e. ap (λ (n : ℕ). rowItem (e .row) ∷ n ∷ []) (version-is (rowItem (e .row)))) (found t (cornerBelow c r) (cornerAbove c r) (Circle c r)) in
+          let rows = map-same (λ e. handleRow (findingOn t e)) (λ e. handleRow (findingOn v e)) (λ e. ap (λ (n : ℕ). rowItem (e .row) ∷ n ∷ []) (version-is (rowItem (e .row)))) (found t (cornerBelow c r) (cornerAbove c r) (Circle c r)) in
           cc (both-hold t v like h k, rows)
 
 pub get-reads : (g : Handle) → Reads (λ t. getOf t g)

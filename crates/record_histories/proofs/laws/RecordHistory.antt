@@ -3,13 +3,13 @@
 -- Here: the laws.
 use mathlib.Core.List.{List, [], _∷_}
 use Rattle.point_tables.specs.Meaning.Tables.{Tables}
-use Rattle.record_histories.specs.Inner.RecordHistory.{Call, Given, onColumns}
+use Rattle.record_histories.specs.Inner.RecordHistory.{RecordCall, Given, onColumns}
 
 -- ---- one call after the other: what they give back, and the tables after them
-unfoldable pub columnAnswers : List Call → Tables → List Given
+unfoldable pub columnAnswers : List RecordCall → Tables → List Given
 columnAnswers [] t = []
 columnAnswers (c ∷ cs) t = onColumns c t .result ∷ columnAnswers cs (onColumns c t .after)
 
-unfoldable pub columnsAfter : List Call → Tables → Tables
+unfoldable pub columnsAfter : List RecordCall → Tables → Tables
 columnsAfter [] t = t
 columnsAfter (c ∷ cs) t = columnsAfter cs (onColumns c t .after)

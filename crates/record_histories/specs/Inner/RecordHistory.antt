@@ -32,14 +32,14 @@ use Rattle.record_get.specs.Meaning.Calls.{getOn, lenOn}
 use Rattle.record_query.specs.Meaning.Calls.{aroundOn}
 
 -- a call with all that it is handed besides the tables
-pub data Call : Type 0 where
-  insert : Position → ℕ → Call
-  setPosition : Handle → Position → Call
-  remove : Handle → Call
-  maintain : Call
-  get : Handle → Call
-  len : Call
-  around : Position → Float → List (List ℕ) → List (List Float) → Call
+pub data RecordCall : Type 0 where
+  insert : Position → ℕ → RecordCall
+  setPosition : Handle → Position → RecordCall
+  remove : Handle → RecordCall
+  maintain : RecordCall
+  get : Handle → RecordCall
+  len : RecordCall
+  around : Position → Float → List (List ℕ) → List (List Float) → RecordCall
 
 -- what a call gives back
 pub data Given : Type 0 where
@@ -54,7 +54,7 @@ pub data Given : Type 0 where
 abbrev given : {R : Type 0} → (R → Given) → Outcome R → Outcome Given
 given say o = outcome (say (o .result)) (o .after)
 
-unfoldable pub onColumns : Call → Tables → Outcome Given
+unfoldable pub onColumns : RecordCall → Tables → Outcome Given
 onColumns (insert p d) t = given entered (insertOf t p d)
 onColumns (setPosition h p) t = given replied (setPositionOf t h p)
 onColumns (remove h) t = given replied (removeOf t h)
@@ -70,7 +70,7 @@ changed say o = seen (say (o .result)) (o .records) (o .after)
 abbrev read : {R : Type 0} → (R → Given) → List Record → Outcome R → Seen Given
 read say rs o = seen (say (o .result)) rs (o .after)
 
-unfoldable pub onTable : Call → List Record → Tables → Seen Given
+unfoldable pub onTable : RecordCall → List Record → Tables → Seen Given
 onTable (insert p d) rs t = changed entered (insertOn rs t p d)
 onTable (setPosition h p) rs t = changed replied (setPositionOn rs t h p)
 onTable (remove h) rs t = changed replied (removeOn rs t h)
@@ -79,16 +79,16 @@ onTable (get h) rs t = read got rs (getOn rs t h)
 onTable len rs t = read counted rs (lenOn rs t)
 onTable (around c r handles places) rs t = read found rs (aroundOn rs t c r handles places)
 
-unfoldable pub recordAnswers : List Call → List Record → Tables → List Given
+unfoldable pub recordAnswers : List RecordCall → List Record → Tables → List Given
 recordAnswers [] rs t = []
 recordAnswers (c ∷ cs) rs t = onTable c rs t .result ∷ recordAnswers cs (onTable c rs t .records) (onTable c rs t .after)
 
 -- the records and the tables beside them
-unfoldable pub recordsAfter : List Call → List Record → Tables → List Record
-recordsAfter [] rs t = rs
-recordsAfter (c ∷ cs) rs t = recordsAfter cs (onTable c rs t .records) (onTable c rs t .after)
+unfoldable pub tableAfter : List RecordCall → List Record → Tables → List Record
+tableAfter [] rs t = rs
+tableAfter (c ∷ cs) rs t = tableAfter cs (onTable c rs t .records) (onTable c rs t .after)
 
-unfoldable pub besidesAfter : List Call → List Record → Tables → Tables
+unfoldable pub besidesAfter : List RecordCall → List Record → Tables → Tables
 besidesAfter [] rs t = t
 besidesAfter (c ∷ cs) rs t = besidesAfter cs (onTable c rs t .records) (onTable c rs t .after)
 

@@ -10,15 +10,15 @@ use Rattle.point_tables.specs.Meaning.Tables.{Tables}
 use Rattle.point_deferred.specs.Meaning.Batch.{Call as Deferred}
 use Rattle.point_query.specs.Meaning.Queries.{Findings}
 use Rattle.record_query.specs.Meaning.Calls.{aroundOn}
-use Rattle.record_histories.specs.Inner.RecordHistory.{Call, setPosition, remove, maintain, recordsAfter, besidesAfter}
+use Rattle.record_histories.specs.Inner.RecordHistory.{RecordCall, setPosition, remove, maintain, tableAfter, besidesAfter}
 
 -- kind 0 is `set_position`, any other `remove`
-abbrev pub deferred : Deferred → Call
+abbrev pub deferred : Deferred → RecordCall
 deferred c = pick (eqb (c .kind) 0) (setPosition (c .handle) (c .at)) (remove (c .handle))
 
 -- deferred calls, and maintain
-abbrev pub frame : List Deferred → List Call
+abbrev pub frame : List Deferred → List RecordCall
 frame cs = map deferred cs ++ (maintain ∷ [])
 
 abbrev pub reportAfter : List Record → Tables → List Deferred → Position → Float → List (List ℕ) → List (List Float) → Findings
-reportAfter rs t cs c r handles places = aroundOn (recordsAfter (frame cs) rs t) (besidesAfter (frame cs) rs t) c r handles places .result
+reportAfter rs t cs c r handles places = aroundOn (tableAfter (frame cs) rs t) (besidesAfter (frame cs) rs t) c r handles places .result

@@ -19,7 +19,7 @@ abbrev pub aroundOn : List Record → Tables → Position → Float → List (Li
 aroundOn rs t c r handles places = readRecords (λ u. aroundOf u c r handles places) (findings (count 3 0) handles places) rs t
 
 -- what is returned, the outputs and the tables after the call are what `query` gives of records, tables and outputs before it
-abbrev pub Finds : (List Record → Tables → List (List ℕ) → List (List Float) → Outcome Findings) → Count → Lent (List (List ℕ)) → Lent (List (List Float)) → Lent (List Record)
+abbrev pub FindsIn : (List Record → Tables → List (List ℕ) → List (List Float) → Outcome Findings) → Count → Lent (List (List ℕ)) → Lent (List (List Float)) → Lent (List Record)
     → Lent (List (List ℕ)) → Lent (List (List Float)) → Lent (List (List ℤ)) → Lent (List ℕ) → Lent (List (List ℕ)) → Lent (List (List Float)) → Lent (List (List ℕ)) → Type 0
-Finds query r found places records a b c d e f g =
+FindsIn query r found places records a b c d e f g =
     outcome (findings r (is found) (is places)) (after a b c d e f g) ≡ query (was records) (before a b c d e f g) (was found) (was places)

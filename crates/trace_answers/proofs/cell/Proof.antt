@@ -1,11 +1,11 @@
 -- `trace_answers::cell` meets its contract. Assumes nothing.
-use Rattle.trace_answers.specs.Meaning.Cell.{cellOf}
+use Rattle.trace_answers.specs.Meaning.Cell.{buildBoth}
 use borrow.Author.Needs.{needs}
 use Rattle.trace_answers.proofs.cell.Statement.{statement}
 use Rattle.trace_answers.proofs.cell.Tie as tie
 
 pub cell-spec : {M : Type 1} → statement M
-unfolding cellOf
+unfolding buildBoth
 cell-spec =
     tie.close
     (tie.spec

@@ -13,7 +13,7 @@ use Rattle.trace_lines.specs.declared.Line.{Line}
 use Rattle.trace_lines.specs.declared.Line.the-variants.{Cell, PointChange, PointSearch, BoxChange, BoxSearch, Unreadable}
 use Rattle.trace_lines.specs.declared.Request.{Request}
 use Rattle.trace_answers.specs.Meaning.State.{State, Answered}
-use Rattle.trace_answers.specs.Meaning.Cell.{cellOf}
+use Rattle.trace_answers.specs.Meaning.Cell.{buildBoth}
 use Rattle.trace_answers.specs.Meaning.Answer.{byLine, answerOf}
 
 abbrev pub IsTold : Answered → Type 0
@@ -21,7 +21,7 @@ IsTold a = Told (a .tells) (length (a .after .handles)) (length (a .after .place
 
 module _ (g : State) (few : length (g .handles) ≤ 256) (few′ : length (g .corners) ≤ 64) where
   by-line : (l : Line) (r : Request) → IsTold (byLine g l r)
-  unfolding byLine cellOf
+  unfolding byLine buildBoth
   by-line Cell r =
       let h = length (g .handles) in
       let p = length (g .places) in

@@ -12,11 +12,11 @@ use Rattle.trace_points.specs.Meaning.Searches as point-searches
 use Rattle.trace_boxes.specs.Meaning.Changes as box-changes
 use Rattle.trace_boxes.specs.Meaning.Searches as box-searches
 use Rattle.trace_answers.specs.Meaning.State.{State, state, Answered, answered}
-use Rattle.trace_answers.specs.Meaning.Cell.{cellOf}
+use Rattle.trace_answers.specs.Meaning.Cell.{buildBoth}
 
 -- both grids
 abbrev pub toCell : State → ℕ → Answered
-toCell g size = let o = cellOf (g .points) (g .boxes) size in answered (o .said) (state (o .points) (o .boxes) (g .handles) (g .places) (g .corners) (g .objs))
+toCell g size = let o = buildBoth (g .points) (g .boxes) size in answered (o .said) (state (o .points) (o .boxes) (g .handles) (g .places) (g .corners) (g .objs))
 
 -- the points, and the outputs of their queries
 abbrev pub changePoints : State → line-of-points.PointChange → Request → Answered
@@ -26,7 +26,7 @@ changePoints g k r =
 
 abbrev pub searchPoints : State → search-of-points.PointSearch → Request → Answered
 searchPoints g s r =
-    let f = point-searches.searchOf (g .points) s (r .p) (r .q) (r .far) (g .handles) (g .places) in
+    let f = point-searches.pointSearchOf (g .points) s (r .p) (r .q) (r .far) (g .handles) (g .places) in
     answered (f .tells) (state (g .points) (g .boxes) (f .handles) (f .places) (g .corners) (g .objs))
 
 -- the boxes, and the outputs of their query
@@ -37,7 +37,7 @@ changeBoxes g k r =
 
 abbrev pub searchBoxes : State → Request → Answered
 searchBoxes g r =
-    let f = box-searches.searchOf (g .boxes) (r .p) (r .q) (g .handles) (g .corners) (g .objs) in
+    let f = box-searches.boxSearchOf (g .boxes) (r .p) (r .q) (g .handles) (g .corners) (g .objs) in
     answered (f .tells) (state (g .points) (g .boxes) (f .handles) (g .places) (f .corners) (f .objs))
 
 unfoldable pub byLine : State → Line → Request → Answered

@@ -20,19 +20,19 @@ pub record Built : Type 0 where
   pub points : point.Tables
   pub boxes : box.Tables
 
-abbrev pub built : Said → point.Tables → box.Tables → Built
-built s p b = record { said = s; points = p; boxes = b }
+abbrev pub bothBuilt : Said → point.Tables → box.Tables → Built
+bothBuilt s p b = record { said = s; points = p; boxes = b }
 
 -- the first refusal, if there is one
-unfoldable pub cellOf : point.Tables → box.Tables → ℕ → Built
-cellOf p b size =
+unfoldable pub buildBoth : point.Tables → box.Tables → ℕ → Built
+buildBoth p b size =
     let o = point-new.newOf p size in
     let q = box-new.newOf b size in
-    built (tells (o .result) (doneOr (q .result))) (o .after) (q .after)
+    bothBuilt (tells (o .result) (doneOr (q .result))) (o .after) (q .after)
 
 -- the promise of `cell`, with the tables behind their references named once: seven of the points, four of the boxes
 abbrev pub Builds : ℕ → Said
     → Lent (List (List ℕ)) → Lent (List (List Float)) → Lent (List (List ℤ)) → Lent (List ℕ) → Lent (List (List ℕ)) → Lent (List (List Float)) → Lent (List (List ℕ))
     → Lent (List (List ℕ)) → Lent (List (List Float)) → Lent (List ℕ) → Lent (List (List ℕ)) → Type 0
 Builds size said a b c d e f g h i j k =
-    built said (Points.after a b c d e f g) (Boxes.after h i j k) ≡ cellOf (Points.before a b c d e f g) (Boxes.before h i j k) size
+    bothBuilt said (Points.after a b c d e f g) (Boxes.after h i j k) ≡ buildBoth (Points.before a b c d e f g) (Boxes.before h i j k) size

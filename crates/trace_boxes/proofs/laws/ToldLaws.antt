@@ -32,15 +32,15 @@ use Rattle.trace_lines.specs.declared.BoxChange.the-variants.{Bin, Bset, Brem}
 use Rattle.trace_telling.proofs.laws.RoomLaws.{had-room}
 use Rattle.trace_telling.proofs.laws.Tells.{told-tells}
 use Rattle.trace_boxes.specs.Meaning.Changes.{changeOf}
-use Rattle.trace_boxes.specs.Meaning.Searches.{Searched, boxSearchSaid, searchOf}
+use Rattle.trace_boxes.specs.Meaning.Searches.{Searched, boxSearchSaid, boxSearchOf}
 use Rattle.slot_walks.specs.Meaning.Live.{handleAt}
 
 -- what there is to tell is there: as many findings as the trace's grids can give, and all in the outputs
 abbrev pub IsTold : ℕ → Searched → Type 0
 IsTold places s = Told (s .tells) (length (s .handles)) places (length (s .corners))
 
-room-of : (t : Tables) (q : Aabb) (n room : ℕ) → query.answerOf t q n room ≡ 0 → n ≤ room
-unfolding query.answerOf
+room-of : (t : Tables) (q : Aabb) (n room : ℕ) → query.lookAnswer t q n room ≡ 0 → n ≤ room
+unfolding query.lookAnswer
 room-of t q n room h = leb-true n room (had-room (holds t) (aabbInDomain q) (leb (covers (sizeOf t) q) mostCells) (leb n room) h)
 
 module _ (places : ℕ) (handles : List (List ℕ)) (corners : List (List Float)) (objs : List ℕ) (few : length corners ≤ 64) where
@@ -60,13 +60,13 @@ module _ (places : ℕ) (handles : List (List ℕ)) (corners : List (List Float)
       ss = query.narrow t q
 
       a : ℕ
-      a = query.answerOf t q (length ss) (query.roomOf handles corners objs)
+      a = query.lookAnswer t q (length ss) (query.roomOf handles corners objs)
 
       go : (x : Bool) → eqb a 0 ≡ x → IsTold places (boxSearchSaid (pick x (query.findings (count 0 (length ss)) (written (map (handleAt (t .nums)) ss) handles) (written (map (query.boxRow (t .reals)) ss) corners) (written (map (objOn t) ss) objs)) (query.findings (count a (pick (eqb a 9) (length ss) 0)) handles corners objs)))
       go true h = told-found ss (handleAt (t .nums)) (query.boxRow (t .reals)) (room-of t q (length ss) (query.roomOf handles corners objs) (eqb-true a 0 h))
       go false h = subst (λ (x : Bool). Told (pick x (Boxes (pick (eqb a 9) (length ss) 0)) (Refused a)) (length handles) places (length corners)) (sym h) tt
 
-  pub told : (t : Tables) (p q : Spot) → IsTold places (searchOf t p q handles corners objs)
+  pub told : (t : Tables) (p q : Spot) → IsTold places (boxSearchOf t p q handles corners objs)
   told t p q = told-query t (boxOf p q)
 
 -- a change has no findings to tell

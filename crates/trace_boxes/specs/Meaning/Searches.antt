@@ -23,5 +23,5 @@ abbrev pub boxSearchSaid : Findings → Searched
 boxSearchSaid f = searched (boxesOr (f .returned .answer) (f .returned .count)) (f .handles) (f .boxes) (f .objs)
 
 -- `bqry`: the boxes that the query box meets
-abbrev pub searchOf : Tables → Spot → Spot → List (List ℕ) → List (List Float) → List ℕ → Searched
-searchOf t ll ur handles corners objs = boxSearchSaid (queryOf t (boxOf ll ur) handles corners objs)
+abbrev pub boxSearchOf : Tables → Spot → Spot → List (List ℕ) → List (List Float) → List ℕ → Searched
+boxSearchOf t ll ur handles corners objs = boxSearchSaid (queryOf t (boxOf ll ur) handles corners objs)

@@ -17,8 +17,8 @@ use Rattle.trace_decimals.proofs.laws.CountLaws.{count-text, count-read}
 use Rattle.trace_lines.specs.declared.Line.{Line}
 use Rattle.trace_lines.specs.declared.Asks.{Asks}
 use Rattle.trace_lines.specs.declared.Request.{Request}
-use Rattle.trace_lines.specs.Meaning.Taken.{Taken, taken, missing, Taker, bind, both, made, numberThen, countThen, takeNumber, takeCount, spotOf}
-use Rattle.trace_lines.specs.Meaning.Taken.{handleOf, takeSpot, takeHandle, ifAsked, nobody, origin}
+use Rattle.trace_lines.specs.Meaning.Taken.{Taken, taken, missing, Taker, bind, both, made, numberThen, countThen, takeNumber, takeCount, spotFrom}
+use Rattle.trace_lines.specs.Meaning.Taken.{handleFrom, takeSpot, takeHandle, ifAsked, nobody, noSpot}
 use Rattle.trace_lines.specs.Meaning.Requests.{Arguments, request, unreadable, takeArguments, argumentsOf, whole}
 use Rattle.trace_lines.specs.Inner.Texts.{number, count, spot, handle, only, argumentTexts, NumberInRange, CountInRange, SpotInRange, HandleInRange}
 use Rattle.trace_lines.specs.Inner.Texts.{AsAsked, ArgumentsInRange}
@@ -111,10 +111,10 @@ module _ {A B : Type 0} {p : Taker A} {s : A → List (List ℕ)} {R : A → Typ
       }
 
 pub exact-spot : Exact takeSpot spot SpotInRange
-exact-spot = exact-made spotOf (λ p. (p .x, p .y)) (λ a. refl) (λ p. refl) (exact-both exact-count exact-count)
+exact-spot = exact-made spotFrom (λ p. (p .x, p .y)) (λ a. refl) (λ p. refl) (exact-both exact-count exact-count)
 
 pub exact-handle : Exact takeHandle handle HandleInRange
-exact-handle = exact-made handleOf (λ h. (h .slot, h .version)) (λ a. refl) (λ h. refl) (exact-both exact-number exact-number)
+exact-handle = exact-made handleFrom (λ h. (h .slot, h .version)) (λ a. refl) (λ h. refl) (exact-both exact-number exact-number)
 
 -- what is not asked for has no text
 pub exact-if : {A : Type 0} {p : Taker A} {s : A → List (List ℕ)} {R : A → Type 0} (asked : Bool) (none : A) → Exact p s R → Exact (ifAsked asked none p) (λ a. only asked (s a)) (AsAsked asked R none)
@@ -138,7 +138,7 @@ module _ (k : Asks) where
   exact-arguments =
       exact-both
       (exact-both
-      (exact-both (exact-if (k .handle) nobody exact-handle) (exact-both (exact-if (ltb 0 (k .places)) origin exact-spot) (exact-if (ltb 1 (k .places)) origin exact-spot)))
+      (exact-both (exact-if (k .handle) nobody exact-handle) (exact-both (exact-if (ltb 0 (k .places)) noSpot exact-spot) (exact-if (ltb 1 (k .places)) noSpot exact-spot)))
       (exact-if (k .radius) (pos 0) exact-count))
       (exact-if (k .number) 0 exact-number)
 

@@ -15,7 +15,7 @@ use Rattle.trace_lines.specs.Meaning.Fields.{fieldsOf}
 use Rattle.trace_lines.specs.Inner.Fields.{joined}
 use Rattle.trace_lines.specs.Meaning.Words.{askedBy}
 use Rattle.trace_lines.specs.Meaning.Requests.{unreadable, ofFields, requestOf}
-use Rattle.trace_lines.specs.Inner.Texts.{argumentTexts, textOf, ArgumentsInRange, Proper}
+use Rattle.trace_lines.specs.Inner.Texts.{argumentTexts, requestText, ArgumentsInRange, Proper}
 use Rattle.trace_lines.proofs.laws.FieldLaws.{joined-fields, fields-joined, joined-length}
 use Rattle.trace_lines.proofs.laws.WordLaws.{is-word}
 use Rattle.trace_lines.proofs.laws.TextLaws.{arguments-clear, arguments-size}
@@ -24,13 +24,13 @@ use Rattle.trace_lines.proofs.laws.Exact.{arguments-read, by-arguments}
 -- a word, and behind it what it asks for
 pub record Text (bytes : List ℕ) (r : Request) : Type 0 where
   pub word : List ℕ
-  pub text : bytes ≡ textOf word r
+  pub text : bytes ≡ requestText word r
   pub proper : Proper word r
 
 -- whatever holds of what is unreadable and of every text holds of what is read
 module _ (P : Request → Type 0) (bad : P unreadable) where
   of-fields : (bytes : List ℕ) (fs : List (List ℕ)) → bytes ≡ joined fs → ((r : Request) → Text bytes r → P r) → P (ofFields fs)
-  unfolding ofFields textOf
+  unfolding ofFields requestText
   of-fields bytes [] e each = bad
   of-fields bytes (w ∷ fs) e each =
       by-arguments (askedBy w) fs P bad (λ r t l h. each r (record { word = w; text = e ∙ ap (λ (gs : List (List ℕ)). joined (w ∷ gs)) t; proper = (l, h) }))
@@ -53,17 +53,17 @@ module _ (word : List ℕ) (r : Request) (h : Proper word r) (n : r .line ≡ Un
   known e = n (h .0 ∙ e)
 
   -- no text is too long
-  pub text-short : length (textOf word r) ≤ 97
-  unfolding textOf
+  pub text-short : length (requestText word r) ≤ 97
+  unfolding requestText
   text-short = omega (arith, joined-length word (argumentTexts (askedBy word) r), is-word word known .short, arguments-size (askedBy word) r (h .1))
 
   -- and the text is read as that
-  pub text-read : requestOf (textOf word r) ≡ r
-  unfolding requestOf textOf ofFields
+  pub text-read : requestOf (requestText word r) ≡ r
+  unfolding requestOf requestText ofFields
   text-read =
-      let short : leb (length (textOf word r)) 128 ≡ true = le-leb (length (textOf word r)) 128 (omega (arith, text-short)) in
+      let short : leb (length (requestText word r)) 128 ≡ true = le-leb (length (requestText word r)) 128 (omega (arith, text-short)) in
       let cut = fields-joined word (argumentTexts (askedBy word) r) (is-word word known .no-comma, arguments-clear (askedBy word) r) in
-      ap (λ (t : Bool). pick t (ofFields (fieldsOf (textOf word r))) unreadable) short ∙
+      ap (λ (t : Bool). pick t (ofFields (fieldsOf (requestText word r))) unreadable) short ∙
       (ap ofFields cut ∙ arguments-read (askedBy word) r (h .0) (h .1))
 
 -- both ways

@@ -18,7 +18,7 @@ use Rattle.trace_lines.specs.Meaning.Fields.{comma}
 use Rattle.trace_lines.proofs.laws.FieldLaws.{clear, AllClear, clear-append, all-clear-append, size, size-append}
 use Rattle.trace_lines.specs.Inner.Texts.{number, count, spot, handle, only, argumentTexts, NumberInRange, CountInRange, SpotInRange, HandleInRange}
 use Rattle.trace_lines.specs.Inner.Texts.{AsAsked, ArgumentsInRange}
-use Rattle.trace_lines.specs.Meaning.Taken.{nobody, origin}
+use Rattle.trace_lines.specs.Meaning.Taken.{nobody, noSpot}
 
 digit-clear : (d : ℕ) → clear ((48 + d) ∷ []) ≡ true
 unfolding clear
@@ -85,4 +85,4 @@ arguments-size k r i =
     let q = only (ltb 1 (k .places)) (spot (r .q)) in
     let far = only (k .radius) (count (r .far)) in
     let n = only (k .number) (number (r .n)) in
-    omega (arith, size-append ((h ++ (p ++ q)) ++ far) n, size-append (h ++ (p ++ q)) far, size-append h (p ++ q), size-append p q, only-size handle HandleInRange handle-size (k .handle) nobody (r .h) (i .0 .0 .0), only-size spot SpotInRange spot-size (ltb 0 (k .places)) origin (r .p) (i .0 .0 .1 .0), only-size spot SpotInRange spot-size (ltb 1 (k .places)) origin (r .q) (i .0 .0 .1 .1), only-size count CountInRange count-size (k .radius) (pos 0) (r .far) (i .0 .1), only-size number NumberInRange number-size (k .number) 0 (r .n) (i .1))
+    omega (arith, size-append ((h ++ (p ++ q)) ++ far) n, size-append (h ++ (p ++ q)) far, size-append h (p ++ q), size-append p q, only-size handle HandleInRange handle-size (k .handle) nobody (r .h) (i .0 .0 .0), only-size spot SpotInRange spot-size (ltb 0 (k .places)) noSpot (r .p) (i .0 .0 .1 .0), only-size spot SpotInRange spot-size (ltb 1 (k .places)) noSpot (r .q) (i .0 .0 .1 .1), only-size count CountInRange count-size (k .radius) (pos 0) (r .far) (i .0 .1), only-size number NumberInRange number-size (k .number) 0 (r .n) (i .1))

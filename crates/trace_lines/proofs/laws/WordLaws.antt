@@ -13,7 +13,7 @@ use Rattle.basics.proofs.laws.Says.{apart}
 use Rattle.trace_lines.specs.declared.Line.the-variants.{Unreadable}
 use Rattle.trace_lines.specs.declared.Asks.{Asks}
 use Rattle.trace_lines.proofs.laws.FieldLaws.{clear}
-use Rattle.trace_lines.specs.Meaning.Words.{Row, asks, table, sameBytes, rowSays, foundIn, askedBy}
+use Rattle.trace_lines.specs.Meaning.Words.{WordRow, asks, table, sameBytes, rowSays, foundIn, askedBy}
 
 pub same-true : (a b : List ℕ) → sameBytes a b ≡ true → a ≡ b
 same-true [] [] e = refl
@@ -33,7 +33,7 @@ same-self (x ∷ a) = rw (eq-eqb x x refl) (same-self a)
 abbrev good : List ℕ → Bool
 good w = clear w && leb (length w) 4
 
-allGood : List Row → Bool
+allGood : List WordRow → Bool
 allGood [] = true
 allGood (r ∷ rs) = good (r .letters) && allGood rs
 
@@ -45,7 +45,7 @@ parts : (s t : Bool) → (s && t) ≡ true → (s ≡ true) × (t ≡ true)
 parts true t e = (refl, e)
 parts false t e = absurd (apart e)
 
-found-good : (rs : List Row) (w : List ℕ) (others : Asks) → others .line ≡ Unreadable → allGood rs ≡ true → (foundIn rs w others .line ≡ Unreadable → ⊥) → good w ≡ true
+found-good : (rs : List WordRow) (w : List ℕ) (others : Asks) → others .line ≡ Unreadable → allGood rs ≡ true → (foundIn rs w others .line ≡ Unreadable → ⊥) → good w ≡ true
 unfolding allGood rowSays
 found-good [] w others u h n = absurd (n u)
 found-good (r ∷ rs) w others u h n = go (sameBytes w (r .letters)) refl n (found-good rs w others u (parts (good (r .letters)) (allGood rs) h .1))

@@ -13,7 +13,7 @@ use Rattle.trace_lines.specs.declared.Asks.{Asks}
 use Rattle.trace_lines.specs.declared.Request.{Request}
 use Rattle.trace_lines.specs.Inner.Fields.{joined}
 use Rattle.trace_lines.specs.Meaning.Words.{askedBy}
-use Rattle.trace_lines.specs.Meaning.Taken.{nobody, origin}
+use Rattle.trace_lines.specs.Meaning.Taken.{nobody, noSpot}
 
 abbrev pub number : ℕ → List (List ℕ)
 number n = decimal n ∷ []
@@ -36,8 +36,8 @@ argumentTexts k r =
     ((only (k .handle) (handle (r .h)) ++ (only (ltb 0 (k .places)) (spot (r .p)) ++ only (ltb 1 (k .places)) (spot (r .q)))) ++ only (k .radius) (count (r .far))) ++ only (k .number) (number (r .n))
 
 -- with this word
-unfoldable pub textOf : List ℕ → Request → List ℕ
-textOf word r = joined (word ∷ argumentTexts (askedBy word) r)
+unfoldable pub requestText : List ℕ → Request → List ℕ
+requestText word r = joined (word ∷ argumentTexts (askedBy word) r)
 
 abbrev pub NumberInRange : ℕ → Type 0
 NumberInRange n = n ≤ 4294967295
@@ -58,7 +58,7 @@ AsAsked false R none a = a ≡ none
 
 abbrev pub ArgumentsInRange : Asks → Request → Type 0
 ArgumentsInRange k r =
-    ((AsAsked (k .handle) HandleInRange nobody (r .h) × (AsAsked (ltb 0 (k .places)) SpotInRange origin (r .p) × AsAsked (ltb 1 (k .places)) SpotInRange origin (r .q))) × AsAsked (k .radius) CountInRange (pos 0) (r .far)) × AsAsked (k .number) NumberInRange 0 (r .n)
+    ((AsAsked (k .handle) HandleInRange nobody (r .h) × (AsAsked (ltb 0 (k .places)) SpotInRange noSpot (r .p) × AsAsked (ltb 1 (k .places)) SpotInRange noSpot (r .q))) × AsAsked (k .radius) CountInRange (pos 0) (r .far)) × AsAsked (k .number) NumberInRange 0 (r .n)
 
 -- a request of this word, with its numbers in range
 abbrev pub Proper : List ℕ → Request → Type 0

@@ -14,7 +14,7 @@ use Rattle.trace_lines.specs.declared.Asks.{Asks}
 use Rattle.trace_lines.specs.declared.Request.{Request}
 use Rattle.trace_lines.specs.Meaning.Fields.{fieldsOf}
 use Rattle.trace_lines.specs.Meaning.Words.{askedBy}
-use Rattle.trace_lines.specs.Meaning.Taken.{Taken, taken, missing, Taker, both, made, takeNumber, takeCount, takeHandle, ifAsked, nobody, origin}
+use Rattle.trace_lines.specs.Meaning.Taken.{Taken, taken, missing, Taker, both, made, takeNumber, takeCount, takeHandle, ifAsked, nobody, noSpot}
 use Rattle.trace_lines.specs.Meaning.Taken.{takePlaces}
 
 -- a handle, two places, a radius and a number
@@ -25,7 +25,7 @@ abbrev pub request : Line → Arguments → Request
 request line a = record { line = line; h = a .0 .0 .0; p = a .0 .0 .1 .0; q = a .0 .0 .1 .1; far = a .0 .1; n = a .1 }
 
 abbrev pub unreadable : Request
-unreadable = request Unreadable (((nobody, (origin, origin)), pos 0), 0)
+unreadable = request Unreadable (((nobody, (noSpot, noSpot)), pos 0), 0)
 
 -- what is asked for, in this order
 abbrev pub takeArguments : Asks → Taker Arguments

@@ -47,17 +47,17 @@ abbrev pub takeCount : Taker ℤ
 takeCount [] = missing
 takeCount (f ∷ fs) = countThen (countOf f) fs
 
-abbrev pub spotOf : ℤ × ℤ → Spot
-spotOf a = record { x = a .0; y = a .1 }
+abbrev pub spotFrom : ℤ × ℤ → Spot
+spotFrom a = record { x = a .0; y = a .1 }
 
-abbrev pub handleOf : ℕ × ℕ → Handle
-handleOf a = record { slot = a .0; version = a .1 }
+abbrev pub handleFrom : ℕ × ℕ → Handle
+handleFrom a = record { slot = a .0; version = a .1 }
 
 abbrev pub takeSpot : Taker Spot
-takeSpot = made spotOf (both takeCount takeCount)
+takeSpot = made spotFrom (both takeCount takeCount)
 
 abbrev pub takeHandle : Taker Handle
-takeHandle = made handleOf (both takeNumber takeNumber)
+takeHandle = made handleFrom (both takeNumber takeNumber)
 
 -- what is not asked for is not taken, and is this value
 abbrev pub ifAsked : {A : Type 0} → Bool → A → Taker A → Taker A
@@ -66,9 +66,9 @@ ifAsked asked a p fs = pick asked (p fs) (taken a fs)
 abbrev pub nobody : Handle
 nobody = record { slot = 0; version = 0 }
 
-abbrev pub origin : Spot
-origin = record { x = pos 0; y = pos 0 }
+abbrev pub noSpot : Spot
+noSpot = record { x = pos 0; y = pos 0 }
 
 -- so many places, of two
 abbrev pub takePlaces : ℕ → Taker (Spot × Spot)
-takePlaces n = both (ifAsked (ltb 0 n) origin takeSpot) (ifAsked (ltb 1 n) origin takeSpot)
+takePlaces n = both (ifAsked (ltb 0 n) noSpot takeSpot) (ifAsked (ltb 1 n) noSpot takeSpot)

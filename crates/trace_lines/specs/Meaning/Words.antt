@@ -15,43 +15,43 @@ use Rattle.trace_lines.specs.declared.Asks.{Asks}
 abbrev pub asks : Line → Bool → ℕ → Bool → Bool → Asks
 asks line handle places radius number = record { line = line; handle = handle; places = places; radius = radius; number = number }
 
-pub record Row : Type 0 where
+pub record WordRow : Type 0 where
   pub letters : List ℕ
   pub asked : Asks
 
-abbrev pub row : List ℕ → Line → Bool → ℕ → Bool → Bool → Row
-row w line handle places radius number = record { letters = w; asked = asks line handle places radius number }
+abbrev pub wordRow : List ℕ → Line → Bool → ℕ → Bool → Bool → WordRow
+wordRow w line handle places radius number = record { letters = w; asked = asks line handle places radius number }
 
 -- ins pos rem now mnt
-abbrev pub pointChanges : List Row
+abbrev pub pointChanges : List WordRow
 pointChanges =
-    row (105 ∷ 110 ∷ 115 ∷ []) (PointChange Ins) false 1 false true
-    ∷ row (112 ∷ 111 ∷ 115 ∷ []) (PointChange Pos) true 1 false false
-    ∷ row (114 ∷ 101 ∷ 109 ∷ []) (PointChange Rem) true 0 false false
-    ∷ row (110 ∷ 111 ∷ 119 ∷ []) (PointChange Now) true 0 false false
-    ∷ row (109 ∷ 110 ∷ 116 ∷ []) (PointChange Mnt) false 0 false false
+    wordRow (105 ∷ 110 ∷ 115 ∷ []) (PointChange Ins) false 1 false true
+    ∷ wordRow (112 ∷ 111 ∷ 115 ∷ []) (PointChange Pos) true 1 false false
+    ∷ wordRow (114 ∷ 101 ∷ 109 ∷ []) (PointChange Rem) true 0 false false
+    ∷ wordRow (110 ∷ 111 ∷ 119 ∷ []) (PointChange Now) true 0 false false
+    ∷ wordRow (109 ∷ 110 ∷ 116 ∷ []) (PointChange Mnt) false 0 false false
     ∷ []
 
 -- cir rec cel
-abbrev pub pointSearches : List Row
+abbrev pub pointSearches : List WordRow
 pointSearches =
-    row (99 ∷ 105 ∷ 114 ∷ []) (PointSearch Cir) false 1 true false
-    ∷ row (114 ∷ 101 ∷ 99 ∷ []) (PointSearch Rec) false 2 false false
-    ∷ row (99 ∷ 101 ∷ 108 ∷ []) (PointSearch Cel) false 2 false false
+    wordRow (99 ∷ 105 ∷ 114 ∷ []) (PointSearch Cir) false 1 true false
+    ∷ wordRow (114 ∷ 101 ∷ 99 ∷ []) (PointSearch Rec) false 2 false false
+    ∷ wordRow (99 ∷ 101 ∷ 108 ∷ []) (PointSearch Cel) false 2 false false
     ∷ []
 
 -- bin bset brem bqry
-abbrev pub boxLines : List Row
+abbrev pub boxLines : List WordRow
 boxLines =
-    row (98 ∷ 105 ∷ 110 ∷ []) (BoxChange Bin) false 2 false true
-    ∷ row (98 ∷ 115 ∷ 101 ∷ 116 ∷ []) (BoxChange Bset) true 2 false false
-    ∷ row (98 ∷ 114 ∷ 101 ∷ 109 ∷ []) (BoxChange Brem) true 0 false false
-    ∷ row (98 ∷ 113 ∷ 114 ∷ 121 ∷ []) BoxSearch false 2 false false
+    wordRow (98 ∷ 105 ∷ 110 ∷ []) (BoxChange Bin) false 2 false true
+    ∷ wordRow (98 ∷ 115 ∷ 101 ∷ 116 ∷ []) (BoxChange Bset) true 2 false false
+    ∷ wordRow (98 ∷ 114 ∷ 101 ∷ 109 ∷ []) (BoxChange Brem) true 0 false false
+    ∷ wordRow (98 ∷ 113 ∷ 114 ∷ 121 ∷ []) BoxSearch false 2 false false
     ∷ []
 
 -- `cell` and the others
-abbrev pub table : List Row
-table = row (99 ∷ 101 ∷ 108 ∷ 108 ∷ []) Cell false 0 false true ∷ (pointChanges ++ (pointSearches ++ boxLines))
+abbrev pub table : List WordRow
+table = wordRow (99 ∷ 101 ∷ 108 ∷ 108 ∷ []) Cell false 0 false true ∷ (pointChanges ++ (pointSearches ++ boxLines))
 
 abbrev pub sameBytes : List ℕ → List ℕ → Bool
 sameBytes [] [] = true
@@ -60,10 +60,10 @@ sameBytes (a ∷ l) [] = false
 sameBytes (a ∷ l) (b ∷ m) = eqb a b && sameBytes l m
 
 -- what a row says of a word, and where it is another word, the rows behind it
-unfoldable pub rowSays : Row → List ℕ → Asks → Asks
+unfoldable pub rowSays : WordRow → List ℕ → Asks → Asks
 rowSays r w others = pick (sameBytes w (r .letters)) (r .asked) others
 
-abbrev pub foundIn : List Row → List ℕ → Asks → Asks
+abbrev pub foundIn : List WordRow → List ℕ → Asks → Asks
 foundIn [] w others = others
 foundIn (r ∷ rs) w others = rowSays r w (foundIn rs w others)
 

@@ -44,7 +44,7 @@ use Rattle.trace_lines.specs.declared.PointSearch.the-variants.{Cir, Rec, Cel}
 use Rattle.trace_telling.proofs.laws.RoomLaws.{had-room}
 use Rattle.trace_telling.proofs.laws.Tells.{told-tells}
 use Rattle.trace_points.specs.Meaning.Changes.{changeOf}
-use Rattle.trace_points.specs.Meaning.Searches.{Searched, pointSearchSaid, findingsOf, searchOf}
+use Rattle.trace_points.specs.Meaning.Searches.{Searched, pointSearchSaid, findingsOf, pointSearchOf}
 
 -- what there is to tell is there: as many findings as the trace's grids can give, and all in the outputs
 abbrev pub IsTold : ℕ → Searched → Type 0
@@ -73,10 +73,10 @@ module _ (boxes : ℕ) (handles : List (List ℕ)) (places : List (List Float)) 
         a = query.searchAnswer t ok ll ur test (query.room (query.outputs handles places))
 
         go : (x : Bool) → eqb a 0 ≡ x → IsTold boxes (pointSearchSaid (pick x (query.reportOf (query.findingOn t) (query.found t ll ur test) (query.outputs handles places)) (query.findings (count a (pick (eqb a 9) (length (query.found t ll ur test)) 0)) handles places)))
-        go true h = told-found (query.found t ll ur test) (λ e. query.handleOf (query.findingOn t e)) (λ e. query.placeOf (query.findingOn t e)) (room-of t ok ll ur test (query.room (query.outputs handles places)) (eqb-true a 0 h))
+        go true h = told-found (query.found t ll ur test) (λ e. query.handleRow (query.findingOn t e)) (λ e. query.placeRow (query.findingOn t e)) (room-of t ok ll ur test (query.room (query.outputs handles places)) (eqb-true a 0 h))
         go false h = subst (λ (x : Bool). Told (pick x (Points (pick (eqb a 9) (length (query.found t ll ur test)) 0)) (Refused a)) (length handles) (length places) boxes) (sym h) tt
 
-  pub told : (t : Tables) (s : PointSearch) (p q : Spot) (far : ℤ) → IsTold boxes (searchOf t s p q far handles places)
+  pub told : (t : Tables) (s : PointSearch) (p q : Spot) (far : ℤ) → IsTold boxes (pointSearchOf t s p q far handles places)
   unfolding findingsOf query.aroundOf query.aabbOf query.queryOf
   told t Cir p q far =
       let c = placeOf p in

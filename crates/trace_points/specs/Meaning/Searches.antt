@@ -33,5 +33,5 @@ findingsOf t Rec p q far handles places = aabbOf t p q handles places
 findingsOf t Cel p q far handles places = queryOf t p q handles places
 
 -- the line, with the places and the radius that its record says
-abbrev pub searchOf : Tables → PointSearch → Spot → Spot → ℤ → List (List ℕ) → List (List Float) → Searched
-searchOf t s p q far handles places = pointSearchSaid (findingsOf t s (placeOf p) (placeOf q) (sixteenth far) handles places)
+abbrev pub pointSearchOf : Tables → PointSearch → Spot → Spot → ℤ → List (List ℕ) → List (List Float) → Searched
+pointSearchOf t s p q far handles places = pointSearchSaid (findingsOf t s (placeOf p) (placeOf q) (sixteenth far) handles places)

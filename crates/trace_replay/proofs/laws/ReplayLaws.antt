@@ -11,14 +11,14 @@ use Rattle.trace_lines.specs.Meaning.Requests.{requestOf}
 use Rattle.trace_answers.specs.Meaning.State.{State, Answered, answered}
 use Rattle.trace_answers.proofs.laws.ToldLaws.{IsTold, told}
 use Rattle.trace_answers.specs.Meaning.Answer.{answerOf}
-use Rattle.trace_replay.specs.Meaning.Replay.{Grids, grids, fresh, answerTo, textOf, gridsOf, replayed, replayOf}
+use Rattle.trace_replay.specs.Meaning.Replay.{Grids, grids, freshState, answerTo, answerText, gridsOf, replayed, replayOf}
 
-module _ (g : Grids) (bytes : List ℕ) {q : Request} (read : q ≡ requestOf bytes) {s : Said} {after : State} (done : answered s after ≡ answerOf (fresh g) q) where
+module _ (g : Grids) (bytes : List ℕ) {q : Request} (read : q ≡ requestOf bytes) {s : Said} {after : State} (done : answered s after ≡ answerOf (freshState g) q) where
   pub can-tell : IsTold (answered s after)
-  can-tell = subst IsTold (sym done) (told (fresh g) (omega arith) (omega arith) q)
+  can-tell = subst IsTold (sym done) (told (freshState g) (omega arith) (omega arith) q)
 
   pub is-replayed : (w : Buffer) {v : Buffer} → v ≡ putText w (recordText s (after .handles) (after .places) (after .corners)) → replayed (grids (after .points) (after .boxes)) v ≡ replayOf g bytes w
   unfolding answerTo
   is-replayed w e =
       ap (replayed (grids (after .points) (after .boxes))) e
-      ∙ ap (λ (a : Answered). replayed (gridsOf a) (putText w (textOf a))) (done ∙ ap (answerOf (fresh g)) read)
+      ∙ ap (λ (a : Answered). replayed (gridsOf a) (putText w (answerText a))) (done ∙ ap (answerOf (freshState g)) read)

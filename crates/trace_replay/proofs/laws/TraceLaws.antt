@@ -14,16 +14,16 @@ use Rattle.trace_answers.specs.Meaning.State.{Answered}
 use Rattle.trace_answers.specs.Meaning.Answer.{answerOf}
 use Rattle.trace_replay.specs.Meaning.Next.{Next, nextOf}
 use Rattle.trace_replay.proofs.laws.NextLaws.{none-lost, block-used}
-use Rattle.trace_replay.specs.Meaning.Replay.{Grids, fresh, answerTo, textOf, gridsOf}
+use Rattle.trace_replay.specs.Meaning.Replay.{Grids, freshState, answerTo, answerText, gridsOf}
 use Rattle.trace_replay.specs.Inner.Replay.{traceOf}
 
 cut-answer : (g : Grids) (r : List ℕ) → answerTo g (take 129 r) ≡ answerTo g r
 unfolding answerTo
-cut-answer g r = ap (answerOf (fresh g)) (cut-read r)
+cut-answer g r = ap (answerOf (freshState g)) (cut-read r)
 
 cut-trace : (g : Grids) (rs : List (List ℕ)) → traceOf g (map (take 129) rs) ≡ traceOf g rs
 cut-trace g [] = refl
-cut-trace g (r ∷ rs) = ap (λ (a : Answered). textOf a ++ traceOf (gridsOf a) (map (take 129) rs)) (cut-answer g r) ∙ ap (λ (t : List ℕ). textOf (answerTo g r) ++ t) (cut-trace (gridsOf (answerTo g r)) rs)
+cut-trace g (r ∷ rs) = ap (λ (a : Answered). answerText a ++ traceOf (gridsOf a) (map (take 129) rs)) (cut-answer g r) ∙ ap (λ (t : List ℕ). answerText (answerTo g r) ++ t) (cut-trace (gridsOf (answerTo g r)) rs)
 
 -- split byte by byte in a line of 130 bytes, the input has the same trace
 pub trace-of-input : (g : Grids) (input : List ℕ) → traceOf g (recordsFrom 130 begun input) ≡ traceOf g (recordsOf input)
@@ -39,7 +39,7 @@ module _ (g : Grids) (s : Sofar) (at : ℕ) (l rest : List ℕ) where
   walk = nextOf 130 s at (drop at l)
 
   -- a record ends in the block: its answer, and then what is left behind it
-  pub record-turn : (r : List ℕ) → walk .out ≡ r ∷ [] → left g s (drop at l ++ rest) ≡ textOf (answerTo g r) ++ left (gridsOf (answerTo g r)) (walk .next) (drop (walk .place) l ++ rest)
+  pub record-turn : (r : List ℕ) → walk .out ≡ r ∷ [] → left g s (drop at l ++ rest) ≡ answerText (answerTo g r) ++ left (gridsOf (answerTo g r)) (walk .next) (drop (walk .place) l ++ rest)
   record-turn r e = ap (traceOf g) (none-lost 130 l rest s at ∙ ap (λ (o : List (List ℕ)). o ++ recordsFrom 130 (walk .next) (drop (walk .place) l ++ rest)) e)
 
   -- none does: the next block goes on with the bytes so far

@@ -3,9 +3,9 @@
 -- Here: what only inner contracts cite.
 use Prim.Native.Nat.{ℕ}
 use mathlib.Core.List.{List, [], _∷_, _++_}
-use Rattle.trace_replay.specs.Meaning.Replay.{Grids, answerTo, textOf, gridsOf}
+use Rattle.trace_replay.specs.Meaning.Replay.{Grids, answerTo, answerText, gridsOf}
 
 -- ---- all of them: what the program writes
 abbrev pub traceOf : Grids → List (List ℕ) → List ℕ
 traceOf g [] = []
-traceOf g (r ∷ rs) = textOf (answerTo g r) ++ traceOf (gridsOf (answerTo g r)) rs
+traceOf g (r ∷ rs) = answerText (answerTo g r) ++ traceOf (gridsOf (answerTo g r)) rs

@@ -29,17 +29,17 @@ abbrev pub naught : Float
 naught = fin false 0 (pos 0)
 
 -- the outputs of the queries before a request: 256 findings of points, 64 of boxes
-abbrev pub fresh : Grids → State
-fresh g =
+abbrev pub freshState : Grids → State
+freshState g =
     state (g .points) (g .boxes) (replicate 256 (replicate 2 0)) (replicate 256 (replicate 2 naught)) (replicate 64 (replicate 4 naught)) (replicate 64 0)
 
 -- what the grids answer to the bytes of a record
 unfoldable pub answerTo : Grids → List ℕ → Answered
-answerTo g bytes = answerOf (fresh g) (requestOf bytes)
+answerTo g bytes = answerOf (freshState g) (requestOf bytes)
 
 -- the text of the answer, and the grids after it
-abbrev pub textOf : Answered → List ℕ
-textOf a = recordText (a .tells) (a .after .handles) (a .after .places) (a .after .corners)
+abbrev pub answerText : Answered → List ℕ
+answerText a = recordText (a .tells) (a .after .handles) (a .after .places) (a .after .corners)
 
 abbrev pub gridsOf : Answered → Grids
 gridsOf a = grids (a .after .points) (a .after .boxes)
@@ -53,7 +53,7 @@ abbrev pub replayed : Grids → Buffer → Replayed
 replayed g w = record { after = g; out = w }
 
 abbrev pub replayOf : Grids → List ℕ → Buffer → Replayed
-replayOf g bytes w = replayed (gridsOf (answerTo g bytes)) (putText w (textOf (answerTo g bytes)))
+replayOf g bytes w = replayed (gridsOf (answerTo g bytes)) (putText w (answerText (answerTo g bytes)))
 
 -- the promise of a record's answer, with the tables behind their references named once: w is what is written before it, v what is written after it
 abbrev pub Replays : List ℕ → Buffer → Buffer

@@ -12,7 +12,7 @@ use mir.Val.{SFits}
 use Rattle.trace_lines.specs.declared.Asks.{Asks}
 use Rattle.trace_lines.specs.declared.Request.{Request}
 use Rattle.trace_lines.specs.Meaning.Words.{askedBy}
-use Rattle.trace_lines.specs.Meaning.Taken.{origin}
+use Rattle.trace_lines.specs.Meaning.Taken.{noSpot}
 use Rattle.trace_lines.specs.Inner.Texts.{SpotInRange, CountInRange, AsAsked, ArgumentsInRange}
 use Rattle.trace_lines.specs.Meaning.Requests.{requestOf}
 use Rattle.trace_lines.proofs.laws.ReadLaws.{by-text}
@@ -28,8 +28,8 @@ zero-in-range = omega arith
 
 asked-in-range : (k : Asks) (r : Request) → ArgumentsInRange k r → InRange r
 asked-in-range k r h =
-    let o : SpotInRange origin = (zero-in-range, zero-in-range) in
-    ((as-asked SpotInRange (ltb 0 (k .places)) origin (r .p) o (h .0 .0 .1 .0), as-asked SpotInRange (ltb 1 (k .places)) origin (r .q) o (h .0 .0 .1 .1)), as-asked CountInRange (k .radius) (pos 0) (r .far) zero-in-range (h .0 .1))
+    let o : SpotInRange noSpot = (zero-in-range, zero-in-range) in
+    ((as-asked SpotInRange (ltb 0 (k .places)) noSpot (r .p) o (h .0 .0 .1 .0), as-asked SpotInRange (ltb 1 (k .places)) noSpot (r .q) o (h .0 .0 .1 .1)), as-asked CountInRange (k .radius) (pos 0) (r .far) zero-in-range (h .0 .1))
 
 -- whatever is read is in range
 pub read-in-range : (bytes : List ℕ) → InRange (requestOf bytes)

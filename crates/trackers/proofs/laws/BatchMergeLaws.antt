@@ -17,12 +17,12 @@ use Rattle.point_tables.specs.Meaning.Decide.{holds}
 use Rattle.point_tables.specs.Meaning.Outcome.{outcome}
 use Rattle.point_deferred.specs.Meaning.Batch.{Call, callOf, callsOf, tablesAfter, replies, replyRows, batchAnswer, batched}
 use Rattle.point_deferred.proofs.laws.BatchAnswerLaws.{batch-ran, batch-short, batch-refused}
-use Rattle.trackers.specs.Meaning.Merges.{Turn, calls, those, repliesTo, Merge, NotShared, Alike, kindsOf, handlesOf, positionsOf, batchFor}
+use Rattle.trackers.specs.Meaning.Merges.{Turn, calls, those, repliesTo, Merge, NotShared, Alike, kindsOf, handlesUsed, positionsOf, batchFor}
 use Rattle.trackers.specs.Meaning.Merges.{SameBatch}
 use Rattle.trackers.proofs.laws.MergeLaws.{any-merge}
 
 -- ---- the batch's calls are those of the merge
-pub batch-calls : (m : List Turn) → callsOf (kindsOf m) (handlesOf m) (positionsOf m) ≡ calls m
+pub batch-calls : (m : List Turn) → callsOf (kindsOf m) (handlesUsed m) (positionsOf m) ≡ calls m
 batch-calls [] = refl
 batch-calls (u ∷ m) = ap (λ (l : List Call). u .call ∷ l) (batch-calls m)
 
@@ -37,7 +37,7 @@ rows-to k t (u ∷ m) o =
 -- ---- the batch's answer looks at the number of calls, and not at the calls
 module _ (t : Tables) (out : List (List ℕ)) where
   abbrev answerFor : List Turn → ℕ
-  answerFor m = batchAnswer t (kindsOf m) (handlesOf m) (positionsOf m) out
+  answerFor m = batchAnswer t (kindsOf m) (handlesUsed m) (positionsOf m) out
 
   abbrev answerBy : ℕ → ℕ
   answerBy z = firstOf (unless ((eqb z z && eqb z z) && holds t) 3 ∷ unless (leb z (length out)) 9 ∷ [])
@@ -47,10 +47,10 @@ module _ (t : Tables) (out : List (List ℕ)) where
   answer-long m = simp length-map
 
   ran : (m : List Turn) → answerFor m ≡ 0 → batchFor t m out ≡ outcome (batched 0 (length m) (written (replyRows (replies t (calls m))) out)) (tablesAfter t (calls m))
-  ran m e = batch-ran t (kindsOf m) (handlesOf m) (positionsOf m) out e ∙ rw (batch-calls m) (simp length-map)
+  ran m e = batch-ran t (kindsOf m) (handlesUsed m) (positionsOf m) out e ∙ rw (batch-calls m) (simp length-map)
 
   short : (m : List Turn) → answerFor m ≡ 9 → batchFor t m out ≡ outcome (batched 9 (length m) out) t
-  short m e = batch-short t (kindsOf m) (handlesOf m) (positionsOf m) out e ∙ simp length-map
+  short m e = batch-short t (kindsOf m) (handlesUsed m) (positionsOf m) out e ∙ simp length-map
 
   -- ---- two merges that are alike, as batches
   module _ (m n : List Turn) (w : Alike t m n) where
@@ -72,7 +72,7 @@ module _ (t : Tables) (out : List (List ℕ)) where
 
     both-refused : (answerFor m ≡ 0 → ⊥) → (answerFor m ≡ 9 → ⊥) → SameBatch m n (batchFor t m out) (batchFor t n out)
     both-refused a b =
-        rw (batch-refused t (kindsOf m) (handlesOf m) (positionsOf m) out a b, batch-refused t (kindsOf n) (handlesOf n) (positionsOf n) out (λ e. a (sym same-answer ∙ e)) (λ e. b (sym same-answer ∙ e)))
+        rw (batch-refused t (kindsOf m) (handlesUsed m) (positionsOf m) out a b, batch-refused t (kindsOf n) (handlesUsed n) (positionsOf n) out (λ e. a (sym same-answer ∙ e)) (λ e. b (sym same-answer ∙ e)))
         (record { answer = sym same-answer; count = refl; tables = refl; rows = λ z. absurd (a z) })
 
     alike-batch : SameBatch m n (batchFor t m out) (batchFor t n out)

@@ -51,14 +51,14 @@ pub record Alike (t : Tables) (m n : List Turn) : Type 0 where
 abbrev pub kindsOf : List Turn → List ℕ
 kindsOf m = map (λ u. u .call .kind) m
 
-abbrev pub handlesOf : List Turn → List (List ℕ)
-handlesOf m = map (λ u. u .call .handle .slot ∷ u .call .handle .version ∷ []) m
+abbrev pub handlesUsed : List Turn → List (List ℕ)
+handlesUsed m = map (λ u. u .call .handle .slot ∷ u .call .handle .version ∷ []) m
 
 abbrev pub positionsOf : List Turn → List (List Float)
 positionsOf m = map (λ u. u .call .at .x ∷ u .call .at .y ∷ []) m
 
 abbrev pub batchFor : Tables → List Turn → List (List ℕ) → Outcome Batched
-batchFor t m out = batchOf t (kindsOf m) (handlesOf m) (positionsOf m) out
+batchFor t m out = batchOf t (kindsOf m) (handlesUsed m) (positionsOf m) out
 
 -- the same of what two batches leave: answer, count and tables, and if they are accepted each tracker's rows of the output
 pub record SameBatch (m n : List Turn) (a b : Outcome Batched) : Type 0 where

@@ -36,7 +36,7 @@ use Rattle.point_deferred.specs.Meaning.Batch.{Call}
 use Rattle.point_deferred.proofs.laws.MovesLaws.{Named, named}
 use Rattle.point_query.specs.declared.Test.{Test}
 use Rattle.point_query.specs.declared.Test.the-variants.{Circle}
-use Rattle.point_query.specs.Meaning.Queries.{positionOf, found, findingOn, handleOf, placeOf, outputs, room, Findings, reportOf, searchAnswer, searchOf, aroundOf}
+use Rattle.point_query.specs.Meaning.Queries.{positionOf, found, findingOn, handleRow, placeRow, outputs, room, Findings, reportOf, searchAnswer, searchOf, aroundOf}
 use Rattle.point_query.proofs.laws.FoundLaws.{Standing}
 use Rattle.point_query.proofs.laws.OnceLaws.{Once, standing-good, found-once, found-standing, finds}
 use Rattle.point_query.proofs.laws.ScanLaws.{circle-scan}
@@ -140,8 +140,8 @@ module _ (m : Tables) (h : Holds m) (c : Position) (r : Float) (handles : List (
   shown : (j : ℕ) (g : Handle) (p : Position) → ReportedAt (aroundOf m c r handles places) j g p → Shown j g p
   shown j g p w =
       let v : ReportedAt (reportOf (findingOn m) es (outputs handles places)) j g p = rw is-done at w in
-      let x = sym (mapped-at (λ e. handleOf (findingOn m e)) es _ noEntry [] j (v .filled)) ∙ v .handle in
-      let y = sym (mapped-at (λ e. placeOf (findingOn m e)) es _ noEntry [] j (v .filled)) ∙ v .place in
+      let x = sym (mapped-at (λ e. handleRow (findingOn m e)) es _ noEntry [] j (v .filled)) ∙ v .handle in
+      let y = sym (mapped-at (λ e. placeRow (findingOn m e)) es _ noEntry [] j (v .filled)) ∙ v .place in
       record {
         filled = v .filled;
         slot = ap (λ (l : List ℕ). getD l 0 0) x;
@@ -153,8 +153,8 @@ module _ (m : Tables) (h : Holds m) (c : Position) (r : Float) (handles : List (
   reported j g p w =
       rw is-done (record {
         filled = w .filled;
-        handle = mapped-at (λ e. handleOf (findingOn m e)) es _ noEntry [] j (w .filled) ∙ (λ i. w .slot i ∷ w .version i ∷ []);
-        place = mapped-at (λ e. placeOf (findingOn m e)) es _ noEntry [] j (w .filled) ∙ ap (λ (q : Position). q .x ∷ q .y ∷ []) (w .place);
+        handle = mapped-at (λ e. handleRow (findingOn m e)) es _ noEntry [] j (w .filled) ∙ (λ i. w .slot i ∷ w .version i ∷ []);
+        place = mapped-at (λ e. placeRow (findingOn m e)) es _ noEntry [] j (w .filled) ∙ ap (λ (q : Position). q .x ∷ q .y ∷ []) (w .place);
       })
 
   -- what is shown is a good handle at its recorded position, in the circle

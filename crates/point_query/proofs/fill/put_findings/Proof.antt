@@ -5,15 +5,15 @@ use native.Mathlib.Omega.{arith}
 use lib.ListN.{length, getD, take}
 use borrow.Author.Needs.{needs}
 use Rattle.point_records.specs.declared.Entry.{Entry}
-use Rattle.point_query.specs.Meaning.Queries.{handleOf, placeOf, outputs}
-use Rattle.point_query.specs.Inner.Fill.{findingOf, findingAt, handleAt, placeAt, Findable}
+use Rattle.point_query.specs.Meaning.Queries.{handleRow, placeRow, outputs}
+use Rattle.point_query.specs.Inner.Fill.{findingOf, findingAt, handleRowAt, placeRowAt, Findable}
 use Rattle.storage.proofs.laws.PutLaws.{Rows, rows-none, rows-kept, rows-room, put-next, put-done}
 use Rattle.point_query.proofs.fill.put_findings.Statement.{statement}
 use Rattle.point_query.proofs.fill.put_findings.Tie as tie
 
 abbrev Inv-loop : tie.InvT-loop
 Inv-loop nums pool spots found r handles₀ places₀ k₀ handles places k =
-    Rows (handleAt nums pool spots) (take k found) r handles₀ handles k × Rows (placeAt nums pool spots) (take k found) r places₀ places k
+    Rows (handleRowAt nums pool spots) (take k found) r handles₀ handles k × Rows (placeRowAt nums pool spots) (take k found) r places₀ places k
 
 abbrev μ-loop : tie.MeasureT-loop
 μ-loop nums pool spots found r handles₀ places₀ k₀ handles places k = r - k
@@ -60,8 +60,8 @@ loop-again c =
     let l = i .before in
     let s = start l in
     let h = i .loop-test .taken in (
-      put-next (s .args .found .now) (l .loop .inv .0) (s .pre .0 .0) (s .pre .1) h (p .put-finding .ensures .0) (ap handleOf (reported f)),
-      put-next (s .args .found .now) (l .loop .inv .1) (s .pre .0 .0) (s .pre .2) h (p .put-finding .ensures .1) (ap placeOf (reported f)),
+      put-next (s .args .found .now) (l .loop .inv .0) (s .pre .0 .0) (s .pre .1) h (p .put-finding .ensures .0) (ap handleRow (reported f)),
+      put-next (s .args .found .now) (l .loop .inv .1) (s .pre .0 .0) (s .pre .2) h (p .put-finding .ensures .1) (ap placeRow (reported f)),
     )
 
 returns : tie.Need-returns Inv-loop μ-loop

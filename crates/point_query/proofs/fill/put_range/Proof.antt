@@ -14,7 +14,7 @@ use Rattle.storage.proofs.laws.WrittenLaws.{length-written}
 use Rattle.storage.proofs.laws.RunLaws.{run-onward}
 use Rattle.point_query.specs.Meaning.Queries.{outputs, filling}
 use Rattle.point_query.specs.Inner.Places.{placesIn, spotPasses, placesOf}
-use Rattle.point_query.specs.Inner.Fill.{findingAt, handleAt, placeAt}
+use Rattle.point_query.specs.Inner.Fill.{findingAt, handleRowAt, placeRowAt}
 use Rattle.point_query.proofs.laws.StretchLaws.{places-most, places-run}
 use Rattle.point_query.proofs.laws.RowLaws.{rows-behind}
 use Rattle.point_query.proofs.fill.put_range.Statement.{statement}
@@ -26,8 +26,8 @@ Inv-loop nums pool spots used test handles₀ places₀ low high n₀ i₀ handl
     (i ≤ used)
     × ((a b : Cell) → Near a → Near b → low ≡ keyOf a → high ≡ keyOf b
     → (n ≡ length (placesOf a b test pool spots i))
-    × (handles ≡ written (map (handleAt nums pool spots) (placesOf a b test pool spots i)) handles₀)
-    × (places ≡ written (map (placeAt nums pool spots) (placesOf a b test pool spots i)) places₀))
+    × (handles ≡ written (map (handleRowAt nums pool spots) (placesOf a b test pool spots i)) handles₀)
+    × (places ≡ written (map (placeRowAt nums pool spots) (placesOf a b test pool spots i)) places₀))
 
 abbrev μ-loop : tie.MeasureT-loop
 μ-loop nums pool spots used test handles₀ places₀ low high n₀ i₀ handles places n i = used - i
@@ -41,10 +41,10 @@ module _ (l : tie.At-loop Inv-loop μ-loop) where
   js = let a = start .args in placesOf (a .a) (a .b) (a .test) (a .pool .now) (a .spots .now) (l .loop .i)
 
   abbrev handle : ℕ → List ℕ
-  handle = let a = start .args in handleAt (a .nums .now) (a .pool .now) (a .spots .now)
+  handle = let a = start .args in handleRowAt (a .nums .now) (a .pool .now) (a .spots .now)
 
   abbrev place : ℕ → List Float
-  place = let a = start .args in placeAt (a .nums .now) (a .pool .now) (a .spots .now)
+  place = let a = start .args in placeRowAt (a .nums .now) (a .pool .now) (a .spots .now)
 
   met : (l .loop .n ≡ length js) × (l .loop .handles ≡ written (map handle js) (start .args .handles .now)) × (l .loop .places ≡ written (map place js) (start .args .places .now))
   met = let s = start in l .loop .inv .1 (s .args .a) (s .args .b) (s .pre .0 .1) (s .pre .0 .2) (l .before .before .key-of .ensures) (l .before .key-of2 .ensures)

@@ -10,9 +10,9 @@ use lib.ListN.{length, take, length-append}
 use borrow.Author.Needs.{needs}
 use Rattle.storage.specs.Meaning.Keyed.{written}
 use Rattle.point_records.specs.declared.Entry.{Entry}
-use Rattle.point_query.specs.Meaning.Queries.{passes, handleOf, placeOf}
+use Rattle.point_query.specs.Meaning.Queries.{passes, handleRow, placeRow}
 use Rattle.point_query.specs.Inner.Places.{spotPasses}
-use Rattle.point_query.specs.Inner.Fill.{findingOf, handleAt, placeAt}
+use Rattle.point_query.specs.Inner.Fill.{findingOf, handleRowAt, placeRowAt}
 use Rattle.point_query.proofs.laws.PlacesLaws.{passed, passed-more, passed-same, places-length}
 use Rattle.point_query.proofs.laws.RowLaws.{rowsTo, rows-none, rows-kept, rows-taken, rows-passed}
 use Rattle.point_query.proofs.fill.put_run.Statement.{statement}
@@ -23,8 +23,8 @@ Inv-loop nums pool spots from to test n handles₀ places₀ k₀ j₀ handles p
     (from ≤ j)
     × (j ≤ to)
     × (k ≡ n + length (passed (spotPasses test spots) from j))
-    × (handles ≡ written (take n handles₀ ++ map (handleAt nums pool spots) (passed (spotPasses test spots) from j)) handles₀)
-    × (places ≡ written (take n places₀ ++ map (placeAt nums pool spots) (passed (spotPasses test spots) from j)) places₀)
+    × (handles ≡ written (take n handles₀ ++ map (handleRowAt nums pool spots) (passed (spotPasses test spots) from j)) handles₀)
+    × (places ≡ written (take n places₀ ++ map (placeRowAt nums pool spots) (passed (spotPasses test spots) from j)) places₀)
 
 abbrev μ-loop : tie.MeasureT-loop
 μ-loop nums pool spots from to test n handles₀ places₀ k₀ j₀ handles places k j = to - j
@@ -35,10 +35,10 @@ module _ (s : tie.Start Inv-loop μ-loop) where
   test-of = spotPasses (s .args .test) (s .args .spots .now)
 
   abbrev handle : ℕ → List ℕ
-  handle = handleAt (s .args .nums .now) (s .args .pool .now) (s .args .spots .now)
+  handle = handleRowAt (s .args .nums .now) (s .args .pool .now) (s .args .spots .now)
 
   abbrev place : ℕ → List Float
-  place = placeAt (s .args .nums .now) (s .args .pool .now) (s .args .spots .now)
+  place = placeRowAt (s .args .nums .now) (s .args .pool .now) (s .args .spots .now)
 
   handles-size : s .args .n ≤ length (s .args .handles .now)
   handles-size = omega (arith, s .pre)
@@ -118,8 +118,8 @@ loop-again c =
       omega arith,
       omega arith,
       omega (arith, w .9, v .2, ap length (passed-more t (a .from) j (v .0) y) ∙ length-append (passed t (a .from) j) (j ∷ [])),
-      w .7 ∙ w .4 .ensures .0 ∙ rows-taken (handle s) t (a .from) (a .n) (a .handles .now) (handles-size s) j (l .loop .k) (l .loop .handles) (v .0) (v .2) (v .3) _ y (ap handleOf f) (omega (arith, more, v .0, s .pre)),
-      w .8 ∙ w .4 .ensures .1 ∙ rows-taken (place s) t (a .from) (a .n) (a .places .now) (places-size s) j (l .loop .k) (l .loop .places) (v .0) (v .2) (v .4) _ y (ap placeOf f) (omega (arith, more, v .0, s .pre)),
+      w .7 ∙ w .4 .ensures .0 ∙ rows-taken (handle s) t (a .from) (a .n) (a .handles .now) (handles-size s) j (l .loop .k) (l .loop .handles) (v .0) (v .2) (v .3) _ y (ap handleRow f) (omega (arith, more, v .0, s .pre)),
+      w .8 ∙ w .4 .ensures .1 ∙ rows-taken (place s) t (a .from) (a .n) (a .places .now) (places-size s) j (l .loop .k) (l .loop .places) (v .0) (v .2) (v .4) _ y (ap placeRow f) (omega (arith, more, v .0, s .pre)),
     ))
     (λ w.
     let y = sym (tested (c .before)) ∙ w .0 .left in (

@@ -2,7 +2,7 @@
 use lib.IntN.{pos}
 use mir.Facts.{toZ-ofZ}
 use Rattle.trace_lines.proofs.laws.TakenLaws.{if-both}
-use Rattle.trace_lines.specs.Meaning.Taken.{spotOf, takeCount}
+use Rattle.trace_lines.specs.Meaning.Taken.{spotFrom, takeCount}
 use borrow.Author.Needs.{needs}
 use Rattle.trace_lines.proofs.fields.spot_if.Statement.{statement}
 use Rattle.trace_lines.proofs.fields.spot_if.Tie as tie
@@ -14,21 +14,21 @@ spot-if-spec =
     (λ c κs. search needs)
     (λ c. search needs)
     (λ c. search needs)
-    (λ c. rw (if-both spotOf (pos 0) (pos 0) takeCount takeCount, ← (c .before .before .count-if .ensures), c .enum-told .given .1))
+    (λ c. rw (if-both spotFrom (pos 0) (pos 0) takeCount takeCount, ← (c .before .before .count-if .ensures), c .enum-told .given .1))
     (λ c κs. search needs)
     (λ c. search needs)
     (λ c. search needs)
     (λ c.
     let m = c .before .before in
     let k = m .before .before in
-    rw (if-both spotOf (pos 0) (pos 0) takeCount takeCount, ← (k .before .before .count-if .ensures), k .first .given .1, ← (m .count-if2 .ensures), c .enum-told2 .given .1))
+    rw (if-both spotFrom (pos 0) (pos 0) takeCount takeCount, ← (k .before .before .count-if .ensures), k .first .given .1, ← (m .count-if2 .ensures), c .enum-told2 .given .1))
     (λ c.
     let m = c .before .before .before in
     let k = m .before .before in
     rw (
       toZ-ofZ (record { sfits = m .before .known-told .given .0 .1 }),
       toZ-ofZ (record { sfits = c .known-told2 .given .0 .1 }),
-      if-both spotOf (pos 0) (pos 0) takeCount takeCount,
+      if-both spotFrom (pos 0) (pos 0) takeCount takeCount,
       ← (k .before .before .count-if .ensures),
       k .first .given .1,
       ← (m .count-if2 .ensures),
