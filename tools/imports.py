@@ -46,6 +46,8 @@ def wrong_use(tree, crate, part, use):
         return
     for there, _ in use.names:
         found = tree.find(key, there)
+        if not found and tree.passed(key, there):
+            continue
         if not found:
             yield f'{there} is not in {tree.files[key].path}'
         elif not found.pub:

@@ -212,6 +212,11 @@ class Tree:
         f = self.files.get(key)
         return f and (f.decls.get(name) or f.made.get(name))
 
+    def passed(self, key, name):
+        """The Use by which a module passes a name on."""
+        use, there = self.files[key].names.get(name, (None, None)) if key in self.files else (None, None)
+        return use and 'pub' in use.marks and (use.key and self.passed(use.key, there) or use)
+
     def code(self, crate):
         return '\n'.join('\n'.join(lines) for (c, _), lines in self.src.items() if c == crate)
 
@@ -222,7 +227,7 @@ class Tree:
             return here
         if word in file.names:
             use, there = file.names[word]
-            return use.key and self.find(use.key, there) or use
+            return use.key and (self.find(use.key, there) or self.passed(use.key, there)) or use
         if '.' in word:
             alias, rest = word.split('.', 1)
             if alias in file.aliases:

@@ -1,11 +1,6 @@
 -- A table that is filled place by place from a list: a turn of the loop, and its end. Assumes nothing.
-use Prim.Native.Nat.{ℕ, _+_, _<_, _≤_}
-use mathlib.Core.Path.{_≡_, refl}
-use mathlib.Core.List.{List, [], _∷_, _++_, append-nil}
-use native.Mathlib.Omega.{arith}
-use native.Mathlib.Numerals.{add-one}
-use lib.ListN.{length, getD, set, take, drop, drop-of-length-le}
-use lib.Seq.{paste, paste-suc, take-all}
+use Rattle.basics.specs.Words.{ℕ, _+_, _<_, _≤_, _≡_, refl, List, [], _∷_, _++_, append-nil, length, getD, set, take, drop, drop-of-length-le, paste, paste-suc}
+use Rattle.basics.specs.Words.{take-all, add-one, arith}
 
 module _ {A : Type 0} (d : List A) (at : ℕ) (s : List A) where
   pub fill-step : (z v : A) (m : List A) (i j : ℕ) → i ≡ at + j → v ≡ getD s j z → i < length d → j < length s → m ≡ paste d at s j → set m i v ≡ paste d at s (j + 1)

@@ -1,8 +1,5 @@
 // Slots that are all free: what building a grid starts from, whatever the tables held.
-ghost use mathlib.Core.Path.{_≡_};
-ghost use mathlib.Core.List.{[], _∷_, _++_};
-ghost use Prim.Native.Nat.{_+_, _≤_};
-ghost use lib.ListN.{length, take, drop};
+ghost use Rattle.basics.specs.Words.{_+_, _≤_, _≡_, [], _∷_, _++_, length, take, drop};
 ghost use Rattle.basics.specs.Meaning.Limits.{mostSlots};
 ghost use Rattle.basics.specs.Meaning.Lent.{was, is};
 ghost use Rattle.basics.specs.Meaning.Refusals.{unless, firstOf};

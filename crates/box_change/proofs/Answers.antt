@@ -1,12 +1,5 @@
 -- `set_aabb` by its answer: the answer test by test, what holds where it is 0, and the outcome either way. Assumes nothing.
-use Prim.Native.Nat.{ℕ, _+_, _<_, _≤_}
-use mathlib.Core.Path.{_≡_, refl, sym, _∙_, ap}
-use mathlib.Core.Bool.{Bool, true, false}
-use mathlib.Core.List.{List, [], _∷_}
-use native.Mathlib.Omega.{arith}
-use lib.Dec.{T}
-use lib.ListN.{length}
-use borrow.Author.Tests.{ne-eqb, le-leb, lt-leb}
+use Rattle.basics.specs.Words.{ℕ, _+_, _<_, _≤_, _≡_, refl, sym, _∙_, ap, Bool, true, false, List, [], _∷_, length, T, arith, ne-eqb, le-leb, lt-leb}
 use Rattle.basics.proofs.laws.Says.{says-t}
 use Rattle.basics.specs.Meaning.Refusals.{Refusal, unless, orElse, firstOf}
 use Rattle.geometry.specs.Meaning.Domain.{aabbInDomain}

@@ -1,13 +1,7 @@
 -- What the steps of `set_aabb` ask of their calls, and what they leave, put together. Assumes nothing.
-use Prim.Native.Nat.{ℕ, _+_, _<_, _≤_}
-use mathlib.Core.Path.{_≡_, refl, sym, _∙_, ap}
-use mathlib.Core.Bool.{Bool, true, false}
-use mathlib.Core.List.{List}
-use native.Mathlib.Omega.{arith}
-use lib.Dec.{T}
+use Rattle.basics.specs.Words.{ℕ, _+_, _<_, _≤_, _≡_, refl, sym, _∙_, ap, Bool, true, false, List, length, getD, set, take, drop, take-append-seam}
+use Rattle.basics.specs.Words.{length-take-le, T, arith}
 use lib.Ieee.{Float}
-use lib.ListN.{length, getD, set, take, drop}
-use lib.Seq.{take-append-seam, length-take-le}
 use Rattle.basics.specs.Meaning.Limits.{mostCells}
 use Rattle.basics.specs.Meaning.Says.{Says}
 use Rattle.basics.proofs.laws.Says.{apart, says-via, says-same, said-says}

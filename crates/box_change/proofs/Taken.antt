@@ -1,12 +1,5 @@
 -- What taking a box out asks of its calls, and what they leave, put together; and `remove` by its answer. Assumes nothing.
-use Prim.Native.Nat.{ℕ}
-use mathlib.Core.Path.{_≡_, refl, sym, _∙_, ap}
-use mathlib.Core.Bool.{Bool, true, false}
-use mathlib.Core.List.{List, [], _∷_}
-use native.Mathlib.Omega.{arith}
-use lib.Dec.{eqb}
-use lib.ListN.{length, take}
-use borrow.Author.Tests.{ne-eqb}
+use Rattle.basics.specs.Words.{ℕ, _≡_, refl, sym, _∙_, ap, Bool, true, false, List, [], _∷_, length, take, eqb, arith, ne-eqb}
 use Rattle.basics.specs.Meaning.Refusals.{unless, firstOf}
 use Rattle.slots.specs.declared.Handle.{Handle}
 use Rattle.slots.specs.Meaning.Slot.{handleTest, handleRefusal, emptiedNums, emptiedMap}

@@ -1,7 +1,5 @@
 // `set_aabb`: if both corner cells stay, only the record changes; otherwise the box leaves its old lists and enters its new ones.
-ghost use mathlib.Core.Path.{_≡_};
-ghost use Prim.Native.Nat.{_<_};
-ghost use lib.ListN.{length, set};
+ghost use Rattle.basics.specs.Words.{_<_, _≡_, length, set};
 ghost use Rattle.basics.specs.Meaning.Lent.{was, is};
 ghost use Rattle.box_tables.specs.Meaning.Lent.{after, before};
 ghost use Rattle.box_tables.specs.Meaning.Outcome.{outcome};

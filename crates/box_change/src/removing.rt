@@ -1,8 +1,5 @@
 // `remove`: the box leaves all its lists at once, and its slot is emptied.
-ghost use mathlib.Core.Path.{_≡_};
-ghost use mathlib.Core.List.{[], _∷_};
-ghost use Prim.Native.Nat.{_+_, _/_, _<_};
-ghost use lib.ListN.{length};
+ghost use Rattle.basics.specs.Words.{_+_, _/_, _<_, _≡_, [], _∷_, length};
 ghost use Rattle.basics.specs.Meaning.Lent.{was, is};
 ghost use Rattle.basics.specs.Meaning.Refusals.{unless, firstOf};
 ghost use Rattle.slots.specs.Meaning.Slot.{handleTest, emptiedNums, emptiedMap};

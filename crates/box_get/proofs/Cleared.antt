@@ -1,11 +1,6 @@
 -- The ends of `clear`, from what its steps give. Assumes nothing.
-use Prim.Native.Nat.{ℕ, _≤_, min}
-use mathlib.Core.Path.{_≡_, sym, ap, _∙_}
-use mathlib.Core.Bool.{Bool, true}
-use mathlib.Core.List.{List, map}
-use native.Mathlib.Omega.{arith}
+use Rattle.basics.specs.Words.{ℕ, _≤_, min, _≡_, sym, ap, _∙_, Bool, true, List, map, length, arith}
 use lib.Ieee.{Float}
-use lib.ListN.{length}
 use Rattle.storage.specs.Meaning.Keyed.{written}
 use Rattle.slot_walks.specs.Meaning.Live.{liveFrom, objAt}
 use Rattle.slot_walks.specs.Meaning.Cleared.{clearedRows, clearedMap}

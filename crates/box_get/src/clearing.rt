@@ -1,8 +1,5 @@
 // `clear`: writes box and data, ascending by slot, then empties the grid. Versions rise as with any emptying.
-ghost use mathlib.Core.Path.{_≡_};
-ghost use mathlib.Core.List.{map};
-ghost use Prim.Native.Nat.{_+_, min};
-ghost use lib.ListN.{length};
+ghost use Rattle.basics.specs.Words.{_+_, min, _≡_, map, length};
 ghost use Rattle.basics.specs.Meaning.Lent.{was, is};
 ghost use Rattle.slots.specs.Meaning.Map.{wordsFor};
 ghost use Rattle.storage.specs.Meaning.Keyed.{written};

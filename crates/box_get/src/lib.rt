@@ -1,8 +1,5 @@
 // Reading and emptying a box grid: `get`, `len`, `handles`, `clear`. Each checks the tables first.
-ghost use mathlib.Core.Path.{_≡_};
-ghost use mathlib.Core.Bool.{true};
-ghost use Prim.Native.Nat.{_≤_};
-ghost use lib.ListN.{length};
+ghost use Rattle.basics.specs.Words.{_≤_, _≡_, true, length};
 ghost use Rattle.basics.specs.Meaning.Limits.{mostBoxes};
 ghost use Rattle.basics.specs.Meaning.Lent.{was, is};
 ghost use Rattle.box_tables.specs.Meaning.Lent.{before};

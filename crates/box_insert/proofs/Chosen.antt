@@ -1,12 +1,5 @@
 -- An insert by its answer: what holds where it is 0, and its outcome either way. Assumes nothing.
-use Prim.Native.Nat.{ℕ, _+_, _<_, _≤_}
-use mathlib.Core.Path.{_≡_, refl, sym, _∙_, ap}
-use mathlib.Core.Bool.{Bool, true, false}
-use mathlib.Core.List.{List}
-use native.Mathlib.Omega.{arith}
-use lib.Dec.{leb}
-use lib.ListN.{getD}
-use borrow.Author.Tests.{ne-eqb, le-leb, lt-leb}
+use Rattle.basics.specs.Words.{ℕ, _+_, _<_, _≤_, _≡_, refl, sym, _∙_, ap, Bool, true, false, List, getD, leb, arith, ne-eqb, le-leb, lt-leb}
 use Rattle.basics.proofs.laws.Says.{says-t}
 use Rattle.basics.specs.Meaning.Refusals.{orElse}
 use Rattle.geometry.specs.Meaning.Domain.{aabbInDomain}

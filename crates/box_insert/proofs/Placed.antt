@@ -1,11 +1,6 @@
 -- What the work of an insert asks of its calls, and what they leave, put together. Assumes nothing.
-use Prim.Native.Nat.{ℕ, _+_, _≤_}
-use mathlib.Core.Path.{_≡_, sym, _∙_, ap, subst}
-use mathlib.Core.List.{List, [], _∷_}
-use native.Mathlib.Omega.{arith}
-use lib.Dec.{eqb}
+use Rattle.basics.specs.Words.{ℕ, _+_, _≤_, _≡_, sym, _∙_, ap, subst, List, [], _∷_, length, set, take, eqb, arith}
 use lib.Ieee.{Float}
-use lib.ListN.{length, set, take}
 use Rattle.geometry.specs.declared.Aabb.{Aabb}
 use Rattle.cells.specs.Inner.Numbers.{Near}
 use Rattle.cells.specs.Meaning.Range.{cellsIn}

@@ -1,9 +1,5 @@
 // `insert`: the lowest usable slot takes the box, which goes to the end of the list of every cell that it covers.
-ghost use mathlib.Core.Path.{_≡_};
-ghost use mathlib.Core.Bool.{true};
-ghost use mathlib.Core.List.{[], _∷_};
-ghost use Prim.Native.Nat.{_+_, _/_, _≤_, _<_};
-ghost use lib.ListN.{length, getD, set};
+ghost use Rattle.basics.specs.Words.{_+_, _/_, _≤_, _<_, _≡_, true, [], _∷_, length, getD, set};
 ghost use Rattle.basics.specs.Meaning.Limits.{mostBoxes};
 ghost use Rattle.basics.specs.Meaning.Lent.{was, is};
 ghost use Rattle.basics.specs.Meaning.Refusals.{orElse};

@@ -1,8 +1,5 @@
 // Collecting the slots that the entries of a range name, each once.
-ghost use mathlib.Core.Path.{_≡_};
-ghost use mathlib.Core.List.{map};
-ghost use Prim.Native.Nat.{_≤_};
-ghost use lib.ListN.{length, take};
+ghost use Rattle.basics.specs.Words.{_≤_, _≡_, map, length, take};
 ghost use Rattle.basics.specs.Meaning.Limits.{mostBoxes};
 ghost use Rattle.basics.specs.Meaning.Lent.{was, is};
 ghost use Rattle.storage.specs.Inner.Keyed.{Sorted};

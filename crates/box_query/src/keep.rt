@@ -1,7 +1,5 @@
 // Keeping the boxes that a query box intersects.
-ghost use mathlib.Core.Path.{_≡_};
-ghost use Prim.Native.Nat.{_≤_};
-ghost use lib.ListN.{length, take};
+ghost use Rattle.basics.specs.Words.{_≤_, _≡_, length, take};
 ghost use Rattle.basics.specs.Meaning.Limits.{mostBoxes};
 ghost use Rattle.basics.specs.Meaning.Lent.{was, is};
 ghost use Rattle.box_query.specs.Inner.Put.{Found, intersecting};

@@ -1,7 +1,5 @@
 // The queries of a box grid: `query_broad` and `query`. Each checks the tables first.
-ghost use mathlib.Core.Path.{_≡_};
-ghost use Prim.Native.Nat.{min};
-ghost use lib.ListN.{length};
+ghost use Rattle.basics.specs.Words.{min, _≡_, length};
 ghost use Rattle.basics.specs.Meaning.Limits.{mostBoxes};
 ghost use Rattle.basics.specs.Meaning.Lent.{was, is};
 ghost use Rattle.box_tables.specs.Meaning.Lent.{before};

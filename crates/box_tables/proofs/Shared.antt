@@ -1,13 +1,7 @@
 -- What the proofs of box_tables share. Assumes nothing.
-use Prim.Native.Nat.{ℕ, _+_, _/_, _<_}
-use mathlib.Core.Path.{_≡_, sym, ap, _∙_, subst}
-use mathlib.Core.Bool.{Bool, true, false}
-use mathlib.Core.List.{List, [], _∷_}
-use native.Mathlib.Omega.{arith}
-use lib.Dec.{T}
+use Rattle.basics.specs.Words.{ℕ, _+_, _/_, _<_, _≡_, sym, ap, _∙_, subst, Bool, true, false, List, [], _∷_, replicate, set, length-set, length-replicate}
+use Rattle.basics.specs.Words.{getD-replicate, getD-set-same, getD-set-other, T, arith}
 use lib.Ieee.{Float}
-use lib.ListN.{replicate, set, length-set, length-replicate, getD-replicate}
-use lib.Seq.{getD-set-same, getD-set-other}
 use borrow.Author.Count.{below-none, below-more}
 use Rattle.basics.specs.Meaning.Says.{Says}
 use Rattle.basics.proofs.laws.Says.{says-same}

@@ -1,8 +1,5 @@
 // Whether a corner stands in a cell that is guessed, which takes no division.
-ghost use mathlib.Core.Path.{_≡_};
-ghost use mathlib.Core.Bool.{true};
-ghost use lib.Dec.{T};
-ghost use lib.IntN.{pos};
+ghost use Rattle.basics.specs.Words.{_≡_, true, T, pos};
 ghost use Rattle.geometry.specs.Meaning.Domain.{inDomain, aabbInDomain};
 ghost use Rattle.cells.specs.Meaning.Size.{SizeInDomain};
 ghost use Rattle.cells.specs.Meaning.CellRule.{cellOf};

@@ -1,5 +1,5 @@
 // The tables of a box grid, and the check that they hold one.
-ghost use mathlib.Core.Path.{_≡_};
+ghost use Rattle.basics.specs.Words.{_≡_};
 ghost use Rattle.box_tables.specs.Meaning.Lent.{before};
 ghost use Rattle.box_tables.specs.Meaning.Decide.{holds};
 

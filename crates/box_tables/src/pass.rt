@@ -1,7 +1,5 @@
 // The pass over the entries: each is the next on the way of its item, and all ways are gone to their end.
-ghost use mathlib.Core.Path.{_≡_};
-ghost use mathlib.Core.List.{List};
-ghost use Prim.Native.Nat.{ℕ, _+_, _<_};
+ghost use Rattle.basics.specs.Words.{ℕ, _+_, _<_, _≡_, List};
 ghost use Rattle.basics.specs.Meaning.Lent.{was, is};
 ghost use Rattle.basics.specs.Meaning.Says.{Says};
 ghost use Rattle.box_tables.specs.Inner.Way.{behind};

@@ -1,7 +1,5 @@
 // The ways of all slots, in four arrays by items.
-ghost use mathlib.Core.Path.{_≡_};
-ghost use mathlib.Core.Bool.{true};
-ghost use lib.ListN.{length};
+ghost use Rattle.basics.specs.Words.{_≡_, true, length};
 ghost use Rattle.basics.specs.Meaning.Lent.{was, is};
 ghost use Rattle.basics.specs.Meaning.Says.{Says};
 ghost use Rattle.cells.specs.Inner.Key.{columnOf};

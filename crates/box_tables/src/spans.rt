@@ -1,8 +1,5 @@
 // The box of a slot, the range of cells that it covers, and its item.
-ghost use mathlib.Core.Path.{_≡_};
-ghost use Prim.Native.Nat.{_<_};
-ghost use lib.Dec.{T};
-ghost use lib.ListN.{length};
+ghost use Rattle.basics.specs.Words.{_<_, _≡_, length, T};
 ghost use Rattle.basics.specs.Meaning.Limits.{mostBoxes};
 ghost use Rattle.basics.specs.Meaning.Lent.{was};
 ghost use Rattle.geometry.specs.Meaning.Domain.{aabbInDomain};

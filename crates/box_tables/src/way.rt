@@ -1,7 +1,5 @@
 // The way of a slot: the keys of the cells that its box covers, one after the other.
-ghost use Prim.Native.Nat.{_≤_, _<_};
-ghost use lib.Dec.{T};
-ghost use lib.ListN.{length};
+ghost use Rattle.basics.specs.Words.{_≤_, _<_, length, T};
 ghost use Rattle.basics.specs.Meaning.Limits.{mostBoxes, mostCells};
 ghost use Rattle.basics.specs.Meaning.Lent.{was};
 ghost use Rattle.geometry.specs.Meaning.Domain.{inDomain, aabbInDomain};

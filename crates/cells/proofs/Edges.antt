@@ -1,11 +1,6 @@
 -- Comparisons with the edges of a cell, as code makes them. Assumes nothing.
-use mathlib.Core.Path.{_≡_, refl, sym, ap, _∙_, subst}
-use mathlib.Core.Bool.{Bool, true, false, _&&_}
-use Prim.Native.Nat.{ℕ, suc, _+_, _*_, _≤_, _<_, _^_}
-use native.Mathlib.Nat.{le-of-lt, lt-of-le-of-lt, mul-le-mul, suc-mul}
-use native.Mathlib.Omega.{arith}
-use lib.Dec.{T, lit<}
-use lib.IntN.{ℤ, pos, negsuc}
+use Rattle.basics.specs.Words.{ℕ, suc, _+_, _*_, _≤_, _<_, _^_, _≡_, sym, ap, _∙_, subst, Bool, true, false, _&&_, T, lit<, ℤ, pos, le-of-lt, lt-of-le-of-lt}
+use Rattle.basics.specs.Words.{mul-le-mul, suc-mul, arith}
 use lib.Signed.{mag, ltZ}
 use lib.Ieee.{Float, fin, binary32, ofInt, ofBits, neg, lt, le}
 use mir.Syntax.{w32, w64}

@@ -1,11 +1,8 @@
 -- The whole part of a binary32, by the fields of its bit pattern. Assumes nothing.
-use mathlib.Core.Path.{_≡_, refl, sym, ap, _∙_, subst}
-use mathlib.Core.Bool.{Bool, true, false, not, cond}
-use Prim.Native.Nat.{ℕ, zero, suc, _+_, _-_, _*_, _/_, _%_, _^_, _≤_, _<_, min}
-use native.Mathlib.Nat.{min-eq-left, min-eq-right, min-le-right, le-of-lt, le-trans, le-of-eq, lt-of-lt-of-le, mul-assoc, mul-comm, mul-left-comm, mul-le-mul-right, mod-lt, div-eq-of-lt, div-lt-iff-lt-mul, le-div-iff-mul-le, add-comm, pow-suc}
-use native.Mathlib.Omega.{arith}
-use lib.IntN.{ℤ, pos, negℤ}
-use lib.Dec.{T, leb, ltb, eqb, eqb→eq, lit≤, lit<}
+use Rattle.basics.specs.Words.{ℕ, zero, suc, _+_, _-_, _*_, _/_, _%_, _^_, _≤_, _<_, min, _≡_, refl, sym, ap, _∙_, subst, Bool, true, false, not, cond, T, leb}
+use Rattle.basics.specs.Words.{ltb, eqb, eqb→eq, lit≤, lit<, ℤ, pos, negℤ, min-eq-left, min-eq-right, min-le-right, le-of-lt, le-trans, le-of-eq}
+use Rattle.basics.specs.Words.{lt-of-lt-of-le, mul-assoc, mul-comm, mul-left-comm, mul-le-mul-right, mod-lt, div-eq-of-lt, div-lt-iff-lt-mul, le-div-iff-mul-le}
+use Rattle.basics.specs.Words.{add-comm, pow-suc, arith, lt-ltb, le-ltb, ltb-true, ltb-false, lt-leb, le-leb}
 use lib.Pow.{pow-add, pow-pos, pow-mono, shl-lt, shl-shr, shr-shr, field}
 use lib.Ieee.{Float, nan, inf, fin, binary32, up, down, odd, fits, isNan, ofFields, ofBits, toBits, toSigned, ne}
 use lib.Ieee.Fits.{down-pos}
@@ -13,7 +10,6 @@ use lib.Ieee.Bits.{ofBits-toBits}
 use lib.Ieee.Exact.{HasValue, odd-sign}
 use lib.Ieee.Nearest.{div-same}
 use lib.Ieee.Compare.{differs-from-itself}
-use borrow.Author.Tests.{lt-ltb, le-ltb, ltb-true, ltb-false, lt-leb, le-leb}
 use Rattle.cells.specs.Inner.Cut.{cutFields, cutBits}
 
 -- ---- shifts

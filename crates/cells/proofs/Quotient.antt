@@ -1,11 +1,6 @@
 -- The machine's signed division by a cell size, and the subtraction of one. Assumes nothing.
-use mathlib.Core.Path.{_≡_, sym, ap, _∙_, subst}
-use mathlib.Core.Bool.{Bool, true, false, cond}
-use Prim.Native.Nat.{ℕ, zero, suc, _/_, _≤_, _<_}
-use native.Mathlib.Nat.{lt-of-le-of-lt, div-le-self}
-use native.Mathlib.Omega.{arith}
-use lib.IntN.{ℤ, pos, negsuc, negℤ, _-ℤ_}
-use lib.Dec.{T, ltb→lt, lit<}
+use Rattle.basics.specs.Words.{ℕ, zero, suc, _/_, _≤_, _<_, _≡_, sym, ap, _∙_, subst, Bool, true, false, cond, T, ltb→lt, lit<, ℤ, pos, negsuc, negℤ, _-ℤ_}
+use Rattle.basics.specs.Words.{lt-of-le-of-lt, div-le-self, arith}
 use lib.Signed.{mag, quotZ, _<ℤ_}
 use lib.Ieee.{Float, binary32, ofBits, lt}
 use mir.Syntax.{w32}

@@ -1,16 +1,10 @@
 -- Signed numbers as the machine works them out: -1 - (u - 1), a number counted from the least, a cell size. Assumes nothing.
-use Prim.Native.Nat.{ℕ, zero, suc, _-_, _≤_, _<_, _^_}
-use mathlib.Core.Path.{_≡_, refl, sym, ap, _∙_, subst}
-use mathlib.Core.Bool.{Bool, true, false, cond}
-use native.Mathlib.Omega.{arith}
-use lib.Dec.{T, lt→ltb}
-use lib.IntN.{ℤ, pos, negsuc, negℤ, _+ℤ_, _-ℤ_, natAbs, +ℤ-comm, -ℤ-one}
+use Rattle.basics.specs.Words.{ℕ, zero, suc, _-_, _≤_, _<_, _^_, _≡_, refl, sym, ap, _∙_, subst, Bool, true, false, cond, T, lt→ltb, ℤ, pos, negsuc, negℤ, _+ℤ_}
+use Rattle.basics.specs.Words.{_-ℤ_, natAbs, +ℤ-comm, -ℤ-one, arith, le-ltb, ltb-true, sfits-of}
 use lib.Signed.{mag, nonNeg, ltZ, _<ℤ_, ltZ-yes}
 use mir.Syntax.{w32, w64}
 use mir.Val.{Fits, SFits, toZ, ofZ, hbits}
 use mir.ValLaws.{toZ-pos, toZ-ofZ}
-use borrow.Author.Tests.{le-ltb, ltb-true}
-use borrow.Author.Needs.{sfits-of}
 use Rattle.cells.specs.Meaning.Key.{upward}
 use Rattle.cells.specs.Inner.Key.{downward}
 use Rattle.cells.proofs.laws.KeyLaws.{upward-lt, downward-small}

@@ -1,8 +1,5 @@
 // The cell of a coordinate and of a position, ranges of cells and the keys of cells: the arithmetic of src/storage.rs.
-ghost use mathlib.Core.Path.{_≡_};
-ghost use Prim.Native.Nat.{_<_, _≤_, _^_};
-ghost use lib.Dec.{T};
-ghost use lib.IntN.{pos};
+ghost use Rattle.basics.specs.Words.{_<_, _≤_, _^_, _≡_, T, pos};
 ghost use lib.Signed.{mag, _<ℤ_};
 ghost use lib.Ieee.{binary32, ofInt};
 ghost use Rattle.basics.specs.Meaning.Says.{Says};

@@ -1,5 +1,5 @@
 // The calls of the box grid for C and Rust: each is the call of `boxes` with its numbers taken apart, and has its promise.
-ghost use mathlib.Core.Path.{_≡_};
+ghost use Rattle.basics.specs.Words.{_≡_};
 ghost use Rattle.basics.specs.Meaning.Lent.{was, is};
 ghost use Rattle.box_tables.specs.Meaning.Lent.{after, before};
 ghost use Rattle.box_tables.specs.Meaning.Outcome.{outcome};

@@ -1,5 +1,5 @@
 // The calls of the point grid for C and Rust: each is the call of `points` with its numbers taken apart, and has its promise.
-ghost use mathlib.Core.Path.{_≡_};
+ghost use Rattle.basics.specs.Words.{_≡_};
 ghost use Rattle.basics.specs.Meaning.Lent.{was, is};
 ghost use Rattle.point_tables.specs.Meaning.Lent.{before, Gives};
 ghost use Rattle.point_insert.specs.Meaning.New.{newOf};

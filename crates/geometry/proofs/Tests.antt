@@ -1,7 +1,5 @@
 -- Tests that code joins, and numbers as code writes them. Assumes nothing.
-use mathlib.Core.Path.{_≡_, refl}
-use mathlib.Core.Bool.{Bool, true, false, _&&_}
-use lib.IntN.{pos}
+use Rattle.basics.specs.Words.{_≡_, refl, Bool, true, false, _&&_, pos}
 use lib.Ieee.{fin, binary32, ofBits, neg}
 use Rattle.geometry.specs.Meaning.Domain.{reach}
 

@@ -1,15 +1,9 @@
 -- The three ways out of `absolute`, each of which is the number without its sign. Assumes nothing.
-use mathlib.Core.Path.{_≡_, refl, sym, ap, _∙_}
-use mathlib.Core.Bool.{Bool, true, false, _&&_, _||_}
-use Prim.Native.Nat.{ℕ, zero, suc, _+_, _*_, _^_, _<_}
-use native.Mathlib.Nat.{mul-one, one-mul, zero-mul, mul-pos}
-use native.Mathlib.Omega.{arith}
-use lib.IntN.{ℤ, pos, negsuc}
-use lib.Dec.{T, eqb, eqb→eq, ltb, lit<}
+use Rattle.basics.specs.Words.{ℕ, zero, suc, _+_, _*_, _^_, _<_, _≡_, refl, sym, ap, _∙_, Bool, true, false, _&&_, _||_, T, eqb, eqb→eq, ltb, lit<, ℤ, pos}
+use Rattle.basics.specs.Words.{negsuc, mul-one, one-mul, zero-mul, mul-pos, arith, eq-eqb, eqb-true, ltb-true, ltb-false}
 use lib.Pow.{pow-lt}
 use lib.Ieee.{Float, nan, inf, fin, binary32, up, down, eq, lt, neg, fits}
 use lib.Ieee.Fits.{up-pos}
-use borrow.Author.Tests.{eq-eqb, eqb-true, ltb-true, ltb-false}
 use Rattle.basics.proofs.laws.Says.{apart, both-true}
 use Rattle.geometry.specs.Meaning.Intersects.{absolute}
 

@@ -1,6 +1,5 @@
 // Positions and boxes, which of them are in the domain, and the tests of circle, rectangle and box: src/lib.rs of the Rust.
-ghost use mathlib.Core.Path.{_≡_};
-ghost use mathlib.Core.Bool.{false};
+ghost use Rattle.basics.specs.Words.{_≡_, false};
 ghost use lib.Ieee.{isNan};
 ghost use Rattle.basics.specs.Meaning.Says.{Says};
 ghost use Rattle.geometry.specs.Meaning.Domain.{inDomain, positionInDomain, radiusInDomain, aabbInDomain};

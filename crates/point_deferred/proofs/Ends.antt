@@ -1,11 +1,6 @@
 -- The ends of a batch, from what its steps give. Assumes nothing.
-use Prim.Native.Nat.{ℕ, _≤_}
-use mathlib.Core.Path.{_≡_, ap, sym, _∙_}
-use mathlib.Core.Bool.{Bool, _&&_}
-use mathlib.Core.List.{List, [], _∷_}
-use lib.Dec.{eqb, leb}
+use Rattle.basics.specs.Words.{ℕ, _≤_, _≡_, ap, sym, _∙_, Bool, _&&_, List, [], _∷_, length, eqb, leb}
 use lib.Ieee.{Float}
-use lib.ListN.{length}
 use Rattle.basics.specs.Meaning.Refusals.{unless, firstOf}
 use Rattle.storage.specs.Meaning.Keyed.{written}
 use Rattle.point_tables.specs.Meaning.Tables.{Tables}

@@ -1,18 +1,11 @@
 -- What the code of a deferred call makes, from what each of its steps gives. Assumes nothing.
-use Prim.Native.Nat.{ℕ, zero, suc, _^_, _<_, _≤_}
-use mathlib.Core.Path.{_≡_, refl, ap, sym, _∙_, subst}
-use mathlib.Core.Bool.{Bool, true, false}
-use mathlib.Core.List.{List, [], _∷_}
-use native.Mathlib.Omega.{arith}
-use borrow.Author.Tests.{eq-eqb, ne-eqb}
-use lib.IntN.{ℤ, pos}
+use Rattle.basics.specs.Words.{ℕ, zero, suc, _^_, _<_, _≤_, _≡_, refl, ap, sym, _∙_, subst, Bool, true, false, List, [], _∷_, ⊎-elim, length, getD, set, take}
+use Rattle.basics.specs.Words.{ℤ, pos, arith, eq-eqb, ne-eqb, sfits-of}
 use lib.Ieee.{Float, nan}
 use lib.Signed.{mag}
 use mir.Syntax.{w32}
 use mir.Val.{toZ, ofZ, hbits}
 use mir.Facts.{toZ-ofZ}
-use borrow.Author.Needs.{sfits-of}
-use lib.ListN.{length, getD, set, take}
 use Rattle.geometry.specs.declared.Position.{Position}
 use Rattle.cells.specs.Meaning.Key.{keyOf}
 use Rattle.storage.specs.Meaning.Keyed.{written}
@@ -34,7 +27,6 @@ use Rattle.cells.specs.declared.Cell.{Cell}
 use Rattle.cells.specs.Meaning.CellRule.{cellAt}
 use Rattle.storage.proofs.laws.FilterLaws.{by-test}
 use Rattle.point_records.specs.Inner.Decide.{d-cell}
-use mathlib.Core.Logic.{⊎-elim}
 use Rattle.replies.specs.declared.Reply.{Reply}
 use Rattle.point_deferred.specs.Meaning.Moves.{pended, setPositionAnswer, setPositionOf, removeAnswer, removeOf}
 use Rattle.point_deferred.specs.Meaning.Batch.{Call, callOf}

@@ -1,10 +1,5 @@
 // A batch of deferred calls: one check of the tables for all of them, and each call's answer and data in its place of the output.
-ghost use mathlib.Core.Path.{_≡_};
-ghost use mathlib.Core.List.{[], _∷_};
-ghost use mathlib.Core.Bool.{_&&_};
-ghost use Prim.Native.Nat.{_≤_};
-ghost use lib.Dec.{eqb, leb};
-ghost use lib.ListN.{length};
+ghost use Rattle.basics.specs.Words.{_≤_, _≡_, _&&_, [], _∷_, length, eqb, leb};
 ghost use Rattle.basics.specs.Meaning.Lent.{was, is};
 ghost use Rattle.basics.specs.Meaning.Refusals.{unless, firstOf};
 ghost use Rattle.storage.specs.Meaning.Keyed.{written};

@@ -1,7 +1,5 @@
 // One deferred call on tables that hold a grid: kind 0 is `set_position`, any other `remove`. The pool is neither read nor written.
-ghost use mathlib.Core.Path.{_≡_};
-ghost use Prim.Native.Nat.{_<_};
-ghost use lib.ListN.{length};
+ghost use Rattle.basics.specs.Words.{_<_, _≡_, length};
 ghost use Rattle.basics.specs.Meaning.Lent.{was, is};
 ghost use Rattle.cells.specs.Meaning.Size.{SizeInDomain};
 ghost use Rattle.point_records.specs.Meaning.Columns.{recordAt};

@@ -1,6 +1,6 @@
 // The deferred calls of trackers: `set_position`, `remove`, and a batch of them. Nothing moves before maintain.
 // Each public call checks the tables first.
-ghost use mathlib.Core.Path.{_≡_};
+ghost use Rattle.basics.specs.Words.{_≡_};
 ghost use Rattle.point_tables.specs.Meaning.Lent.{after, before};
 ghost use Rattle.point_tables.specs.Meaning.Outcome.{outcome};
 ghost use Rattle.point_deferred.specs.Meaning.Moves.{setPositionOf, removeOf};

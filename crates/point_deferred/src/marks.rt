@@ -1,7 +1,5 @@
 // The marks of many deferred calls: one walk over the pool, beside the cell table.
-ghost use mathlib.Core.Path.{_≡_};
-ghost use mathlib.Core.List.{[], _∷_};
-ghost use lib.ListN.{length, getD};
+ghost use Rattle.basics.specs.Words.{_≡_, [], _∷_, length, getD};
 ghost use Rattle.basics.specs.Meaning.Lent.{was, is};
 ghost use Rattle.point_deferred.specs.Inner.Marks.{Walkable, MarkedTo};
 use slots::Row;

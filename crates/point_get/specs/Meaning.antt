@@ -1,8 +1,5 @@
 -- `get`, `len` and `handles`: recorded position and data; removed objects count until maintain. Assumes nothing.
-use Prim.Native.Nat.{ℕ}
-use mathlib.Core.List.{List, [], _∷_}
-use lib.Dec.{eqb, leb}
-use lib.ListN.{length}
+use Rattle.basics.specs.Words.{ℕ, List, [], _∷_, length, eqb, leb}
 use Rattle.basics.specs.Meaning.Refusals.{Refusal, unless, pick, byTests}
 use Rattle.geometry.specs.declared.Position.{Position}
 use Rattle.geometry.specs.Meaning.Zero.{zero-position}

@@ -1,5 +1,5 @@
 // Reading a point grid: `get`, `len`, `handles`. Each checks the tables first.
-ghost use mathlib.Core.Path.{_≡_};
+ghost use Rattle.basics.specs.Words.{_≡_};
 ghost use Rattle.basics.specs.Meaning.Lent.{was, is};
 ghost use Rattle.point_tables.specs.Meaning.Lent.{before};
 ghost use Rattle.point_get.specs.Meaning.{getOf, lenOf, handlesOf, listing};

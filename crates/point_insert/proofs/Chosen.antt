@@ -1,11 +1,5 @@
 -- An insert by its answer: what holds where it is 0, and its outcome either way. Assumes nothing.
-use Prim.Native.Nat.{ℕ, _+_, _≤_}
-use mathlib.Core.Path.{_≡_, refl, sym, _∙_}
-use mathlib.Core.Bool.{Bool, true, false}
-use mathlib.Core.List.{List}
-use native.Mathlib.Omega.{arith}
-use lib.ListN.{length}
-use borrow.Author.Tests.{ne-eqb}
+use Rattle.basics.specs.Words.{ℕ, _+_, _≤_, _≡_, refl, sym, _∙_, Bool, true, false, List, length, arith, ne-eqb}
 use Rattle.basics.proofs.laws.Says.{says-t}
 use Rattle.geometry.specs.Meaning.Domain.{positionInDomain}
 use Rattle.geometry.specs.declared.Position.{Position}

@@ -1,11 +1,6 @@
 -- What the work of an insert asks of its calls, and what they leave, put together. Assumes nothing.
-use Prim.Native.Nat.{ℕ, _+_, _/_, _<_}
-use mathlib.Core.Path.{_≡_, sym, _∙_, ap, subst}
-use mathlib.Core.List.{List, map}
-use native.Mathlib.Omega.{arith}
+use Rattle.basics.specs.Words.{ℕ, _+_, _/_, _<_, _≡_, sym, _∙_, ap, subst, List, map, length, set, take, ℤ, arith}
 use lib.Ieee.{Float}
-use lib.IntN.{ℤ}
-use lib.ListN.{length, set, take}
 use Rattle.geometry.specs.declared.Position.{Position}
 use Rattle.cells.specs.declared.Cell.{Cell}
 use Rattle.cells.specs.Meaning.CellRule.{cellAt}

@@ -1,5 +1,5 @@
 // Building: every slot is free at version 1, and no list has an entry.
-ghost use mathlib.Core.Path.{_≡_};
+ghost use Rattle.basics.specs.Words.{_≡_};
 ghost use Rattle.point_tables.specs.Meaning.Lent.{after, before};
 ghost use Rattle.point_tables.specs.Meaning.Outcome.{outcome};
 ghost use Rattle.point_insert.specs.Meaning.New.{newOf};

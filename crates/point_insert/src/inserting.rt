@@ -1,8 +1,5 @@
 // `insert`: the lowest usable slot takes the object, and (handle, position) goes to the end of its cell's list.
-ghost use mathlib.Core.Path.{_≡_};
-ghost use mathlib.Core.Bool.{true};
-ghost use Prim.Native.Nat.{_+_, _/_, _≤_, _<_};
-ghost use lib.ListN.{length};
+ghost use Rattle.basics.specs.Words.{_+_, _/_, _≤_, _<_, _≡_, true, length};
 ghost use Rattle.basics.specs.Meaning.Limits.{mostSlots};
 ghost use Rattle.basics.specs.Meaning.Lent.{was, is};
 ghost use Rattle.slots.specs.Meaning.Map.{wordsFor, taken};

@@ -1,10 +1,6 @@
 -- The turns of the loops that go over one list, in the terms of the code. Assumes nothing.
-use Prim.Native.Nat.{ℕ, _+_, _-_, _<_, _≤_}
-use mathlib.Core.Path.{_≡_, refl, sym, ap, _∙_}
-use mathlib.Core.List.{List, []}
-use native.Mathlib.Omega.{arith}
+use Rattle.basics.specs.Words.{ℕ, _+_, _-_, _<_, _≤_, _≡_, refl, sym, ap, _∙_, List, [], length, getD, set, arith}
 use lib.Ieee.{Float}
-use lib.ListN.{length, getD, set}
 use Rattle.storage.specs.Meaning.Entries.{Entry}
 use Rattle.storage.specs.Meaning.Packed.{second}
 use Rattle.storage.proofs.laws.FilterLaws.{all-any}
@@ -17,7 +13,8 @@ use Rattle.point_maintain_lists.proofs.laws.TagLaws.{tag-stays, tag-lea
 use Rattle.point_maintain_lists.proofs.laws.RunLaws.{run-length, entries-more}
 use Rattle.point_maintain_lists.proofs.laws.LaidLaws.{laid-start}
 use Rattle.point_maintain_lists.specs.Inner.Laid.{Room, Slotted, Laid, listAt}
-use Rattle.point_maintain_lists.proofs.laws.WalkingLaws.{Walking, walking-rows, walking-spots, walking-entry, walking-stays, walking-leaves, walking-done}
+use Rattle.point_maintain_lists.proofs.laws.WalkingLaws.{Walking, walking-rows, walking-spots, walking-entry, walking-stays, walking-leaves}
+use Rattle.point_maintain_lists.proofs.laws.WalkingLaws.{walking-done}
 
 -- the places that are read and written are in the columns
 pub record Within (P : List (List ℕ)) (S : List (List Float)) (p w : ℕ) (pool : List (List ℕ)) (spots : List (List Float)) : Type 0 where

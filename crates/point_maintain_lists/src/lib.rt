@@ -1,9 +1,6 @@
 // The pass of `maintain` over the lists: each dirty cell's list is walked, and what a list keeps is laid behind what was kept before.
 // What is laid never comes past the entry that is looked at, so the places behind it stay as they were and no copy is made.
-ghost use mathlib.Core.Path.{_≡_};
-ghost use Prim.Native.Nat.{_+_, _-_, _≤_, _<_};
-ghost use mathlib.Core.List.{[]};
-ghost use lib.ListN.{length, getD, set};
+ghost use Rattle.basics.specs.Words.{_<_, _≡_, [], length, getD, set};
 ghost use Rattle.basics.specs.Meaning.Lent.{was, is};
 ghost use Rattle.point_tables.specs.Meaning.Lent.{before, lent};
 ghost use Rattle.point_tables.specs.Meaning.Holds.{Holds};

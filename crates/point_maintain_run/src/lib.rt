@@ -1,14 +1,12 @@
 // `maintain` of a point grid: one sweep over the lists, one pass over the slots, one merge, and the cell table anew.
 // It checks the tables first.
-ghost use mathlib.Core.Path.{_≡_};
+ghost use Rattle.basics.specs.Words.{_<_, _≡_, length, set};
 ghost use Rattle.basics.specs.Meaning.Lent.{was, is};
 ghost use Rattle.point_tables.specs.Meaning.Lent.{after, before, lent};
 ghost use Rattle.point_tables.specs.Meaning.Holds.{Holds};
 ghost use Rattle.point_tables.specs.Meaning.Outcome.{outcome};
 ghost use Rattle.point_maintain.specs.Inner.Closed.{settledTables};
 ghost use Rattle.point_maintain.specs.Meaning.Maintain.{maintainOf};
-ghost use Prim.Native.Nat.{_<_};
-ghost use lib.ListN.{length, set};
 use point_maintain::Maintained;
 use slots::Row;
 

@@ -1,13 +1,5 @@
 -- What a slot adds to the counts, by its phase and its tag. Assumes nothing.
-use Prim.Native.Nat.{ℕ, _+_, _≤_, _<_}
-use mathlib.Core.Path.{_≡_, refl, _∙_, ap, ap₂}
-use mathlib.Core.Bool.{Bool, true, false}
-use mathlib.Core.List.{List, []}
-use native.Mathlib.Omega.{arith}
-use native.Mathlib.Numerals.{add-one}
-use lib.Dec.{eqb}
-use lib.ListN.{getD}
-use borrow.Author.Tests.{eqb-false, eq-eqb, ne-eqb}
+use Rattle.basics.specs.Words.{ℕ, _+_, _≤_, _<_, _≡_, refl, _∙_, ap, ap₂, Bool, true, false, List, [], getD, eqb, add-one, arith, eqb-false, eq-eqb, ne-eqb}
 use Rattle.slots.specs.Meaning.Slot.{live, phaseAt}
 use Rattle.point_records.specs.Meaning.Columns.{tagIn, pickState}
 use Rattle.point_records.specs.declared.State.the-variants.{Unchanged, Removed}

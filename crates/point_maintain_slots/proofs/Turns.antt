@@ -1,13 +1,7 @@
 -- One slot of the pass, by its state; and the pass up to a slot, with one slot more. Assumes nothing.
-use Prim.Native.Nat.{ℕ, suc, _+_, _≤_, _<_}
-use mathlib.Core.Path.{_≡_, refl, sym, _∙_, ap, ap₂}
-use mathlib.Core.List.{List, [], _∷_, map}
-use native.Mathlib.Omega.{arith}
-use native.Mathlib.Numerals.{add-one}
-use lib.IntN.{ℤ, pos}
+use Rattle.basics.specs.Words.{ℕ, suc, _+_, _≤_, _<_, _≡_, refl, sym, _∙_, ap, ap₂, List, [], _∷_, map, length, getD, set, length-map, ℤ, pos, add-one, arith}
+use Rattle.basics.specs.Words.{eq-eqb, ne-eqb}
 use lib.Ieee.{Float, nan}
-use lib.ListN.{length, getD, set, length-map}
-use borrow.Author.Tests.{eq-eqb, ne-eqb}
 use Rattle.cells.specs.declared.Cell.{Cell}
 use Rattle.cells.specs.Meaning.Key.{keyOf}
 use Rattle.slots.specs.Meaning.Map.{head, wordsFor}

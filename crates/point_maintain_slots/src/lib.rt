@@ -1,8 +1,5 @@
 // The pass of `maintain` over the slots: what is pending for each object is done to its record, and the rows of relocated objects are listed.
-ghost use mathlib.Core.Path.{_≡_};
-ghost use mathlib.Core.List.{[], _∷_};
-ghost use Prim.Native.Nat.{_+_, _≤_, _<_};
-ghost use lib.ListN.{length, set};
+ghost use Rattle.basics.specs.Words.{_+_, _≤_, _<_, _≡_, [], _∷_, length, set};
 ghost use Rattle.basics.specs.Meaning.Limits.{mostSlots};
 ghost use Rattle.basics.specs.Meaning.Lent.{was, is};
 ghost use Rattle.cells.specs.Meaning.Key.{keyOf};

@@ -1,9 +1,6 @@
 // The pass over the pool and the cell table, list by list: each entry is that of an object of the list's cell, whose record holds, no object stands
 // twice, and each list has its row.
-ghost use mathlib.Core.Path.{_≡_};
-ghost use mathlib.Core.Bool.{true, false};
-ghost use Prim.Native.Nat.{ℕ, _≤_, _<_};
-ghost use lib.ListN.{length, getD, replicate};
+ghost use Rattle.basics.specs.Words.{_≤_, _<_, _≡_, true, false, length, getD, replicate};
 ghost use Rattle.basics.specs.Meaning.Limits.{mostSlots};
 ghost use Rattle.basics.specs.Meaning.Lent.{was, is};
 ghost use Rattle.basics.specs.Meaning.Says.{Says};

@@ -1,13 +1,12 @@
 // Writing what a search found into the outputs.
-ghost use mathlib.Core.Path.{_≡_};
-ghost use Prim.Native.Nat.{_≤_, _<_};
-ghost use lib.ListN.{length, set, take};
+ghost use Rattle.basics.specs.Words.{_≤_, _<_, _≡_, length, set, take};
 ghost use Rattle.basics.specs.Meaning.Limits.{mostSlots};
 ghost use Rattle.basics.specs.Meaning.Lent.{was, is};
 ghost use Rattle.storage.specs.Meaning.Keyed.{written};
 ghost use Rattle.point_query.specs.Meaning.Queries.{handleRow, placeRow, findings};
 ghost use Rattle.point_query.specs.Inner.Fill.{findingOf, filled};
-ghost use Rattle.point_query.specs.Inner.Asked.{Searchable, searchFills, BegunBy, Reportable, Reported, SearchReported, StretchReportable, StretchReported};
+ghost use Rattle.point_query.specs.Inner.Asked.{Searchable, searchFills, BegunBy, Reportable, Reported, SearchReported, StretchReportable};
+ghost use Rattle.point_query.specs.Inner.Asked.{StretchReported};
 use crate::Finding;
 use crate::Part;
 use crate::Test;

@@ -1,7 +1,5 @@
 // Collecting the places of the entries that a search is for.
-ghost use mathlib.Core.Path.{_≡_};
-ghost use Prim.Native.Nat.{_+_, _-_, _≤_, min};
-ghost use lib.ListN.{length};
+ghost use Rattle.basics.specs.Words.{_+_, _-_, _≤_, min, _≡_, length};
 ghost use Rattle.basics.specs.Meaning.Limits.{mostSlots};
 ghost use Rattle.basics.specs.Meaning.Lent.{was, is};
 ghost use Rattle.point_query.specs.Meaning.Queries;

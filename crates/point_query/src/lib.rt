@@ -1,6 +1,5 @@
 // The queries of a point grid: `query`, `query_around`, `query_aabb`. Each checks the tables first, in `search`.
-ghost use mathlib.Core.Path.{_≡_};
-ghost use mathlib.Core.Bool.{true};
+ghost use Rattle.basics.specs.Words.{_≡_, true};
 ghost use Rattle.basics.specs.Meaning.Lent.{was, is};
 ghost use Rattle.cells.specs.Inner.CellRule.{Reached};
 ghost use Rattle.point_tables.specs.Meaning.Lent.{before};

@@ -1,18 +1,13 @@
 -- What the proofs of objects share. Assumes nothing.
-use Prim.Native.Nat.{ℕ, _<_, _^_}
-use mathlib.Core.Path.{_≡_, refl, ap}
-use lib.Dec.{T}
+use Rattle.basics.specs.Words.{ℕ, _<_, _^_, _≡_, ap, Bool, _&&_, T, ℤ, pos, sfits-of}
 use lib.Ieee.{Float}
 use lib.Ieee.Fits.{and-i}
-use mathlib.Core.Bool.{Bool, _&&_}
-use lib.IntN.{ℤ, pos}
 use lib.Signed.{mag}
 use mir.Syntax.{w32}
 use mir.Val.{toZ, ofZ, hbits}
 use mir.Facts.{toZ-ofZ}
-use borrow.Author.Needs.{sfits-of}
 use Rattle.basics.specs.Meaning.Says.{Says}
-use Rattle.basics.proofs.laws.Says.{said-says, says-via, not-said, says-and}
+use Rattle.basics.proofs.laws.Says.{says-via, says-and}
 use Rattle.geometry.specs.declared.Position.{Position}
 use Rattle.cells.specs.declared.Cell.{Cell}
 use Rattle.geometry.specs.Meaning.Domain.{inDomain}

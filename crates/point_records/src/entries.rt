@@ -1,7 +1,5 @@
 // The entries of the lists, and the columns that they stand in: a row of pool has the key of the cell and the slot, a row of spots the position.
-ghost use mathlib.Core.Path.{_≡_};
-ghost use Prim.Native.Nat.{_<_};
-ghost use lib.ListN.{length};
+ghost use Rattle.basics.specs.Words.{_<_, _≡_, length};
 ghost use Rattle.basics.specs.Meaning.Lent.{was};
 ghost use Rattle.point_records.specs.Inner.Listed.{spotAt, listedAt, entryRow, entrySpot};
 use crate::Entry;

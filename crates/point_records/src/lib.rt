@@ -1,8 +1,5 @@
 // The object records of the point grid, and the columns that they stand in. The Rust's StoreObject and ObjectState.
-ghost use mathlib.Core.Path.{_≡_};
-ghost use Prim.Native.Nat.{_≤_, _<_};
-ghost use mathlib.Core.List.{[]};
-ghost use lib.ListN.{length, set};
+ghost use Rattle.basics.specs.Words.{_≤_, _<_, _≡_, [], length, set};
 ghost use Rattle.basics.specs.Meaning.Lent.{was, is};
 ghost use Rattle.basics.specs.Meaning.Says.{Says};
 ghost use Rattle.cells.specs.Meaning.Size.{SizeInDomain};

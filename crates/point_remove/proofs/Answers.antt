@@ -1,10 +1,5 @@
 -- The answers that the code gives, from its tests. Assumes nothing.
-use Prim.Native.Nat.{ℕ, _<_, _≤_, min}
-use mathlib.Core.Path.{_≡_, sym, ap, _∙_}
-use mathlib.Core.Bool.{Bool, true, false}
-use mathlib.Core.List.{[], _∷_}
-use native.Mathlib.Omega.{arith}
-use borrow.Author.Tests.{ne-eqb, le-leb, lt-leb}
+use Rattle.basics.specs.Words.{ℕ, _<_, _≤_, min, _≡_, sym, ap, _∙_, Bool, true, false, [], _∷_, arith, ne-eqb, le-leb, lt-leb}
 use Rattle.basics.specs.Meaning.Refusals.{unless, firstOf}
 use Rattle.slots.specs.declared.Handle.{Handle}
 use Rattle.slots.specs.Meaning.Slot.{handleTest}

@@ -1,13 +1,6 @@
 -- The ends of `clear`, from what its steps give. Assumes nothing.
-use Prim.Native.Nat.{ℕ, _<_, _≤_, min}
-use mathlib.Core.Path.{_≡_, refl, sym, ap, _∙_}
-use mathlib.Core.Bool.{Bool, true, false}
-use mathlib.Core.List.{List}
-use native.Mathlib.Omega.{arith}
-use lib.Dec.{leb}
+use Rattle.basics.specs.Words.{ℕ, _<_, _≤_, min, _≡_, refl, sym, ap, _∙_, Bool, true, false, List, length, getD, leb, arith, leb-true, leb-false}
 use lib.Ieee.{Float}
-use lib.ListN.{length, getD}
-use borrow.Author.Tests.{leb-true, leb-false}
 use Rattle.basics.specs.Meaning.Refusals.{pick}
 use Rattle.storage.specs.Meaning.Keyed.{written}
 use Rattle.point_tables.specs.Meaning.Tables.{Tables, tables, counting, usedOf}

@@ -1,12 +1,7 @@
 -- What the code of a removal is asked for at each step, and what it makes. Assumes nothing.
-use Prim.Native.Nat.{ℕ, _+_, _/_, _<_, _≤_}
-use mathlib.Core.Path.{_≡_, sym, ap, _∙_}
-use mathlib.Core.Bool.{Bool, true, false}
-use mathlib.Core.List.{List, [], _∷_, _++_, map}
-use native.Mathlib.Omega.{arith}
+use Rattle.basics.specs.Words.{ℕ, _+_, _/_, _<_, _≤_, _≡_, sym, ap, _∙_, Bool, true, false, List, [], _∷_, _++_, map, length, take, drop, length-map}
+use Rattle.basics.specs.Words.{take-append-drop, length-take-le, arith}
 use lib.Ieee.{Float}
-use lib.ListN.{length, take, drop, length-map, take-append-drop}
-use lib.Seq.{length-take-le}
 use Rattle.basics.specs.Meaning.Says.{Says}
 use Rattle.basics.proofs.laws.Says.{apart}
 use Rattle.cells.specs.Meaning.Key.{keyOf}

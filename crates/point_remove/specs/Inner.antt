@@ -1,11 +1,6 @@
 -- What the steps of the code are asked for and give. Assumes nothing.
-use Prim.Native.Nat.{ℕ, _<_, _≤_, min}
-use mathlib.Core.Path.{_≡_}
-use mathlib.Core.Bool.{Bool}
-use mathlib.Core.List.{List, [], _∷_, map}
-use lib.Dec.{leb}
+use Rattle.basics.specs.Words.{ℕ, _<_, _≤_, min, _≡_, Bool, List, [], _∷_, map, length, getD, take, leb}
 use lib.Ieee.{Float, nan}
-use lib.ListN.{length, getD, take}
 use Rattle.basics.specs.Meaning.Limits.{mostSlots}
 use Rattle.basics.specs.Meaning.Refusals.{pick}
 use Rattle.storage.specs.Meaning.Keyed.{under, written}

@@ -1,8 +1,5 @@
 // `clear`: writes recorded position and data, ascending by slot, then empties the grid. Versions rise as with any emptying.
-ghost use mathlib.Core.Path.{_≡_};
-ghost use mathlib.Core.Bool.{true};
-ghost use Prim.Native.Nat.{_+_, _≤_, _<_};
-ghost use lib.ListN.{length, getD};
+ghost use Rattle.basics.specs.Words.{_+_, _≤_, _<_, _≡_, true, length, getD};
 ghost use Rattle.basics.specs.Meaning.Limits.{mostSlots};
 ghost use Rattle.basics.specs.Meaning.Lent.{was, is};
 ghost use Rattle.slots.specs.Meaning.Map.{wordsFor};

@@ -1,8 +1,5 @@
 // `remove_maintain`: the object is taken out now, whatever its state. The last entry of its list moves into the gap.
-ghost use mathlib.Core.Path.{_≡_};
-ghost use mathlib.Core.List.{[], _∷_};
-ghost use Prim.Native.Nat.{_+_, _/_, _≤_, _<_};
-ghost use lib.ListN.{length, take};
+ghost use Rattle.basics.specs.Words.{_+_, _/_, _≤_, _<_, _≡_, [], _∷_, length, take};
 ghost use Rattle.basics.specs.Meaning.Lent.{was, is};
 ghost use Rattle.basics.specs.Meaning.Refusals.{unless, firstOf};
 ghost use Rattle.slots.specs.Meaning.Slot.{handleTest, emptiedNums, emptiedMap};

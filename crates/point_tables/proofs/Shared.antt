@@ -1,8 +1,5 @@
 -- What the proofs of point_tables share. Assumes nothing.
-use Prim.Native.Nat.{ℕ}
-use mathlib.Core.Path.{_≡_, refl, sym, subst}
-use mathlib.Core.Bool.{Bool, true, false}
-use mathlib.Core.List.{List}
+use Rattle.basics.specs.Words.{ℕ, _≡_, refl, sym, subst, Bool, true, false, List}
 use Rattle.basics.specs.Meaning.Says.{Says}
 use Rattle.basics.proofs.laws.Says.{apart, says-same}
 use Rattle.basics.specs.Meaning.Refusals.{pick}

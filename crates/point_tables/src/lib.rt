@@ -1,8 +1,5 @@
 // The tables of a point grid, and the check that they hold one.
-ghost use mathlib.Core.Path.{_≡_};
-ghost use mathlib.Core.Bool.{true, false};
-ghost use Prim.Native.Nat.{ℕ, _+_, _/_, _≤_, _<_};
-ghost use lib.ListN.{length, getD};
+ghost use Rattle.basics.specs.Words.{ℕ, _+_, _/_, _<_, _≡_, length};
 ghost use Rattle.basics.specs.Meaning.Limits.{mostSlots};
 ghost use Rattle.basics.specs.Meaning.Lent.{was};
 ghost use Rattle.basics.specs.Meaning.Says.{Says};

@@ -1,6 +1,6 @@
 // `set_position` and `remove` on a table of records: the records are spread into the columns, which are lent as scratch, the core's call is
 // made, and the records are gathered again. A record table of another length than the columns gets 3. Answers and their order are the core's.
-ghost use mathlib.Core.Path.{_≡_};
+ghost use Rattle.basics.specs.Words.{_≡_};
 ghost use Rattle.point_tables.specs.Meaning.Lent.{after, before};
 ghost use Rattle.point_tables.specs.Meaning.Outcome.{outcome};
 ghost use Rattle.replies.specs.Meaning.Replies.{reply};

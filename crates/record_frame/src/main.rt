@@ -1,7 +1,7 @@
 // A small history on a table of records that is made by value: an object that is on its way to another cell is asked for, is settled, and is
 // asked for again; tables that are no grid are refused. Each line is what was asked, get's answer and the data, and the state of the record:
 // 0 unchanged, 1 new position, 2 relocate, 3 removed. The columns are scratch.
-ghost use mathlib.Core.Path.{_≡_};
+ghost use Rattle.basics.specs.Words.{_≡_};
 ghost use Rattle.point_tables.specs.Meaning.Lent.{before};
 ghost use Rattle.record_maintain.specs.Meaning.Calls.{maintainOn};
 ghost use Rattle.record_get.specs.Meaning.Calls.{getOn};

@@ -1,5 +1,5 @@
 // `get` and `len` on a table of records: the records are spread into the columns and stay as they are.
-ghost use mathlib.Core.Path.{_≡_};
+ghost use Rattle.basics.specs.Words.{_≡_};
 ghost use Rattle.basics.specs.Meaning.Lent.{was};
 ghost use Rattle.point_tables.specs.Meaning.Lent.{after, before};
 ghost use Rattle.point_tables.specs.Meaning.Outcome.{outcome};

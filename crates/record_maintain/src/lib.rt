@@ -1,5 +1,5 @@
 // `maintain` on a table of records, in the form of `record_deferred`.
-ghost use mathlib.Core.Path.{_≡_};
+ghost use Rattle.basics.specs.Words.{_≡_};
 ghost use Rattle.point_tables.specs.Meaning.Lent.{after, before};
 ghost use Rattle.point_tables.specs.Meaning.Outcome.{outcome};
 ghost use Rattle.records.specs.Meaning.Seen.{Shows};

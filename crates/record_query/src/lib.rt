@@ -1,5 +1,5 @@
 // `query_around` on a table of records, in the form of `record_get`.
-ghost use mathlib.Core.Path.{_≡_};
+ghost use Rattle.basics.specs.Words.{_≡_};
 ghost use Rattle.basics.specs.Meaning.Lent.{was, is};
 ghost use Rattle.point_tables.specs.Meaning.Lent.{before};
 ghost use Rattle.point_query.specs.Meaning.Queries.{findings};

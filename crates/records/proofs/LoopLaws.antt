@@ -1,15 +1,7 @@
 -- What the proofs of `spread` and `gather` share: columns and records written one after the other. Assumes nothing.
-use Prim.Native.Nat.{ℕ, zero, suc, _<_, _≤_, zero-le}
-use mathlib.Core.Path.{_≡_, refl, sym, ap, subst, _∙_}
-use mathlib.Core.Bool.{Bool, true, false}
-use mathlib.Core.List.{List, [], _∷_}
-use native.Mathlib.Nat.{not-suc-le-zero, le-of-suc-le-suc}
-use native.Mathlib.Omega.{arith}
-use lib.IntN.{ℤ}
+use Rattle.basics.specs.Words.{ℕ, zero, suc, _<_, _≤_, zero-le, _≡_, refl, sym, ap, _∙_, Bool, true, false, List, [], _∷_, length, getD, set, ltb, leb·suc-suc}
+use Rattle.basics.specs.Words.{ℤ, not-suc-le-zero, le-of-suc-le-suc, arith, lt-ltb, le-ltb}
 use lib.Ieee.{Float}
-use lib.Dec.{ltb, leb·suc-suc}
-use lib.ListN.{length, getD, set}
-use borrow.Author.Tests.{lt-ltb, le-ltb}
 use Rattle.basics.specs.Meaning.Refusals.{pick}
 use Rattle.point_records.specs.declared.Record.{Record}
 use Rattle.point_records.specs.Meaning.Columns.{recordAt, recordOf}

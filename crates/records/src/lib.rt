@@ -1,8 +1,6 @@
 // The object records as one lent table, a record for each slot: the Rust's SlotMap of StoreObject. The columns that the core works on are
 // lent as scratch: a call spreads the records into them, runs the core's call, and gathers the records again.
-ghost use mathlib.Core.Path.{_≡_};
-ghost use Prim.Native.Nat.{ℕ, _<_};
-ghost use lib.ListN.{length, getD, set};
+ghost use Rattle.basics.specs.Words.{_<_, _≡_, length, getD, set};
 ghost use Rattle.basics.specs.Meaning.Lent.{was, is};
 ghost use Rattle.point_records.specs.Meaning.Columns.{numsOf, realsOf, intsOf};
 ghost use Rattle.records.specs.Inner.Spread.{noRecord, rowOr};

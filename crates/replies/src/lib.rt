@@ -1,5 +1,5 @@
 // What calls return beside their tables and outputs. An answer is a number of document 01.
-ghost use mathlib.Core.Path.{_≡_};
+ghost use Rattle.basics.specs.Words.{_≡_};
 ghost use Rattle.replies.specs.Meaning.Replies.{count, inserted};
 use slots::Handle;
 

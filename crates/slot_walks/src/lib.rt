@@ -1,7 +1,5 @@
 // Walks over the slots of a grid, for points and boxes alike: the live slots counted, their handles written out, all of them emptied.
-ghost use mathlib.Core.Path.{_≡_};
-ghost use Prim.Native.Nat.{_+_, _≤_};
-ghost use lib.ListN.{length};
+ghost use Rattle.basics.specs.Words.{_+_, _≤_, _≡_, length};
 ghost use Rattle.basics.specs.Meaning.Limits.{mostSlots};
 ghost use Rattle.basics.specs.Meaning.Lent.{was, is};
 ghost use Rattle.slots.specs.Meaning.Map.{wordsFor};

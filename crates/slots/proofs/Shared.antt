@@ -1,12 +1,6 @@
 -- What the proofs of slots share: a row of four numbers, and a good handle and a slot test by test. Assumes nothing.
-use Prim.Native.Nat.{ℕ, _≤_, _<_}
-use mathlib.Core.Path.{_≡_, refl, sym, subst}
-use mathlib.Core.Bool.{Bool, true, false}
-use mathlib.Core.List.{List, [], _∷_}
-use native.Mathlib.Omega.{arith}
-use lib.Dec.{eqb}
-use lib.ListN.{length, getD, set}
-use borrow.Author.Tests.{lt-ltb, le-ltb, eq-eqb, ne-eqb}
+use Rattle.basics.specs.Words.{ℕ, _≤_, _<_, _≡_, refl, sym, subst, Bool, true, false, List, [], _∷_, length, getD, set, eqb, arith, lt-ltb, le-ltb, eq-eqb}
+use Rattle.basics.specs.Words.{ne-eqb}
 use Rattle.basics.specs.Meaning.Says.{Says}
 use Rattle.basics.proofs.laws.Says.{says-yes, says-no, apart}
 use Rattle.basics.specs.Meaning.Refusals.{pick}

@@ -1,8 +1,5 @@
 // Handles, versions and the slot map: what the Rust's SlotMap becomes.
-ghost use mathlib.Core.Path.{_≡_};
-ghost use Prim.Native.Nat.{_+_, _*_, _/_, _%_, _^_, _≤_, _<_};
-ghost use lib.Dec.{eqb};
-ghost use lib.ListN.{length};
+ghost use Rattle.basics.specs.Words.{_+_, _*_, _/_, _%_, _^_, _≤_, _<_, _≡_, length, eqb};
 ghost use Rattle.basics.specs.Meaning.Limits.{mostSlots};
 ghost use Rattle.basics.specs.Meaning.Lent.{was, is};
 ghost use Rattle.basics.specs.Meaning.Says.{Says};

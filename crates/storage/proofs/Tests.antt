@@ -1,6 +1,5 @@
 -- What a test that failed tells. Assumes nothing.
-use mathlib.Core.Path.{_≡_, sym, _∙_}
-use mathlib.Core.Bool.{Bool, false}
+use Rattle.basics.specs.Words.{_≡_, sym, _∙_, Bool, false}
 use Rattle.basics.specs.Meaning.Says.{Says}
 use Rattle.basics.proofs.laws.Says.{apart}
 

@@ -1,8 +1,5 @@
 // Rows and spots that move up to let one in, or down to close a gap.
-ghost use mathlib.Core.Path.{_≡_};
-ghost use mathlib.Core.List.{[]};
-ghost use Prim.Native.Nat.{_≤_, _<_};
-ghost use lib.ListN.{length, getD, set};
+ghost use Rattle.basics.specs.Words.{_≤_, _<_, _≡_, [], length, getD, set};
 ghost use Rattle.basics.specs.Meaning.Lent.{was, is};
 ghost use Rattle.storage.specs.Inner.Places.{opened, closed};
 

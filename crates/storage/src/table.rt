@@ -1,7 +1,5 @@
 // The table of the cells in use: a row (key, mark) for each, in the order of the keys.
-ghost use mathlib.Core.Path.{_≡_};
-ghost use Prim.Native.Nat.{_≤_, _<_};
-ghost use lib.ListN.{length, take};
+ghost use Rattle.basics.specs.Words.{_≤_, _<_, _≡_, length, take};
 ghost use Rattle.basics.specs.Meaning.Lent.{was, is};
 ghost use Rattle.basics.specs.Meaning.Says.{Says};
 ghost use Rattle.storage.specs.Inner.Keyed.{Sorted};

@@ -1,9 +1,6 @@
 // The walk of a range of cells: the entries of one row of cells after those of another, each found by its place.
 // A range goes from the key `low` of the lower left cell to the key `high` of the upper right one.
-ghost use mathlib.Core.Path.{_≡_};
-ghost use mathlib.Core.Bool.{true};
-ghost use Prim.Native.Nat.{_≤_, _<_};
-ghost use lib.ListN.{length, take};
+ghost use Rattle.basics.specs.Words.{_≤_, _<_, _≡_, true, length, take};
 ghost use Rattle.basics.specs.Meaning.Lent.{was};
 ghost use Rattle.storage.specs.Inner.Keyed.{Sorted};
 ghost use Rattle.storage.specs.Meaning.Entries.{rowKey};

@@ -1,8 +1,6 @@
 // The trace: records from standard input, an answer to each on standard output, in blocks. A record that cannot be read is answered by 10,
 // and the next one is read. It ends with its input, or when nobody takes its answers.
-ghost use mathlib.Core.Path.{_≡_};
-ghost use mathlib.Core.Bool.{true};
-ghost use Prim.Native.Nat.{_<_, _≤_};
+ghost use Rattle.basics.specs.Words.{_<_, _≤_, _≡_, true};
 ghost use Rattle.trace.specs.Inner.Ready.{Fits, Ready};
 use libc::STDIN_FILENO;
 use libc::STDOUT_FILENO;

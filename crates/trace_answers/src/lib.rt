@@ -1,5 +1,5 @@
 // The two grids of the trace answer a request: a call of one of them, or for `cell` of both.
-ghost use mathlib.Core.Path.{_≡_};
+ghost use Rattle.basics.specs.Words.{_≡_};
 ghost use Rattle.trace_telling.specs.Inner.InRange.{InRange};
 ghost use Rattle.trace_telling.specs.Meaning.Tells.{tells, doneOr};
 ghost use Rattle.trace_answers.specs.Meaning.Cell.{Builds};

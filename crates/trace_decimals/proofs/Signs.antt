@@ -1,15 +1,10 @@
 -- Signed numbers as the machine works them out: the magnitude of a number below 0, and a number behind a minus. Assumes nothing.
-use Prim.Native.Nat.{ℕ, zero, suc, _+_, _-_, _≤_, _<_}
-use mathlib.Core.Path.{_≡_, refl, sym, ap, _∙_, subst}
-use mathlib.Core.Bool.{Bool, true, false, cond}
-use native.Mathlib.Omega.{arith}
-use lib.Dec.{T}
-use lib.IntN.{ℤ, pos, negsuc, _-ℤ_, natAbs, +ℤ-idl}
+use Rattle.basics.specs.Words.{ℕ, zero, suc, _+_, _-_, _≤_, _<_, _≡_, refl, sym, ap, _∙_, subst, Bool, true, false, cond, T, ℤ, pos, negsuc, _-ℤ_, natAbs}
+use Rattle.basics.specs.Words.{+ℤ-idl, arith, le-ltb, ltb-true}
 use lib.Signed.{mag, nonNeg, ltZ}
 use mir.Syntax.{w32}
 use mir.Val.{Fits, SFits, toZ, ofZ}
 use mir.ValLaws.{toZ-pos, toZ-ofZ}
-use borrow.Author.Tests.{le-ltb, ltb-true}
 use Rattle.basics.proofs.laws.Says.{apart}
 use Rattle.trace_decimals.specs.declared.Number.the-variants.{Read}
 use Rattle.trace_decimals.specs.declared.Count.the-variants.{Counted}

@@ -1,10 +1,5 @@
 // Decimals in the fields of a record: read from a part of a slice, and written into one from a place on.
-ghost use mathlib.Core.Path.{_≡_};
-ghost use mathlib.Core.List.{[], _∷_};
-ghost use Prim.Native.Nat.{_+_, _-_, _≤_, _<_};
-ghost use lib.ListN.{length};
-ghost use lib.Seq.{slice};
-ghost use lib.IntN.{natAbs};
+ghost use Rattle.basics.specs.Words.{_+_, _-_, _≤_, _<_, _≡_, [], _∷_, length, slice, natAbs};
 ghost use Rattle.basics.specs.Meaning.Lent.{was, is};
 ghost use Rattle.trace_decimals.specs.Meaning.Text.{decimal, signedText};
 ghost use Rattle.trace_decimals.specs.Meaning.Fields.{digitsFrom, upTo, numberOf, countOf, plain as Fields·plain, negative as Fields·negative};

@@ -1,7 +1,5 @@
 // What the word of a record asks for, and no field more.
-ghost use mathlib.Core.Path.{_≡_};
-ghost use Prim.Native.Nat.{_≤_};
-ghost use lib.ListN.{length};
+ghost use Rattle.basics.specs.Words.{_≤_, _≡_, length};
 ghost use Rattle.basics.specs.Meaning.Lent.{was};
 ghost use Rattle.trace_lines.specs.Meaning.Taken.{taken};
 ghost use Rattle.trace_lines.specs.Meaning.Requests.{argumentsOf, unreadable as Requests·unreadable, whole as Requests·whole};

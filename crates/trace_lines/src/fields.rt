@@ -1,8 +1,5 @@
 // The fields of a record from a place on: a number, a count, a spot, a handle, as they are asked for. No field is past the record's end.
-ghost use mathlib.Core.Path.{_≡_};
-ghost use Prim.Native.Nat.{_≤_};
-ghost use lib.IntN.{pos};
-ghost use lib.ListN.{length};
+ghost use Rattle.basics.specs.Words.{_≤_, _≡_, length, pos};
 ghost use Rattle.basics.specs.Meaning.Lent.{was};
 ghost use Rattle.trace_lines.specs.Meaning.Taken.{takeNumber, takeCount, takeSpot, takeHandle, ifAsked, nobody, noSpot, takePlaces};
 ghost use Rattle.trace_lines.specs.Inner.Cursor.{endFrom, fieldsFrom, numberTaken, countTaken, spotTaken, spotsTaken, handleTaken};

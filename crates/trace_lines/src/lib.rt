@@ -1,7 +1,5 @@
 // A record of the trace read as a request: its word, then what the word asks for, field by field.
-ghost use mathlib.Core.Path.{_≡_};
-ghost use Prim.Native.Nat.{_≤_};
-ghost use lib.ListN.{length, take};
+ghost use Rattle.basics.specs.Words.{_≤_, _≡_, length, take};
 ghost use Rattle.basics.specs.Meaning.Lent.{was};
 ghost use Rattle.trace_lines.specs.Meaning.Words.{wordRow as Words·row, rowSays, pointChanges, pointSearches, boxLines, foundIn, askedBy};
 ghost use Rattle.trace_lines.specs.Meaning.Requests.{requestOf};

@@ -1,5 +1,5 @@
 // Whether a word is another.
-ghost use mathlib.Core.Path.{_≡_};
+ghost use Rattle.basics.specs.Words.{_≡_};
 ghost use Rattle.basics.specs.Meaning.Lent.{was};
 ghost use Rattle.trace_lines.specs.Meaning.Words.{sameBytes};
 

@@ -1,5 +1,5 @@
 // What the point grid of the trace answers to a line: each is one call of the grid.
-ghost use mathlib.Core.Path.{_≡_};
+ghost use Rattle.basics.specs.Words.{_≡_};
 ghost use Rattle.basics.specs.Meaning.Lent.{was, is};
 ghost use Rattle.trace_lines.specs.Inner.Texts.{SpotInRange, CountInRange};
 ghost use Rattle.point_tables.specs.Meaning.Lent.{after, before};

@@ -1,8 +1,5 @@
 // An answer as a record of the trace: decimal numbers with commas between them, CR LF at the end.
-ghost use mathlib.Core.Path.{_≡_};
-ghost use mathlib.Core.List.{[], _∷_, _++_};
-ghost use Prim.Native.Nat.{_+_, _*_, _≤_, _<_};
-ghost use lib.ListN.{length};
+ghost use Rattle.basics.specs.Words.{_+_, _*_, _≤_, _++_, length};
 ghost use Rattle.basics.specs.Meaning.Lent.{was, is};
 ghost use Rattle.trace_printing.specs.Meaning.Said.{numberField, coordinateField, handleText, placeText, cornersText, pointsText, boxesText};
 ghost use Rattle.trace_printing.specs.Meaning.Said.{saidText, recordText, longest};

@@ -1,6 +1,5 @@
 // The two grids of the trace, and what they answer to a record.
-ghost use Prim.Native.Nat.{_+_, _≤_};
-ghost use lib.ListN.{length, take};
+ghost use Rattle.basics.specs.Words.{_+_, _≤_, length, take};
 ghost use Rattle.basics.specs.Meaning.Lent.{was, is};
 ghost use Rattle.trace_decimals.specs.Meaning.Written.{buffer};
 ghost use Rattle.trace_printing.specs.Meaning.Said.{longest};

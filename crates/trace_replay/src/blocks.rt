@@ -1,6 +1,5 @@
 // The records of the input out of its blocks, so that a record may begin in one block and end in another.
-ghost use mathlib.Core.Path.{_≡_};
-ghost use lib.ListN.{length, drop};
+ghost use Rattle.basics.specs.Words.{_≡_, length, drop};
 ghost use Rattle.basics.specs.Meaning.Lent.{was, is};
 ghost use Rattle.trace_splits.specs.Meaning.Sofar.{sofar};
 ghost use Rattle.trace_replay.specs.Meaning.Next.{nextFound, nextOf};

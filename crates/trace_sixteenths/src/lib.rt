@@ -1,7 +1,5 @@
 // Coordinates as counts of sixteenths, and as binary32 numbers.
-ghost use mathlib.Core.Path.{_≡_};
-ghost use Prim.Native.Nat.{_≤_};
-ghost use lib.IntN.{natAbs};
+ghost use Rattle.basics.specs.Words.{_≤_, _≡_, natAbs};
 ghost use Rattle.trace_sixteenths.specs.Meaning.Sixteenth.{sixteenth, sixteenthsOf};
 use cells::whole;
 

@@ -1,10 +1,5 @@
 // The input split into records at CR LF, a byte at a time, so that a record may straddle reads.
-ghost use mathlib.Core.Path.{_≡_};
-ghost use mathlib.Core.Bool.{_&&_};
-ghost use mathlib.Core.List.{List, [], _∷_, _++_};
-ghost use Prim.Native.Nat.{ℕ, _-_, min};
-ghost use lib.Dec.{eqb};
-ghost use lib.ListN.{length, take};
+ghost use Rattle.basics.specs.Words.{ℕ, _-_, min, _≡_, _&&_, List, [], _∷_, _++_, length, take, eqb};
 ghost use Rattle.basics.specs.Meaning.Lent.{was, is};
 ghost use Rattle.trace_splits.specs.Meaning.Sofar.{sofar, begun, feed};
 ghost use Rattle.trace_splits.specs.Inner.Sofar.{fed, finished};

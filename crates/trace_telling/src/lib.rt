@@ -1,5 +1,5 @@
 // What the answer of a grid's call says in the trace, and the places that a request names.
-ghost use mathlib.Core.Path.{_≡_};
+ghost use Rattle.basics.specs.Words.{_≡_};
 ghost use Rattle.trace_lines.specs.Inner.Texts.{SpotInRange};
 ghost use Rattle.trace_telling.specs.Meaning.Places.{placeOf, boxOf};
 ghost use Rattle.trace_telling.specs.Meaning.Tells.{doneOr, oneOr, twoOr, pointsOr, boxesOr};

@@ -1,9 +1,5 @@
 -- Whether two floats are the same can be decided: the same as data, so that -0.0 and 0.0 differ. Assumes nothing.
-use mathlib.Core.Path.{_≡_, refl, ap, sym}
-use mathlib.Core.Bool.{Bool, true, false}
-use mathlib.Core.Logic.{inl, inr}
-use Prim.Native.Nat.{ℕ}
-use lib.IntN.{ℤ, pos}
+use Rattle.basics.specs.Words.{ℕ, _≡_, refl, ap, sym, Bool, true, false, inl, inr, ℤ, pos}
 use lib.Ieee.{Float, nan, inf, fin}
 use Rattle.basics.specs.Meaning.Says.{Decided}
 use Rattle.basics.proofs.laws.Says.{apart, d-via, d-and, d-eq, d-eqz}

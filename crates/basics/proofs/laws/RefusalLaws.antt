@@ -1,11 +1,5 @@
 -- A call that makes its tests one after the other, in document 01's order, answers the first that applies. Assumes nothing.
-use Prim.Native.Nat.{ℕ}
-use mathlib.Core.Path.{_≡_, refl, sym, ap, _∙_}
-use mathlib.Core.Bool.{Bool, true, false, not, _&&_, _||_}
-use mathlib.Core.List.{List, [], _∷_}
-use lib.Dec.{eqb}
-use lib.ListN.{drop}
-use borrow.Author.Tests.{eqb-true}
+use Rattle.basics.specs.Words.{ℕ, _≡_, refl, sym, ap, _∙_, Bool, true, false, not, _&&_, _||_, List, [], _∷_, drop, eqb, eqb-true}
 use Rattle.basics.proofs.laws.Says.{apart, both-true, untrue}
 use Rattle.basics.specs.Meaning.Refusals.{Refusal, orElse, firstOf, pick, order, applies, firstIn, firstThat}
 

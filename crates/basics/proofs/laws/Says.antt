@@ -1,13 +1,7 @@
 -- A bool that says whether a fact holds, and facts that can be decided. Assumes nothing.
 -- Here: the laws.
-use Prim.Native.Nat.{ℕ, zero, suc, _<_, _≤_}
-use mathlib.Core.Path.{_≡_, refl, sym, subst, ap}
-use mathlib.Core.Bool.{Bool, true, false, not, _&&_}
-use mathlib.Core.Logic.{_⊎_, inl, inr, ⊎-elim}
-use native.Mathlib.Omega.{arith}
-use lib.Dec.{T, eqb, leb, ltb}
-use lib.IntN.{ℤ, pos, negsuc}
-use borrow.Author.Tests.{ltb-true, ltb-false, leb-true, leb-false, eqb-true, eqb-false}
+use Rattle.basics.specs.Words.{ℕ, zero, suc, _<_, _≤_, _≡_, refl, sym, subst, ap, Bool, true, false, not, _&&_, _⊎_, inl, inr, ⊎-elim, T, eqb, leb, ltb}
+use Rattle.basics.specs.Words.{ℤ, pos, negsuc, arith, ltb-true, ltb-false, leb-true, leb-false, eqb-true, eqb-false}
 use Rattle.basics.specs.Meaning.Says.{Says, Decided, said}
 
 pub apart : false ≡ true → ⊥

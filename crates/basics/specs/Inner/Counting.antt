@@ -1,7 +1,6 @@
 -- How many numbers below n pass a test; and that they are as many as the places of a list that names each of them once. Assumes nothing.
 -- Here: what only inner contracts cite.
-use Prim.Native.Nat.{ℕ, zero, suc, _+_}
-use mathlib.Core.Bool.{Bool}
+use Rattle.basics.specs.Words.{ℕ, zero, suc, _+_, Bool}
 use Rattle.basics.specs.Meaning.Refusals.{pick}
 
 abbrev pub one : Bool → ℕ

@@ -1,5 +1,5 @@
 -- The limits of document 01. Assumes nothing.
-use Prim.Native.Nat.{ℕ}
+use Rattle.basics.specs.Words.{ℕ}
 
 -- the most slots of a point grid
 abbrev pub mostSlots : ℕ

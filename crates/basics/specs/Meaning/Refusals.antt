@@ -1,8 +1,5 @@
 -- The answer of a call: the first refusal that applies, out of a list in the order of document 01; else 0. Assumes nothing.
-use Prim.Native.Nat.{ℕ}
-use mathlib.Core.Bool.{Bool, true, false, not, _&&_, _||_}
-use mathlib.Core.List.{List, [], _∷_}
-use lib.Dec.{eqb}
+use Rattle.basics.specs.Words.{ℕ, Bool, true, false, not, _&&_, _||_, List, [], _∷_, eqb}
 
 -- a test that must pass, and the answer number if it does not
 pub record Refusal : Type 0 where

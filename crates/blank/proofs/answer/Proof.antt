@@ -1,7 +1,5 @@
 -- `blank::answer` meets its contract. Assumes nothing.
-use mathlib.Core.Path.{_≡_, _∙_}
-use borrow.Author.Tests.{not-true, not-false}
-use borrow.Author.Needs.{needs}
+use Rattle.basics.specs.Words.{_≡_, _∙_, not-true, not-false, needs}
 use Rattle.basics.proofs.laws.Says.{says-same}
 use Rattle.blank.specs.Meaning.Blank.{sizeOk}
 use Rattle.blank.proofs.laws.BlankLaws.{size-says}

@@ -1,10 +1,6 @@
 -- `blank::free_slots` meets its contract: the first i rows are written. The measure is what is left of them. Assumes nothing.
-use Prim.Native.Nat.{ℕ, _-_, _≤_}
-use mathlib.Core.Path.{_≡_, refl, sym, _∙_}
-use mathlib.Core.List.{List, [], _∷_}
-use native.Mathlib.Omega.{arith}
-use lib.ListN.{length, replicate, length-set, length-replicate, getD-replicate}
-use lib.Seq.{paste, paste-zero}
+use Rattle.basics.specs.Words.{ℕ, _-_, _≤_, _≡_, refl, sym, _∙_, List, [], _∷_, length, replicate, length-set, length-replicate, getD-replicate, paste}
+use Rattle.basics.specs.Words.{paste-zero, arith}
 use Rattle.blank.proofs.Fill.{fill-step, fill-end}
 use Rattle.blank.proofs.free_slots.Statement.{statement}
 use Rattle.blank.proofs.free_slots.Tie as tie

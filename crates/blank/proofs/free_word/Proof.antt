@@ -1,12 +1,6 @@
 -- `blank::free_word` meets its contract: a shift of 1 by less than 64 loses no bit. Assumes nothing.
-use Prim.Native.Nat.{ℕ, _%_, _*_, _^_, _<_, _-_}
-use mathlib.Core.Path.{_≡_, _∙_, ap}
-use native.Mathlib.Omega.{arith}
-use native.Mathlib.Nat.{one-mul}
-use lib.Dec.{lit<}
+use Rattle.basics.specs.Words.{ℕ, _%_, _*_, _^_, _<_, _-_, _≡_, _∙_, ap, lit<, one-mul, arith, le-leb, lt-leb, needs}
 use lib.Pow.{shl-exact, pow-pos}
-use borrow.Author.Tests.{le-leb, lt-leb}
-use borrow.Author.Needs.{needs}
 use Rattle.blank.proofs.free_word.Statement.{statement}
 use Rattle.blank.proofs.free_word.Tie as tie
 

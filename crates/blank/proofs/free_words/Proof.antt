@@ -1,9 +1,5 @@
 -- `blank::free_words` meets its contract: the first w words are written. The measure is what is left of them. Assumes nothing.
-use Prim.Native.Nat.{_+_, _-_, _≤_}
-use mathlib.Core.Path.{_≡_, refl, sym, _∙_}
-use native.Mathlib.Omega.{arith}
-use lib.ListN.{length, length-set}
-use lib.Seq.{paste, paste-zero}
+use Rattle.basics.specs.Words.{_+_, _-_, _≤_, _≡_, refl, sym, _∙_, length, length-set, paste, paste-zero, arith}
 use Rattle.slots.specs.Meaning.Map.{wordsFor}
 use Rattle.blank.specs.Meaning.Blank.{freeWords}
 use Rattle.blank.proofs.laws.FreeWordLaws.{free-length, free-at}

@@ -1,11 +1,5 @@
 -- Slots that are all free hold; none is occupied, and every one is usable. Assumes nothing.
-use Prim.Native.Nat.{ℕ, _+_, _≤_, _<_}
-use mathlib.Core.Path.{_≡_, refl}
-use mathlib.Core.List.{[], _∷_}
-use native.Mathlib.Omega.{arith}
-use lib.Dec.{leb}
-use lib.ListN.{length, getD, length-replicate, getD-replicate}
-use borrow.Author.Tests.{leb-true, le-leb}
+use Rattle.basics.specs.Words.{ℕ, _+_, _≤_, _<_, _≡_, refl, [], _∷_, length, getD, length-replicate, getD-replicate, leb, arith, leb-true, le-leb}
 use Rattle.basics.specs.Meaning.Says.{Says}
 use Rattle.basics.proofs.laws.Says.{both-true}
 use Rattle.cells.specs.Meaning.Size.{SizeInDomain}

@@ -1,10 +1,5 @@
 -- Building, by its two tests: the lengths of the tables, and the size of the cells. Assumes nothing.
-use Prim.Native.Nat.{ℕ}
-use mathlib.Core.Path.{_≡_, refl}
-use mathlib.Core.Bool.{Bool, true, false}
-use mathlib.Core.List.{List, [], _∷_}
-use native.Mathlib.Omega.{arith}
-use borrow.Author.Tests.{ne-eqb}
+use Rattle.basics.specs.Words.{ℕ, _≡_, refl, Bool, true, false, List, [], _∷_, arith, ne-eqb}
 use Rattle.basics.specs.Meaning.Refusals.{Refusal, unless, firstOf, byTests}
 use Rattle.basics.specs.Meaning.Outcome.{Outcome, outcome}
 

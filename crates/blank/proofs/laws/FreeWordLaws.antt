@@ -1,14 +1,7 @@
 -- The map of a new grid: the words of n slots have a bit for each slot, and none past the last. Assumes nothing.
-use Prim.Native.Nat.{ℕ, zero, suc, _+_, _-_, _*_, _/_, _%_, _^_, _≤_, _<_}
-use mathlib.Core.Path.{_≡_, refl, _∙_, ap}
-use mathlib.Core.Bool.{Bool, true, false}
-use mathlib.Core.List.{_∷_}
-use native.Mathlib.Omega.{arith}
-use native.Mathlib.Nat.{div-eq-of-lt, pow-succ', not-suc-le-zero}
-use lib.Dec.{leb}
-use lib.ListN.{length, getD, List·getD-eq-default}
+use Rattle.basics.specs.Words.{ℕ, zero, suc, _+_, _-_, _*_, _/_, _%_, _^_, _≤_, _<_, _≡_, refl, _∙_, ap, Bool, true, false, _∷_, length, getD}
+use Rattle.basics.specs.Words.{List·getD-eq-default, leb, div-eq-of-lt, pow-succ', not-suc-le-zero, arith, leb-true, leb-false}
 use lib.Pow.{pow-pos, pow-mono, ones-lt, ones-split, high}
-use borrow.Author.Tests.{leb-true, leb-false}
 use Rattle.basics.specs.Meaning.Refusals.{pick}
 use Rattle.slots.specs.Meaning.Map.{wordsFor, bit, usable}
 use Rattle.slots.proofs.laws.BitLaws.{bit-of-zero}

@@ -1,7 +1,5 @@
 -- `blank::new_head` meets its contract. Assumes nothing.
-use native.Mathlib.Omega.{arith}
-use lib.ListN.{length-set}
-use borrow.Author.Needs.{needs}
+use Rattle.basics.specs.Words.{length-set, arith, needs}
 use Rattle.blank.proofs.Fill.{heads}
 use Rattle.blank.proofs.new_head.Statement.{statement}
 use Rattle.blank.proofs.new_head.Tie as tie

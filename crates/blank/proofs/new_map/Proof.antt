@@ -1,11 +1,5 @@
 -- `blank::new_map` meets its contract. Assumes nothing.
-use Prim.Native.Nat.{ℕ}
-use mathlib.Core.Path.{_∙_, ap}
-use mathlib.Core.List.{List, _∷_}
-use native.Mathlib.Omega.{arith}
-use lib.ListN.{take, drop}
-use lib.Seq.{drop-at, length-take-le}
-use borrow.Author.Needs.{needs}
+use Rattle.basics.specs.Words.{ℕ, _∙_, ap, List, _∷_, take, drop, drop-at, length-take-le, arith, needs}
 use Rattle.slots.specs.Meaning.Map.{wordsFor}
 use Rattle.blank.specs.Meaning.Blank.{freeWords}
 use Rattle.blank.proofs.new_map.Statement.{statement}

@@ -1,9 +1,5 @@
 -- Slots that are all free: every row at version 1, every bit of the map set and none past the last slot. Assumes nothing.
-use Prim.Native.Nat.{ℕ, zero, suc, _-_, _^_}
-use mathlib.Core.Bool.{Bool, _&&_}
-use mathlib.Core.List.{List, [], _∷_}
-use lib.Dec.{leb}
-use lib.ListN.{replicate}
+use Rattle.basics.specs.Words.{ℕ, zero, suc, _-_, _^_, Bool, _&&_, List, [], _∷_, replicate, leb}
 use Rattle.basics.specs.Meaning.Refusals.{pick}
 use Rattle.slots.specs.Meaning.Map.{wordsFor}
 use Rattle.slots.specs.Meaning.Slot.{free}

@@ -1,13 +1,6 @@
 -- Taking a box out leaves tables that hold a grid, with as many entries less as it had. Assumes nothing.
-use Prim.Native.Nat.{ℕ, _+_, _<_, _≤_}
-use mathlib.Core.Path.{_≡_, refl, sym, _∙_, ap}
-use mathlib.Core.Bool.{Bool, true, false}
-use mathlib.Core.List.{List, []}
-use mathlib.Core.Logic.{inl}
-use native.Mathlib.Omega.{arith}
-use lib.Dec.{eqb}
-use lib.ListN.{length, getD, set, take, drop}
-use lib.Seq.{take-append-seam, getD-set-same}
+use Rattle.basics.specs.Words.{ℕ, _+_, _<_, _≤_, _≡_, refl, sym, _∙_, ap, Bool, true, false, List, [], inl, length, getD, set, take, drop, take-append-seam}
+use Rattle.basics.specs.Words.{getD-set-same, eqb, arith}
 use Rattle.basics.specs.Meaning.Refusals.{pick}
 use Rattle.slots.specs.Meaning.Map.{head}
 use Rattle.slots.specs.Meaning.Slot.{free, live, retired, lastVersion, versionAt, phaseAt, emptiedRow, emptiedNums, emptiedMap, SlotsHold}

@@ -1,13 +1,6 @@
 -- An accepted `set_aabb` leaves tables that hold a grid, whether the corner cells stay or not. Assumes nothing.
-use Prim.Native.Nat.{ℕ, _+_, _<_, _≤_}
-use mathlib.Core.Path.{_≡_, refl, _∙_, ap, ap₂}
-use mathlib.Core.Bool.{Bool, true, false}
-use mathlib.Core.List.{List, []}
-use mathlib.Core.Logic.{_⊎_, inl, inr, ⊎-elim}
-use native.Mathlib.Omega.{arith}
-use lib.Dec.{T, eqb}
-use lib.ListN.{length, getD, set, take, drop, length-set}
-use lib.Seq.{getD-set-same, getD-set-other, take-append-seam}
+use Rattle.basics.specs.Words.{ℕ, _+_, _<_, _≤_, _≡_, refl, _∙_, ap, ap₂, Bool, true, false, List, [], _⊎_, inl, inr, ⊎-elim, length, getD, set, take, drop}
+use Rattle.basics.specs.Words.{length-set, getD-set-same, getD-set-other, take-append-seam, T, eqb, arith}
 use Rattle.basics.specs.Meaning.Limits.{mostCells}
 use Rattle.basics.proofs.laws.Says.{d-eq, said-says}
 use Rattle.basics.specs.Meaning.Refusals.{pick}

@@ -1,12 +1,6 @@
 -- `set_aabb`: exactly when each answer is given, what it then leaves, that every handle stays as good as it was, and that tables that hold a
 -- grid still do after it. Assumes nothing.
-use Prim.Native.Nat.{ℕ, _+_, _≤_}
-use mathlib.Core.Path.{_≡_, refl, _∙_, ap}
-use mathlib.Core.Bool.{Bool, true, false}
-use native.Mathlib.Omega.{arith}
-use lib.Dec.{T, eqb}
-use lib.ListN.{length}
-use borrow.Author.Tests.{leb-true, le-leb}
+use Rattle.basics.specs.Words.{ℕ, _+_, _≤_, _≡_, refl, _∙_, ap, Bool, true, false, length, T, eqb, arith, leb-true, le-leb}
 use Rattle.basics.specs.Meaning.Says.{Says}
 use Rattle.basics.proofs.laws.Says.{says-t, not-said}
 use Rattle.basics.specs.Meaning.Refusals.{pick, orElse}

@@ -1,12 +1,5 @@
 -- The entries without those of an occupied slot: in order, with none of the slot, and every other box where it stood. Assumes nothing.
-use Prim.Native.Nat.{ℕ, _+_, _<_, _≤_}
-use mathlib.Core.Path.{_≡_, sym, _∙_, ap}
-use mathlib.Core.Bool.{Bool, false}
-use mathlib.Core.List.{[]}
-use native.Mathlib.Omega.{arith}
-use lib.Dec.{eqb}
-use lib.ListN.{length}
-use borrow.Author.Tests.{eqb-false, ne-eqb}
+use Rattle.basics.specs.Words.{ℕ, _+_, _<_, _≤_, _≡_, sym, _∙_, ap, Bool, false, [], length, eqb, arith, eqb-false, ne-eqb}
 use Rattle.cells.specs.Inner.Numbers.{Near}
 use Rattle.slots.specs.Meaning.Slot.{live, phaseAt}
 use Rattle.storage.specs.Meaning.Keyed.{All, filter}

@@ -1,12 +1,7 @@
 -- What the steps of the code are asked for and give. Assumes nothing.
 -- Here: what only inner contracts cite.
-use Prim.Native.Nat.{ℕ, _+_, _<_, _≤_}
-use mathlib.Core.Path.{_≡_}
-use mathlib.Core.Bool.{Bool}
-use mathlib.Core.List.{List}
-use lib.Dec.{eqb}
+use Rattle.basics.specs.Words.{ℕ, _+_, _<_, _≤_, _≡_, Bool, List, length, getD, take, eqb}
 use lib.Ieee.{Float}
-use lib.ListN.{length, getD, take}
 use Rattle.basics.specs.Meaning.Limits.{mostBoxes, mostEntries, mostCells}
 use Rattle.basics.specs.Meaning.Says.{said}
 use Rattle.basics.specs.Meaning.Refusals.{pick}

@@ -1,7 +1,5 @@
 -- `remove` takes the box out of all its lists at once, and empties its slot: in each list the last entry moves into the gap. Assumes nothing.
-use Prim.Native.Nat.{ℕ}
-use mathlib.Core.List.{List, [], _∷_}
-use lib.ListN.{length}
+use Rattle.basics.specs.Words.{ℕ, List, [], _∷_, length}
 use Rattle.basics.specs.Meaning.Refusals.{Refusal, unless, firstOf, byTests}
 use Rattle.geometry.specs.declared.Aabb.{Aabb}
 use Rattle.slots.specs.declared.Handle.{Handle}

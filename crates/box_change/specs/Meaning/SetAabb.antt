@@ -1,11 +1,6 @@
 -- `set_aabb`: if both corner cells stay, only the record changes; otherwise the box leaves all its old cells and is then appended to all its
 -- new ones. Assumes nothing.
-use Prim.Native.Nat.{ℕ, _+_}
-use mathlib.Core.Path.{_≡_}
-use mathlib.Core.Bool.{Bool}
-use mathlib.Core.List.{List, [], _∷_}
-use lib.Dec.{leb}
-use lib.ListN.{length, set}
+use Rattle.basics.specs.Words.{ℕ, _+_, _≡_, Bool, List, [], _∷_, length, set, leb}
 use Rattle.basics.specs.Meaning.Says.{Decided, said}
 use Rattle.basics.proofs.laws.Says.{d-and, d-eqz}
 use Rattle.basics.specs.Meaning.Refusals.{Refusal, unless, firstOf, pick, byTests}

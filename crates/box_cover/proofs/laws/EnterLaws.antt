@@ -1,11 +1,5 @@
 -- A box that enters the lists of the cells of a range: its own entries come in once in each, and those of the others stay. Assumes nothing.
-use Prim.Native.Nat.{ℕ, _+_, _≤_}
-use mathlib.Core.Path.{_≡_, refl, sym, _∙_, ap}
-use mathlib.Core.Bool.{true, false}
-use mathlib.Core.List.{List, [], _∷_, map, map-map}
-use native.Mathlib.Omega.{arith}
-use lib.ListN.{length, length-map}
-use borrow.Author.Tests.{eq-eqb, ne-eqb}
+use Rattle.basics.specs.Words.{ℕ, _+_, _≤_, _≡_, refl, sym, _∙_, ap, true, false, List, [], _∷_, map, map-map, length, length-map, arith, eq-eqb, ne-eqb}
 use Rattle.cells.specs.declared.Cell.{Cell}
 use Rattle.cells.specs.Meaning.Key.{keyOf}
 use Rattle.cells.specs.Inner.Numbers.{Near}

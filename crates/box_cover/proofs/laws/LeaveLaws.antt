@@ -1,13 +1,7 @@
 -- A box that leaves the lists of the cells of a range: no list has it any more, and the others stay in their lists, where one of them may
 -- have moved into its gap. Assumes nothing.
-use Prim.Native.Nat.{ℕ, _+_, _≤_}
-use mathlib.Core.Path.{_≡_, refl, sym, _∙_, ap, ap₂}
-use mathlib.Core.Bool.{Bool, true, false}
-use mathlib.Core.List.{List, [], _∷_, map}
-use native.Mathlib.Omega.{arith}
-use lib.Dec.{eqb}
-use lib.ListN.{length, length-map, getD}
-use borrow.Author.Tests.{eq-eqb, eqb-true, ne-eqb}
+use Rattle.basics.specs.Words.{ℕ, _+_, _≤_, _≡_, refl, sym, _∙_, ap, ap₂, Bool, true, false, List, [], _∷_, map, length, length-map, getD, eqb, arith, eq-eqb}
+use Rattle.basics.specs.Words.{eqb-true, ne-eqb}
 use Rattle.basics.specs.Meaning.Refusals.{pick}
 use Rattle.cells.specs.declared.Cell.{Cell}
 use Rattle.cells.specs.Meaning.Key.{keyOf}

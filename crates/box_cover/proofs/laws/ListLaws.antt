@@ -1,13 +1,6 @@
 -- Lists under two tests, lists that come in and lists that one element is taken out of. Assumes nothing.
-use Prim.Native.Nat.{ℕ, zero, suc, _+_, _<_, _≤_}
-use mathlib.Core.Path.{_≡_, refl, sym, _∙_, ap, ap₂}
-use mathlib.Core.Bool.{Bool, true, false}
-use mathlib.Core.List.{List, [], _∷_, _++_, map}
-use native.Mathlib.Omega.{arith}
-use native.Mathlib.Nat.{not-suc-le-zero, le-of-suc-le-suc, suc-inj}
-use lib.Dec.{eqb}
-use lib.ListN.{length, getD, length-append}
-use borrow.Author.Tests.{ne-eqb, eqb-true}
+use Rattle.basics.specs.Words.{ℕ, zero, suc, _+_, _<_, _≤_, _≡_, refl, sym, _∙_, ap, ap₂, Bool, true, false, List, [], _∷_, _++_, map, length, getD}
+use Rattle.basics.specs.Words.{length-append, eqb, not-suc-le-zero, le-of-suc-le-suc, suc-inj, arith, ne-eqb, eqb-true}
 use Rattle.basics.specs.Meaning.Refusals.{pick}
 use Rattle.cells.specs.Inner.Rising.{Above, Rising}
 use Rattle.storage.specs.Meaning.Keyed.{All, filter, under, appendAll, last, front, close, takeOut}

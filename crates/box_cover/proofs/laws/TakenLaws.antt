@@ -1,12 +1,6 @@
 -- Taking an item out of the lists of keys that rise: each list of a key loses it, and every other list stays. Assumes nothing.
-use Prim.Native.Nat.{ℕ, _+_, _<_, _≤_}
-use mathlib.Core.Path.{_≡_, refl, sym, _∙_, ap}
-use mathlib.Core.Bool.{Bool, true, false}
-use mathlib.Core.List.{List, [], _∷_, _++_, append-nil}
-use native.Mathlib.Omega.{arith}
-use lib.Dec.{ltb, eqb}
-use lib.ListN.{length}
-use borrow.Author.Tests.{eqb-true, eqb-false}
+use Rattle.basics.specs.Words.{ℕ, _+_, _<_, _≤_, _≡_, refl, sym, _∙_, ap, Bool, true, false, List, [], _∷_, _++_, append-nil, length, ltb, eqb, arith, eqb-true}
+use Rattle.basics.specs.Words.{eqb-false}
 use Rattle.basics.specs.Meaning.Refusals.{pick}
 use Rattle.cells.specs.Inner.Rising.{Rising}
 use Rattle.storage.specs.Meaning.Keyed.{All, under, below, above, onList, close, takeOut}

@@ -1,10 +1,5 @@
 -- An item taken out of every list that has it. Assumes nothing.
-use Prim.Native.Nat.{ℕ, _<_, _≤_}
-use mathlib.Core.Path.{_≡_}
-use mathlib.Core.Bool.{false}
-use mathlib.Core.List.{List, [], _∷_, _++_, map}
-use lib.ListN.{length, getD, take}
-use lib.Seq.{slice}
+use Rattle.basics.specs.Words.{ℕ, _<_, _≤_, _≡_, false, List, [], _∷_, _++_, map, length, getD, take, slice}
 use Rattle.cells.specs.declared.Cell.{Cell}
 use Rattle.cells.specs.Inner.Numbers.{Near}
 use Rattle.cells.specs.Inner.Rising.{Rising}

@@ -1,8 +1,6 @@
 -- A box in the lists of the cells that it covers: a range of cells, from the cell of its lower left to that of its upper right. Its entry in
 -- each list is the same item. Assumes nothing.
-use Prim.Native.Nat.{ℕ}
-use mathlib.Core.Path.{_≡_}
-use mathlib.Core.List.{List, [], _∷_, map}
+use Rattle.basics.specs.Words.{ℕ, _≡_, List, [], _∷_, map}
 use Rattle.cells.specs.declared.Cell.{Cell}
 use Rattle.cells.specs.Meaning.Key.{keyOf}
 use Rattle.cells.specs.Meaning.Range.{rangeCells}

@@ -1,10 +1,5 @@
 -- `box_get::get` meets its contract. Assumes nothing.
-use Prim.Native.Nat.{ℕ, _<_}
-use mathlib.Core.Path.{_≡_, sym, ap, _∙_, subst}
-use mathlib.Core.Bool.{true}
-use lib.ListN.{length}
-use borrow.Author.Tests.{not-true, not-false}
-use borrow.Author.Needs.{needs}
+use Rattle.basics.specs.Words.{ℕ, _<_, _≡_, sym, ap, _∙_, subst, true, length, not-true, not-false, needs}
 use Rattle.slots.specs.Meaning.Slot.{good}
 use Rattle.slots.proofs.laws.HandleLaws.{good-says, not-refused}
 use Rattle.box_tables.specs.Meaning.Tables.{Tables, tables, aabbOn, objOn}

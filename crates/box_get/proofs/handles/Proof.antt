@@ -1,8 +1,5 @@
 -- `box_get::handles` meets its contract. Assumes nothing.
-use mathlib.Core.Path.{_≡_, sym, ap, _∙_}
-use native.Mathlib.Omega.{arith}
-use lib.ListN.{length}
-use borrow.Author.Needs.{needs}
+use Rattle.basics.specs.Words.{_≡_, sym, ap, _∙_, length, arith, needs}
 use Rattle.box_tables.specs.Meaning.Tables.{Tables, tables}
 use Rattle.box_tables.specs.Meaning.Decide.{holds-says}
 use Rattle.replies.specs.declared.Count.{Count}

@@ -1,8 +1,5 @@
 -- Clearing leaves tables that hold a box grid: no slot is live, and no entry is in use. Assumes nothing.
-use Prim.Native.Nat.{ℕ, _<_, _≤_}
-use mathlib.Core.Path.{_≡_, _∙_}
-use native.Mathlib.Omega.{arith}
-use lib.ListN.{length, length-map}
+use Rattle.basics.specs.Words.{ℕ, _<_, _≤_, _≡_, _∙_, length, length-map, arith}
 use Rattle.slots.specs.Meaning.Map.{head}
 use Rattle.slots.specs.Meaning.Slot.{live, phaseAt, SlotsHold}
 use Rattle.slot_walks.specs.Meaning.Cleared.{clearedRow, clearedRows, clearedMap}

@@ -1,11 +1,6 @@
 -- `clear`: what each answer leaves and writes, and that tables that hold a grid still do after it. Assumes nothing.
-use Prim.Native.Nat.{ℕ, min}
-use mathlib.Core.Path.{_≡_, sym, ap, _∙_}
-use mathlib.Core.List.{List, map}
-use mathlib.Core.Logic.{⊎-elim}
+use Rattle.basics.specs.Words.{ℕ, min, _≡_, sym, ap, _∙_, List, map, ⊎-elim, length, eq-eqb, ne-eqb}
 use lib.Ieee.{Float}
-use lib.ListN.{length}
-use borrow.Author.Tests.{eq-eqb, ne-eqb}
 use Rattle.basics.proofs.laws.Says.{d-eq}
 use Rattle.basics.specs.Inner.Counting.{countBelow}
 use Rattle.slots.specs.Meaning.Slot.{live, phaseAt}

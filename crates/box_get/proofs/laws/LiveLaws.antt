@@ -1,12 +1,5 @@
 -- The objects are as many as the live slots below the last; and the answer of a call that writes a row for each. Assumes nothing.
-use Prim.Native.Nat.{ℕ, _<_, _≤_}
-use mathlib.Core.Path.{_≡_, refl, sym, ap, _∙_}
-use mathlib.Core.Bool.{Bool, true, false}
-use mathlib.Core.List.{[], _∷_}
-use native.Mathlib.Omega.{arith}
-use lib.Dec.{eqb, leb}
-use lib.ListN.{length}
-use borrow.Author.Tests.{leb-true, le-leb, lt-leb}
+use Rattle.basics.specs.Words.{ℕ, _<_, _≤_, _≡_, refl, sym, ap, _∙_, Bool, true, false, [], _∷_, length, eqb, leb, arith, leb-true, le-leb, lt-leb}
 use Rattle.basics.specs.Meaning.Refusals.{unless, firstOf, pick}
 use Rattle.basics.specs.Inner.Counting.{countBelow}
 use Rattle.slot_walks.proofs.laws.Live.{liveAt}

@@ -1,10 +1,5 @@
 -- The reading calls, answer by answer. Assumes nothing.
-use Prim.Native.Nat.{ℕ}
-use mathlib.Core.Path.{_≡_, sym, ap, _∙_}
-use mathlib.Core.Bool.{true, false}
-use mathlib.Core.List.{List}
-use lib.ListN.{length}
-use borrow.Author.Tests.{eq-eqb, ne-eqb}
+use Rattle.basics.specs.Words.{ℕ, _≡_, sym, ap, _∙_, true, false, List, length, eq-eqb, ne-eqb}
 use Rattle.basics.specs.Inner.Counting.{countBelow}
 use Rattle.geometry.specs.Meaning.Zero.{zero-aabb}
 use Rattle.slots.specs.declared.Handle.{Handle}

@@ -1,9 +1,5 @@
 -- `box_get::len` meets its contract. Assumes nothing.
-use mathlib.Core.Path.{_≡_, sym, ap, _∙_}
-use mathlib.Core.Bool.{true}
-use native.Mathlib.Omega.{arith}
-use borrow.Author.Needs.{needs}
-use borrow.Author.Tests.{not-true, not-false}
+use Rattle.basics.specs.Words.{_≡_, sym, ap, _∙_, true, arith, not-true, not-false, needs}
 use Rattle.box_tables.specs.Meaning.Tables.{Tables, tables}
 use Rattle.box_tables.specs.Meaning.Decide.{holds, holds-says}
 use Rattle.box_get.specs.Meaning.Live.{liveSlots}

@@ -1,9 +1,5 @@
 -- `box_get::list_answer` meets its contract. Assumes nothing.
-use mathlib.Core.Path.{ap, _∙_}
-use native.Mathlib.Omega.{arith}
-use lib.ListN.{length}
-use borrow.Author.Needs.{needs}
-use borrow.Author.Tests.{not-true, not-false}
+use Rattle.basics.specs.Words.{ap, _∙_, length, arith, not-true, not-false, needs}
 use Rattle.slot_walks.specs.Meaning.Live.{liveFrom}
 use Rattle.box_get.proofs.laws.LiveLaws.{by-unheld, by-short, by-done}
 use Rattle.box_get.proofs.list_answer.Statement.{statement}

@@ -1,5 +1,5 @@
 -- `box_get::no_box` meets its contract. Assumes nothing.
-use mathlib.Core.Path.{refl}
+use Rattle.basics.specs.Words.{refl}
 use lib.Ieee.{ofBits}
 use Rattle.box_get.proofs.no_box.Statement.{statement}
 use Rattle.box_get.proofs.no_box.Tie as tie

@@ -1,10 +1,7 @@
 -- `clear` of a box grid writes box and data, ascending by slot, then empties the grid: versions rise as with any emptying. Assumes nothing.
 -- Here: what only inner contracts cite.
-use Prim.Native.Nat.{ℕ, _≤_}
-use mathlib.Core.Path.{_≡_}
-use mathlib.Core.List.{List}
+use Rattle.basics.specs.Words.{ℕ, _≤_, _≡_, List, length}
 use lib.Ieee.{Float}
-use lib.ListN.{length}
 use Rattle.basics.specs.Meaning.Limits.{mostBoxes}
 use Rattle.slot_walks.specs.Meaning.Live.{liveFrom}
 

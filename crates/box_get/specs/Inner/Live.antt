@@ -1,8 +1,6 @@
 -- The objects of a box grid, which are its live slots, and the tests of a call that writes a row for each of them. Assumes nothing.
 -- Here: what only inner contracts cite.
-use Prim.Native.Nat.{ℕ}
-use mathlib.Core.Bool.{Bool}
-use lib.Dec.{eqb}
+use Rattle.basics.specs.Words.{ℕ, Bool, eqb}
 use Rattle.basics.specs.Meaning.Refusals.{pick, byTests}
 use Rattle.replies.specs.declared.Count.{Count}
 use Rattle.replies.specs.Meaning.Replies.{count}

@@ -1,9 +1,6 @@
 -- `clear` of a box grid writes box and data, ascending by slot, then empties the grid: versions rise as with any emptying. Assumes nothing.
-use Prim.Native.Nat.{ℕ, min}
-use mathlib.Core.List.{List, map}
-use lib.Dec.{eqb}
+use Rattle.basics.specs.Words.{ℕ, min, List, map, length, eqb}
 use lib.Ieee.{Float}
-use lib.ListN.{length}
 use Rattle.basics.specs.Meaning.Refusals.{Refusal, pick, byTests}
 use Rattle.storage.specs.Meaning.Keyed.{written}
 use Rattle.slot_walks.specs.Meaning.Cleared.{clearedRows, clearedMap}

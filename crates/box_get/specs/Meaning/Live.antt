@@ -1,9 +1,5 @@
 -- The objects of a box grid, which are its live slots, and the tests of a call that writes a row for each of them. Assumes nothing.
-use Prim.Native.Nat.{ℕ}
-use mathlib.Core.Bool.{Bool}
-use mathlib.Core.List.{List, [], _∷_}
-use lib.Dec.{leb}
-use lib.ListN.{length}
+use Rattle.basics.specs.Words.{ℕ, Bool, List, [], _∷_, length, leb}
 use Rattle.basics.specs.Meaning.Refusals.{Refusal, unless}
 use Rattle.slot_walks.specs.Meaning.Live.{liveFrom}
 use Rattle.box_tables.specs.Meaning.Tables.{Tables}

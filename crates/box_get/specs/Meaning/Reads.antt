@@ -1,8 +1,5 @@
 -- `get`, `len` and `handles` of a box grid: box and data, the number of objects, their handles ascending by slot. Assumes nothing.
-use Prim.Native.Nat.{ℕ}
-use mathlib.Core.List.{List, [], _∷_}
-use lib.Dec.{eqb}
-use lib.ListN.{length}
+use Rattle.basics.specs.Words.{ℕ, List, [], _∷_, length, eqb}
 use Rattle.basics.specs.Meaning.Refusals.{Refusal, unless, pick, byTests}
 use Rattle.geometry.specs.declared.Aabb.{Aabb}
 use Rattle.geometry.specs.Meaning.Zero.{zero-aabb}

@@ -1,12 +1,6 @@
 -- The length law: since an accepted `new`, the number of objects is that of the accepted inserts less the objects taken out. Assumes nothing.
-use Prim.Native.Nat.{ℕ, zero, suc, _+_, _<_}
-use mathlib.Core.Path.{_≡_, refl, ap}
-use mathlib.Core.List.{List, [], _∷_}
-use native.Mathlib.Omega.{arith}
-use lib.Dec.{eqb}
+use Rattle.basics.specs.Words.{ℕ, zero, suc, _+_, _<_, _≡_, refl, ap, List, [], _∷_, length, eqb, arith, eqb-true, eqb-false, ne-eqb}
 use lib.Ieee.{Float}
-use lib.ListN.{length}
-use borrow.Author.Tests.{eqb-true, eqb-false, ne-eqb}
 use Rattle.basics.specs.Inner.Counting.{one, countBelow}
 use Rattle.slots.specs.Meaning.Slot.{live, phaseAt}
 use Rattle.slot_walks.proofs.laws.Live.{liveAt}

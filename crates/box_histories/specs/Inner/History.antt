@@ -1,8 +1,6 @@
 -- A history: the calls that change the tables of a box grid, one after the other, accepted or refused. The calls that only read change
 -- nothing. Assumes nothing.
-use Prim.Native.Nat.{ℕ, _+_}
-use mathlib.Core.List.{List, [], _∷_}
-use lib.Dec.{eqb}
+use Rattle.basics.specs.Words.{ℕ, _+_, List, [], _∷_, eqb}
 use lib.Ieee.{Float}
 use Rattle.basics.specs.Meaning.Refusals.{pick}
 use Rattle.geometry.specs.declared.Aabb.{Aabb}

@@ -1,10 +1,6 @@
 -- Tables in which one slot changes: what held of the other slots still does, and so the tables hold a grid if the slot is as it must be
 -- and its box stands where it should. Assumes nothing.
-use Prim.Native.Nat.{ℕ, _<_}
-use mathlib.Core.Path.{_≡_, sym, _∙_}
-use mathlib.Core.List.{List, []}
-use mathlib.Core.Logic.{_⊎_, inl, inr, ⊎-elim}
-use lib.ListN.{getD}
+use Rattle.basics.specs.Words.{ℕ, _<_, _≡_, sym, _∙_, List, [], _⊎_, inl, inr, ⊎-elim, getD}
 use Rattle.basics.proofs.laws.Says.{d-eq}
 use Rattle.slots.specs.Meaning.Slot.{live, phaseAt, SlotsHold}
 use Rattle.storage.specs.Meaning.Keyed.{All}

@@ -1,12 +1,6 @@
 -- An accepted insert leaves tables that hold a grid, part by part: the head words, the slots, the boxes and the entries. Assumes nothing.
-use Prim.Native.Nat.{ℕ, _+_, _<_, _≤_}
-use mathlib.Core.Path.{_≡_, refl, sym, _∙_, ap}
-use mathlib.Core.List.{[], _∷_}
-use mathlib.Core.Logic.{inl, inr}
-use native.Mathlib.Omega.{arith}
-use lib.Dec.{T, eqb}
-use lib.ListN.{length, getD, take, drop, length-set}
-use lib.Seq.{getD-set-same, getD-set-other, take-append-seam}
+use Rattle.basics.specs.Words.{ℕ, _+_, _<_, _≤_, _≡_, refl, sym, _∙_, ap, [], _∷_, inl, inr, length, getD, take, drop, length-set, getD-set-same}
+use Rattle.basics.specs.Words.{getD-set-other, take-append-seam, T, eqb, arith}
 use Rattle.basics.specs.Meaning.Limits.{mostCells}
 use Rattle.geometry.specs.declared.Aabb.{Aabb}
 use Rattle.geometry.specs.Meaning.Domain.{aabbInDomain}

@@ -1,12 +1,5 @@
 -- `insert`: exactly when each answer is given, what it then leaves, and that tables that hold a grid still do after it. Assumes nothing.
-use Prim.Native.Nat.{ℕ, _+_, _≤_}
-use mathlib.Core.Path.{_≡_, refl, _∙_}
-use mathlib.Core.Bool.{Bool, true, false}
-use mathlib.Core.List.{[], _∷_}
-use native.Mathlib.Omega.{arith}
-use lib.Dec.{T, eqb}
-use lib.ListN.{length}
-use borrow.Author.Tests.{leb-true, le-leb, ne-eqb}
+use Rattle.basics.specs.Words.{ℕ, _+_, _≤_, _≡_, refl, _∙_, Bool, true, false, [], _∷_, length, T, eqb, arith, leb-true, le-leb, ne-eqb}
 use Rattle.basics.specs.Meaning.Limits.{mostCells}
 use Rattle.basics.specs.Meaning.Says.{Says}
 use Rattle.basics.proofs.laws.Says.{says-t, not-said}

@@ -1,12 +1,5 @@
 -- How many slots are live, and how a call that changes one row changes that. Assumes nothing.
-use Prim.Native.Nat.{ℕ, zero, suc, _+_, _<_}
-use mathlib.Core.Path.{_≡_, refl, ap}
-use mathlib.Core.Bool.{Bool}
-use mathlib.Core.List.{List}
-use native.Mathlib.Omega.{arith}
-use lib.Dec.{eqb}
-use lib.ListN.{length, getD, set, length-set}
-use borrow.Author.Tests.{eq-eqb, ne-eqb}
+use Rattle.basics.specs.Words.{ℕ, zero, suc, _+_, _<_, _≡_, refl, ap, List, length, getD, set, length-set, eqb, arith, eq-eqb, ne-eqb}
 use Rattle.basics.specs.Inner.Counting.{one, countBelow}
 use Rattle.slots.specs.Meaning.Slot.{live, phaseAt}
 use Rattle.slots.proofs.laws.Slot.{inPhase}

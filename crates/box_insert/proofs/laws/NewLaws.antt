@@ -1,8 +1,5 @@
 -- Freshly built tables hold a grid; building that is refused leaves the tables. Assumes nothing.
-use Prim.Native.Nat.{ℕ}
-use mathlib.Core.Path.{_≡_}
-use native.Mathlib.Omega.{arith}
-use lib.ListN.{length-replicate}
+use Rattle.basics.specs.Words.{ℕ, _≡_, length-replicate, arith}
 use Rattle.cells.specs.Meaning.Size.{SizeInDomain}
 use Rattle.blank.specs.Meaning.Blank.{sizeOk}
 use Rattle.blank.proofs.laws.BlankLaws.{blank-length, blank-holds, blank-not-live, size-says}

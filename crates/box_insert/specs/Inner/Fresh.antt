@@ -1,9 +1,5 @@
 -- What the steps of an insert are asked for and give. Assumes nothing.
-use Prim.Native.Nat.{ℕ, _+_, _<_, _≤_}
-use mathlib.Core.Path.{_≡_}
-use mathlib.Core.List.{List}
-use lib.Dec.{T}
-use lib.ListN.{length, getD}
+use Rattle.basics.specs.Words.{ℕ, _+_, _<_, _≤_, _≡_, List, length, getD, T}
 use Rattle.basics.specs.Meaning.Limits.{mostBoxes, mostEntries, mostCells}
 use Rattle.geometry.specs.declared.Aabb.{Aabb}
 use Rattle.geometry.specs.Meaning.Domain.{aabbInDomain}

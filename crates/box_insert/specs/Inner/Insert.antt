@@ -1,11 +1,6 @@
 -- `insert`: the lowest usable slot takes the box, which goes to the end of the list of every cell that it covers. Assumes nothing.
 -- Here: what only inner contracts cite.
-use Prim.Native.Nat.{ℕ, _+_}
-use mathlib.Core.Path.{_≡_}
-use mathlib.Core.Bool.{Bool}
-use mathlib.Core.List.{List}
-use lib.Dec.{leb}
-use lib.ListN.{length, getD}
+use Rattle.basics.specs.Words.{ℕ, _+_, _≡_, Bool, List, length, getD, leb}
 use Rattle.basics.specs.Meaning.Refusals.{firstOf}
 use Rattle.geometry.specs.declared.Aabb.{Aabb}
 use Rattle.geometry.specs.Meaning.Domain.{aabbInDomain}

@@ -1,9 +1,5 @@
 -- `insert`: the lowest usable slot takes the box, which goes to the end of the list of every cell that it covers. Assumes nothing.
-use Prim.Native.Nat.{ℕ, _+_}
-use mathlib.Core.List.{List, [], _∷_}
-use mathlib.Core.Bool.{Bool}
-use lib.Dec.{leb}
-use lib.ListN.{length, set}
+use Rattle.basics.specs.Words.{ℕ, _+_, Bool, List, [], _∷_, length, set, leb}
 use Rattle.basics.specs.Meaning.Limits.{mostCells}
 use Rattle.basics.specs.Meaning.Refusals.{Refusal, unless, firstOf, byTests}
 use Rattle.geometry.specs.Meaning.Domain.{aabbInDomain}

@@ -1,6 +1,5 @@
 -- Building: every slot is free at version 1, no list has an entry. It looks at lengths only for 3. Assumes nothing.
-use Prim.Native.Nat.{ℕ}
-use mathlib.Core.List.{List, [], _∷_}
+use Rattle.basics.specs.Words.{ℕ, List, [], _∷_}
 use Rattle.basics.specs.Meaning.Refusals.{Refusal, unless, firstOf, byTests}
 use Rattle.blank.specs.Meaning.Blank.{blankNums, blankMap, sizeOk}
 use Rattle.box_tables.specs.Meaning.Tables.{Tables, tables, slotsOf}

@@ -1,13 +1,6 @@
 -- The answers of the two queries, one by one. Assumes nothing.
-use Prim.Native.Nat.{ℕ, _<_, _≤_}
-use mathlib.Core.Path.{_≡_, refl, sym, ap, _∙_}
-use mathlib.Core.Bool.{Bool, true, false}
-use mathlib.Core.List.{List, [], _∷_, map}
-use native.Mathlib.Omega.{arith}
-use lib.Dec.{eqb, leb}
+use Rattle.basics.specs.Words.{ℕ, _<_, _≤_, _≡_, refl, sym, ap, _∙_, Bool, true, false, List, [], _∷_, map, length, eqb, leb, arith, le-leb, lt-leb}
 use lib.Ieee.{Float}
-use lib.ListN.{length}
-use borrow.Author.Tests.{le-leb, lt-leb}
 use Rattle.basics.specs.Meaning.Limits.{mostCells}
 use Rattle.basics.specs.Meaning.Refusals.{unless, firstOf, pick}
 use Rattle.geometry.specs.declared.Aabb.{Aabb}

@@ -1,11 +1,7 @@
 -- What `query_broad` finds in tables that hold a grid: a slot is found exactly when it is occupied and its box shares a cell with the
 -- query box, and no slot is found twice. `query` finds those of them that the query box intersects: it is not said that these are all
 -- boxes that it intersects. Assumes nothing.
-use Prim.Native.Nat.{ℕ, _/_, _<_}
-use mathlib.Core.Path.{_≡_, refl, sym, ap, _∙_, subst}
-use mathlib.Core.Bool.{Bool, true}
-use mathlib.Core.List.{List, map, List·Memᴰ, Memᴰ·cast, Memᴰ·map, Memᴰ·of-map}
-use lib.Dec.{T, eqb}
+use Rattle.basics.specs.Words.{ℕ, _/_, _<_, _≡_, refl, sym, ap, _∙_, subst, Bool, true, List, map, List·Memᴰ, Memᴰ·cast, Memᴰ·map, Memᴰ·of-map, T, eqb}
 use Rattle.geometry.specs.declared.Aabb.{Aabb}
 use Rattle.geometry.specs.Meaning.Domain.{aabbInDomain}
 use Rattle.geometry.specs.Meaning.Intersects.{intersects}

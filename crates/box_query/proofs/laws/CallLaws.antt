@@ -1,12 +1,6 @@
 -- From what looking came to to what the two calls come to. Assumes nothing.
-use Prim.Native.Nat.{ℕ, _<_, _≤_}
-use mathlib.Core.Path.{_≡_, sym, ap, _∙_, subst}
-use mathlib.Core.List.{List, map}
-use native.Mathlib.Omega.{arith}
-use lib.Dec.{T}
+use Rattle.basics.specs.Words.{ℕ, _<_, _≤_, _≡_, sym, ap, _∙_, subst, List, map, length, getD, take, length-take-le, getD-take, T, arith}
 use lib.Ieee.{Float}
-use lib.ListN.{length, getD, take}
-use lib.Seq.{length-take-le, getD-take}
 use Rattle.geometry.specs.declared.Aabb.{Aabb}
 use Rattle.geometry.specs.Meaning.Domain.{aabbInDomain}
 use Rattle.geometry.specs.Meaning.Intersects.{intersects}

@@ -1,11 +1,6 @@
 -- What the two queries make of document 01's cases, whatever else the grid holds: a box that intersects by rounding is reported at size 10
 -- and not at size 1, where no cell is shared; a range of 4,096 cells is accepted, and one of 4,160 gets answer 7. Assumes nothing.
-use Prim.Native.Nat.{ℕ, _<_}
-use mathlib.Core.Path.{_≡_, refl, sym, ap, _∙_}
-use mathlib.Core.Bool.{true, false}
-use mathlib.Core.List.{List, List·Memᴰ}
-use native.Mathlib.Omega.{arith}
-use lib.Dec.{T}
+use Rattle.basics.specs.Words.{ℕ, _<_, _≡_, refl, sym, ap, _∙_, true, false, List, List·Memᴰ, T, arith}
 use lib.Ieee.{Float, ofBits, lt, le, eq, add, sub, neg, fits}
 use Rattle.basics.proofs.laws.Says.{apart}
 use Rattle.geometry.specs.Meaning.Domain.{aabbInDomain}

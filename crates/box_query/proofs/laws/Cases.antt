@@ -1,10 +1,6 @@
 -- Document 01's cases of boxes and cells, as data and one computed test: whether the query box intersects the stored one and whether
 -- their ranges share a cell; how many cells a box covers. Numbers are bit patterns. Assumes nothing.
-use Prim.Native.Nat.{ℕ}
-use mathlib.Core.Path.{_≡_, refl}
-use mathlib.Core.Bool.{Bool, true, false, _&&_, Bool·beq}
-use mathlib.Core.List.{List, [], _∷_}
-use lib.Dec.{eqb}
+use Rattle.basics.specs.Words.{ℕ, _≡_, refl, Bool, true, false, _&&_, Bool·beq, List, [], _∷_, eqb}
 use lib.Ieee.{binary32, ofBits, lt, le, eq, add, sub, neg}
 use Rattle.geometry.specs.declared.Aabb.{Aabb}
 use Rattle.geometry.specs.Meaning.Intersects.{overlaps, intersects}

@@ -1,12 +1,7 @@
 -- Collecting slot after slot, and stretch after stretch of the walk. Assumes nothing.
-use Prim.Native.Nat.{ℕ, _+_, _<_, _≤_}
-use mathlib.Core.Path.{_≡_, refl, sym, ap, _∙_, subst}
-use mathlib.Core.Bool.{Bool, true, false}
-use mathlib.Core.List.{List, [], _∷_, _++_, append-nil, append-assoc, map, map-append, map-id}
-use native.Mathlib.Omega.{arith}
-use native.Mathlib.Numerals.{add-one}
-use lib.ListN.{length, getD, set, take, drop, replicate, length-append, length-set, length-replicate, take-append-drop}
-use lib.Seq.{slice, take-suc, take-suc-set, drop-append-le, drop-length, take-take, length-take-le, slice-empty}
+use Rattle.basics.specs.Words.{ℕ, _+_, _<_, _≤_, _≡_, refl, sym, ap, _∙_, subst, Bool, true, false, List, [], _∷_, _++_, append-nil, append-assoc, map}
+use Rattle.basics.specs.Words.{map-append, map-id, length, getD, set, take, drop, replicate, length-append, length-set, length-replicate, take-append-drop}
+use Rattle.basics.specs.Words.{slice, take-suc, take-suc-set, drop-append-le, drop-length, take-take, length-take-le, slice-empty, add-one, arith}
 use Rattle.basics.specs.Meaning.Refusals.{pick}
 use Rattle.cells.specs.Inner.Key.{columnOf, lineOf}
 use Rattle.storage.specs.declared.Run.{Run}

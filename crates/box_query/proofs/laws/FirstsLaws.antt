@@ -1,10 +1,6 @@
 -- What `firsts` keeps: the same numbers, and no number twice. Assumes nothing.
-use Prim.Native.Nat.{ℕ}
-use mathlib.Core.Path.{_≡_, sym, ap, _∙_}
-use mathlib.Core.Bool.{Bool, true, not}
-use mathlib.Core.List.{List, [], _∷_, List·Memᴰ, List·Memᴰ·head, List·Memᴰ·tail, List·Memᴰ·cases-cons, List·Memᴰ·not-nil}
-use mathlib.Core.Logic.{⊎-elim}
-use borrow.Author.Tests.{eq-eqb, ne-eqb}
+use Rattle.basics.specs.Words.{ℕ, _≡_, sym, ap, _∙_, Bool, true, not, List, [], _∷_, List·Memᴰ, List·Memᴰ·head, List·Memᴰ·tail, List·Memᴰ·cases-cons}
+use Rattle.basics.specs.Words.{List·Memᴰ·not-nil, ⊎-elim, eq-eqb, ne-eqb}
 use Rattle.basics.proofs.laws.Says.{apart, d-eq}
 use Rattle.storage.specs.Meaning.Keyed.{All, filter}
 use Rattle.storage.proofs.laws.FilterLaws.{by-test, filter-all, filter-gives}

@@ -1,12 +1,6 @@
 -- Keeping those of a list that pass, in place: the first j are looked at, and k of them kept. Assumes nothing.
-use Prim.Native.Nat.{ℕ, _+_, _<_, _≤_}
-use mathlib.Core.Path.{_≡_, refl, sym, ap, _∙_}
-use mathlib.Core.Bool.{Bool, true, false}
-use mathlib.Core.List.{List, [], _∷_, _++_, append-nil}
-use native.Mathlib.Omega.{arith}
-use native.Mathlib.Numerals.{add-one}
-use lib.ListN.{length, getD, set, take, drop, length-set}
-use lib.Seq.{take-suc, take-suc-set, drop-set-lt, drop-drop, getD-drop}
+use Rattle.basics.specs.Words.{ℕ, _+_, _<_, _≤_, _≡_, refl, sym, ap, _∙_, Bool, true, false, List, [], _∷_, _++_, append-nil, length, getD, set, take, drop}
+use Rattle.basics.specs.Words.{length-set, take-suc, take-suc-set, drop-set-lt, drop-drop, getD-drop, add-one, arith}
 use Rattle.storage.specs.Meaning.Keyed.{filter}
 use Rattle.storage.proofs.laws.FilterLaws.{filter-append, filter-keep, filter-skip}
 

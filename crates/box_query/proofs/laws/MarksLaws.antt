@@ -1,13 +1,6 @@
 -- Collecting with marks is `firsts`, list after list, and there is room for what it collects. Assumes nothing.
-use Prim.Native.Nat.{ℕ, zero, suc, _+_, _<_, _≤_}
-use mathlib.Core.Path.{_≡_, refl, sym, ap, _∙_}
-use mathlib.Core.Bool.{Bool, true, false, not, _&&_}
-use mathlib.Core.List.{List, [], _∷_, _++_}
-use mathlib.Core.Logic.{⊎-elim}
-use native.Mathlib.Omega.{arith}
-use lib.ListN.{length, getD, set, replicate, length-set, length-replicate, getD-replicate}
-use borrow.Author.Tests.{eq-eqb}
-use lib.Seq.{getD-set-same, getD-set-other}
+use Rattle.basics.specs.Words.{ℕ, zero, suc, _+_, _<_, _≤_, _≡_, refl, sym, ap, _∙_, Bool, true, false, not, _&&_, List, [], _∷_, _++_, ⊎-elim, length, getD}
+use Rattle.basics.specs.Words.{set, replicate, length-set, length-replicate, getD-replicate, getD-set-same, getD-set-other, arith, eq-eqb}
 use Rattle.basics.specs.Meaning.Refusals.{pick}
 use Rattle.basics.proofs.laws.Says.{d-eq}
 use Rattle.storage.specs.Meaning.Keyed.{All, filter}

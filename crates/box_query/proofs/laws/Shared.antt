@@ -1,7 +1,5 @@
 -- The boxes that the walk of a query box meets: those whose range of cells shares a cell with its range. Assumes nothing.
-use Prim.Native.Nat.{ℕ, _<_}
-use mathlib.Core.Path.{_≡_}
-use mathlib.Core.Bool.{Bool, true, _&&_}
+use Rattle.basics.specs.Words.{ℕ, _<_, _≡_, Bool, true, _&&_}
 use lib.Signed.{leZ}
 use Rattle.geometry.specs.declared.Aabb.{Aabb}
 use Rattle.cells.specs.declared.Cell.{Cell}

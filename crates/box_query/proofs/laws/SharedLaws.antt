@@ -1,11 +1,5 @@
 -- Two boxes share a cell exactly when, on both axes, neither range of cells ends before the other begins. Assumes nothing.
-use Prim.Native.Nat.{ℕ, suc, _+_, _<_, _≤_}
-use mathlib.Core.Path.{_≡_, sym, ap, _∙_}
-use mathlib.Core.Bool.{Bool, true, false, _&&_}
-use mathlib.Core.Logic.{inl, inr}
-use mathlib.Core.List.{List·Memᴰ}
-use lib.Dec.{T}
-use lib.IntN.{ℤ, pos, _+ℤ_}
+use Rattle.basics.specs.Words.{ℕ, suc, _+_, _<_, _≤_, _≡_, sym, ap, _∙_, Bool, true, false, _&&_, List·Memᴰ, inl, inr, T, ℤ, pos, _+ℤ_}
 use lib.Signed.{leZ}
 use Rattle.basics.proofs.laws.Says.{apart, both-true, and-true, says-t}
 use Rattle.geometry.specs.declared.Aabb.{Aabb}

@@ -1,12 +1,6 @@
 -- The walk of a query box in tables that hold a grid: the entries whose cell is in its range, in the pool's own order; and what gathering
 -- makes of them. Assumes nothing.
-use Prim.Native.Nat.{ℕ, _<_}
-use mathlib.Core.Path.{_≡_, sym, ap, _∙_, subst}
-use mathlib.Core.Bool.{true}
-use mathlib.Core.List.{List, map, List·Memᴰ}
-use native.Mathlib.Omega.{arith}
-use lib.Dec.{T}
-use lib.ListN.{take}
+use Rattle.basics.specs.Words.{ℕ, _<_, _≡_, sym, ap, _∙_, subst, true, List, map, List·Memᴰ, take, T, arith}
 use Rattle.geometry.specs.declared.Aabb.{Aabb}
 use Rattle.geometry.specs.Meaning.Domain.{aabbInDomain}
 use Rattle.cells.specs.declared.Cell.{Cell}
@@ -25,7 +19,7 @@ use Rattle.storage.specs.Inner.Window.{windowOf}
 use Rattle.storage.proofs.laws.WindowLaws.{range-fits}
 use Rattle.storage.proofs.laws.WalkLaws.{walked-window}
 use Rattle.storage.proofs.laws.RunStepLaws.{key-windows}
-use Rattle.box_tables.specs.Meaning.Tables.{Tables, sizeOf, usedOf, slotsOf, entriesIn, aabbOn, lowCell, highCell, covers, itemOn, slotOf}
+use Rattle.box_tables.specs.Meaning.Tables.{Tables, sizeOf, usedOf, slotsOf, entriesIn, aabbOn, lowCell, highCell, itemOn, slotOf}
 use Rattle.box_tables.specs.Meaning.Holds.{Holds}
 use Rattle.box_tables.proofs.laws.BoxLaws as Box
 use Rattle.box_tables.proofs.laws.HoldsLaws.{Named, named-slot, used-in-pool, entries-sorted, entries-named, low-near, high-near}

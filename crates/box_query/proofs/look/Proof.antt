@@ -1,12 +1,5 @@
 -- `box_query::look` meets its contract. Assumes nothing.
-use Prim.Native.Nat.{ℕ, _≤_, _<_}
-use mathlib.Core.Path.{_≡_, sym, ap, _∙_, subst}
-use mathlib.Core.Bool.{true}
-use native.Mathlib.Omega.{arith}
-use lib.Dec.{T}
-use lib.ListN.{length, take}
-use borrow.Author.Needs.{needs}
-use borrow.Author.Tests.{not-true, not-false}
+use Rattle.basics.specs.Words.{ℕ, _≤_, _<_, _≡_, sym, ap, _∙_, subst, true, length, take, T, arith, not-true, not-false, needs}
 use Rattle.geometry.specs.Meaning.Domain.{aabbInDomain}
 use Rattle.cells.specs.Meaning.Key.{keyOf}
 use Rattle.storage.specs.Inner.Keyed.{Sorted}

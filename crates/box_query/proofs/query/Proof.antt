@@ -1,8 +1,5 @@
 -- `box_query::query` meets its contract. Assumes nothing.
-use Prim.Native.Nat.{min}
-use native.Mathlib.Omega.{arith}
-use mathlib.Core.Path.{_≡_, ap, _∙_}
-use borrow.Author.Needs.{needs}
+use Rattle.basics.specs.Words.{min, _≡_, ap, _∙_, arith, needs}
 use Rattle.box_tables.specs.Meaning.Tables.{Tables, tables}
 use Rattle.box_query.specs.Meaning.Queries.{roomOf}
 use Rattle.box_query.proofs.laws.CallLaws.{query-refused, looked-rows, looked-boxes, kept-found, query-short, query-done}

@@ -1,7 +1,5 @@
 -- `box_query::query_broad` meets its contract. Assumes nothing.
-use mathlib.Core.Path.{sym, subst}
-use lib.ListN.{length}
-use borrow.Author.Needs.{needs}
+use Rattle.basics.specs.Words.{sym, subst, length, needs}
 use Rattle.box_tables.specs.Meaning.Tables.{Tables, tables}
 use Rattle.box_query.specs.Inner.Put.{Found}
 use Rattle.box_query.proofs.laws.CallLaws.{broad-refused, looked-found, broad-short, broad-done}

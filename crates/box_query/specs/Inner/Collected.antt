@@ -1,9 +1,5 @@
 -- What collecting the slots of a list behind the first n of `fs`, with the marks m, comes to. Assumes nothing.
-use Prim.Native.Nat.{ℕ, _+_, _≤_}
-use mathlib.Core.Path.{_≡_}
-use mathlib.Core.Bool.{Bool}
-use mathlib.Core.List.{List, _++_}
-use lib.ListN.{length, take}
+use Rattle.basics.specs.Words.{ℕ, _+_, _≤_, _≡_, Bool, List, _++_, length, take}
 use Rattle.basics.specs.Meaning.Limits.{mostBoxes}
 use Rattle.box_query.specs.Inner.Marks.{marksAfter, firstMet, unmarked}
 use Rattle.box_query.specs.Inner.Gather.{Slots}

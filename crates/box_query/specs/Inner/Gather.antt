@@ -1,7 +1,5 @@
 -- The slots that the entries of a stretch of the pool name, and the entries of a range that is given by two keys. Assumes nothing.
-use Prim.Native.Nat.{ℕ, _/_, _<_}
-use mathlib.Core.List.{List, map}
-use lib.Seq.{slice}
+use Rattle.basics.specs.Words.{ℕ, _/_, _<_, List, map, slice}
 use Rattle.basics.specs.Meaning.Limits.{mostBoxes}
 use Rattle.cells.specs.Inner.Key.{columnOf, lineOf}
 use Rattle.storage.specs.Meaning.Keyed.{filter}

@@ -1,8 +1,5 @@
 -- What looking for the boxes of a range comes to, before it is known whether the outputs have room. Assumes nothing.
-use Prim.Native.Nat.{ℕ, _≤_}
-use mathlib.Core.Path.{_≡_}
-use mathlib.Core.List.{List}
-use lib.ListN.{length, take}
+use Rattle.basics.specs.Words.{ℕ, _≤_, _≡_, List, length, take}
 use Rattle.basics.specs.Meaning.Limits.{mostBoxes}
 use Rattle.geometry.specs.declared.Aabb.{Aabb}
 use Rattle.box_tables.specs.Meaning.Tables.{Tables}

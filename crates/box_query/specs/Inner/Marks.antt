@@ -1,8 +1,5 @@
 -- Collecting slots with marks: a slot that has no mark is taken and marked. Assumes nothing.
-use Prim.Native.Nat.{ℕ, _+_}
-use mathlib.Core.Bool.{Bool, true, false}
-use mathlib.Core.List.{List, [], _∷_}
-use lib.ListN.{getD, set}
+use Rattle.basics.specs.Words.{ℕ, _+_, Bool, true, false, List, [], _∷_, getD, set}
 use Rattle.basics.specs.Meaning.Refusals.{pick}
 
 -- the marks after the slots of a list

@@ -1,9 +1,6 @@
 -- What is asked of the slots that were found: each has a row. What is kept and reported of them. Assumes nothing.
-use Prim.Native.Nat.{ℕ, _<_, _≤_}
-use mathlib.Core.Path.{_≡_}
-use mathlib.Core.List.{List, map}
+use Rattle.basics.specs.Words.{ℕ, _<_, _≤_, _≡_, List, map, length, getD}
 use lib.Ieee.{Float}
-use lib.ListN.{length, getD}
 use Rattle.basics.specs.Meaning.Limits.{mostBoxes}
 use Rattle.geometry.specs.declared.Aabb.{Aabb}
 use Rattle.geometry.specs.Meaning.Intersects.{intersects}

@@ -1,8 +1,5 @@
 -- Each number of a list once, at its first place. Assumes nothing.
-use Prim.Native.Nat.{ℕ}
-use mathlib.Core.Bool.{Bool, not}
-use mathlib.Core.List.{List, [], _∷_}
-use lib.Dec.{eqb}
+use Rattle.basics.specs.Words.{ℕ, Bool, not, List, [], _∷_, eqb}
 use Rattle.storage.specs.Meaning.Keyed.{filter}
 
 abbrev pub isOther : ℕ → ℕ → Bool

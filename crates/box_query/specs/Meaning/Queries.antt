@@ -1,10 +1,7 @@
 -- `query_broad` and `query`: the boxes of a range of cells, each once, at its first place in the walk; of these `query` keeps those for
 -- which `intersects` holds, the query box first. Assumes nothing.
-use Prim.Native.Nat.{ℕ, min}
-use mathlib.Core.List.{List, [], _∷_, map}
-use lib.Dec.{eqb, leb}
+use Rattle.basics.specs.Words.{ℕ, min, List, [], _∷_, map, length, eqb, leb}
 use lib.Ieee.{Float}
-use lib.ListN.{length}
 use Rattle.basics.specs.Meaning.Limits.{mostCells}
 use Rattle.basics.specs.Meaning.Refusals.{Refusal, unless, firstOf, pick, byTests}
 use Rattle.geometry.specs.declared.Aabb.{Aabb}

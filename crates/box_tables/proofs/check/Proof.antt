@@ -1,8 +1,5 @@
 -- `box_tables::check` meets its contract. Past each test stands what it says, and the parts make up the whole. Assumes nothing.
-use mathlib.Core.Path.{_≡_, sym, _∙_}
-use native.Mathlib.Omega.{arith}
-use borrow.Author.Needs.{needs}
-use borrow.Author.Tests.{not-true, not-false}
+use Rattle.basics.specs.Words.{_≡_, sym, _∙_, arith, not-true, not-false, needs}
 use Rattle.basics.proofs.laws.Says.{says-no, apart}
 use Rattle.box_tables.specs.Meaning.Tables.{Tables, tables, sizeOf, usedOf, Sized}
 use Rattle.box_tables.proofs.laws.CheckLaws.{CountsOf, SlotsOf, slot-room, pool-ready, whole, counts-of, slots-of, passes-of}

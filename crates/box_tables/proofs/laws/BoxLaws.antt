@@ -1,9 +1,5 @@
 -- A box of the domain: its corner cells are near, and they are not reversed; and the item of a slot tells the slot. Assumes nothing.
-use Prim.Native.Nat.{ℕ, _/_, _≤_}
-use mathlib.Core.Path.{_≡_}
-use mathlib.Core.Bool.{Bool, true, false, _&&_}
-use native.Mathlib.Omega.{arith}
-use lib.Dec.{T}
+use Rattle.basics.specs.Words.{ℕ, _/_, _≤_, _≡_, Bool, true, false, _&&_, T, arith}
 use lib.Signed.{leZ}
 use lib.Ieee.{le}
 use lib.Ieee.Fits.{and-l, and-r}

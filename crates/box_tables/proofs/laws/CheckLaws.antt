@@ -1,13 +1,5 @@
 -- The parts of the check make up what it is to hold a grid, and each follows from it. Assumes nothing.
-use Prim.Native.Nat.{ℕ, _/_, _<_, _≤_}
-use mathlib.Core.Path.{_≡_, refl, sym, ap, _∙_, subst}
-use mathlib.Core.Bool.{false}
-use mathlib.Core.Logic.{inl, inr}
-use mathlib.Core.List.{List, [], map}
-use native.Mathlib.Omega.{arith}
-use lib.Dec.{eqb}
-use lib.ListN.{length, getD}
-use borrow.Author.Tests.{ne-eqb}
+use Rattle.basics.specs.Words.{ℕ, _/_, _<_, _≤_, _≡_, refl, sym, ap, _∙_, subst, false, List, [], map, inl, inr, length, getD, eqb, arith, ne-eqb}
 use Rattle.basics.specs.Meaning.Says.{Decided}
 use Rattle.basics.proofs.laws.Says.{d-eq, d-lt, d-and}
 use Rattle.cells.specs.Meaning.Key.{keyOf}

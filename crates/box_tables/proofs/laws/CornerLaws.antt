@@ -1,14 +1,7 @@
 -- The corners of a box: their coordinates are in the domain, their cells are not reversed; how many cells there are between two corners by their
 -- keys; and the way of a box of one cell. Assumes nothing.
-use Prim.Native.Nat.{ℕ, _+_, _-_, _*_, _≤_, _<_}
-use mathlib.Core.Path.{_≡_, sym, ap, ap₂, _∙_, subst}
-use mathlib.Core.Bool.{true}
-use mathlib.Core.List.{List, [], _∷_}
-use native.Mathlib.Omega.{arith}
-use lib.Dec.{T, eqb}
-use lib.IntN.{ℤ}
+use Rattle.basics.specs.Words.{ℕ, _+_, _-_, _*_, _≤_, _<_, _≡_, sym, ap, ap₂, _∙_, subst, true, List, [], _∷_, T, eqb, ℤ, arith, eq-eqb}
 use lib.Signed.{mag}
-use borrow.Author.Tests.{eq-eqb}
 use Rattle.basics.specs.Meaning.Limits.{mostCells}
 use Rattle.geometry.specs.declared.Aabb.{Aabb}
 use Rattle.geometry.specs.Meaning.Domain.{inDomain, aabbInDomain}

@@ -1,10 +1,5 @@
 -- The map with another number of entries in use: size, bits and length stay. Assumes nothing.
-use Prim.Native.Nat.{ℕ, _+_, _/_, _≤_}
-use mathlib.Core.Path.{_≡_, _∙_}
-use mathlib.Core.List.{List}
-use native.Mathlib.Omega.{arith}
-use lib.ListN.{length, getD, length-set}
-use lib.Seq.{getD-set-same, getD-set-other}
+use Rattle.basics.specs.Words.{ℕ, _+_, _/_, _≤_, _≡_, _∙_, List, length, getD, length-set, getD-set-same, getD-set-other, arith}
 use Rattle.slots.specs.Meaning.Map.{head, usable}
 use Rattle.slots.specs.Meaning.Slot.{SlotsHold}
 use Rattle.box_tables.specs.Meaning.Tables.{counting}

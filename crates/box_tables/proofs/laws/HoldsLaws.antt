@@ -1,15 +1,7 @@
 -- What follows from tables that hold a grid: lengths, the order of the entries, what each names; and, the other way, tables that hold a
 -- grid by facts of the list of their entries. Assumes nothing.
-use Prim.Native.Nat.{ℕ, _/_, _<_, _≤_}
-use mathlib.Core.Path.{_≡_, sym, ap, _∙_, subst}
-use mathlib.Core.Bool.{Bool, false}
-use mathlib.Core.List.{List, []}
-use native.Mathlib.Omega.{arith}
-use lib.Dec.{eqb}
-use lib.ListN.{length}
-use lib.Seq.{length-take-le}
-use mathlib.Core.Logic.{inl, inr}
-use borrow.Author.Tests.{eqb-true, eq-eqb, ne-eqb}
+use Rattle.basics.specs.Words.{ℕ, _/_, _<_, _≤_, _≡_, sym, ap, _∙_, subst, Bool, false, List, [], inl, inr, length, length-take-le, eqb, arith, eqb-true}
+use Rattle.basics.specs.Words.{eq-eqb, ne-eqb}
 use Rattle.basics.specs.Meaning.Says.{Says}
 use Rattle.basics.proofs.laws.Says.{says-same, says-via, d-lt}
 use Rattle.cells.specs.Inner.Numbers.{Near}

@@ -1,14 +1,7 @@
 -- Tables hold a grid in the words of document 01: each object stands once in the list of each cell that it covers, with its mark, and in
 -- no other list. That follows from `Stands`, and `Stands` from it, so that nothing is refused that 01 admits. Assumes nothing.
-use Prim.Native.Nat.{ℕ, _<_, _≤_}
-use mathlib.Core.Path.{_≡_, refl, sym, ap, _∙_, subst}
-use mathlib.Core.Bool.{Bool, true, false}
-use mathlib.Core.List.{List, [], _∷_, map}
-use mathlib.Core.Logic.{inl, inr}
-use native.Mathlib.Omega.{arith}
-use lib.Dec.{T, eqb}
-use lib.ListN.{length}
-use borrow.Author.Tests.{eqb-true, ne-eqb}
+use Rattle.basics.specs.Words.{ℕ, _<_, _≤_, _≡_, refl, sym, ap, _∙_, subst, Bool, true, false, List, [], _∷_, map, inl, inr, length, T, eqb, arith, eqb-true}
+use Rattle.basics.specs.Words.{ne-eqb}
 use Rattle.basics.specs.Meaning.Refusals.{pick}
 use Rattle.basics.specs.Meaning.Says.{Decided}
 use Rattle.basics.proofs.laws.Says.{d-lt}

@@ -1,7 +1,5 @@
 -- The guess at a cell is a number: a product and sums of finite numbers, each rounded once, are no NaN. Assumes nothing.
-use Prim.Native.Nat.{ℕ, zero, suc, _+_, _-_, _*_, _^_}
-use mathlib.Core.Bool.{Bool, true, false, not, cond, _&&_, Bool·beq}
-use lib.Dec.{T, ltb}
+use Rattle.basics.specs.Words.{ℕ, zero, suc, _+_, _-_, _*_, _^_, Bool, true, false, not, cond, _&&_, Bool·beq, T, ltb}
 use lib.Ieee.{Float, nan, inf, fin, Format, binary32, prec, emax, low, odd, units, round, neg, sum, add, sub, mul, isNan}
 use lib.Ieee.Scale.{finite}
 use Rattle.geometry.specs.Meaning.Domain.{inDomain}

@@ -1,16 +1,8 @@
 -- Laws of the pass over the entries: each goes one key on in the way of its item. Assumes nothing.
-use Prim.Native.Nat.{ℕ, _+_, _-_, _*_, _<_, _≤_}
-use mathlib.Core.Path.{_≡_, refl, sym, ap, _∙_, subst}
-use mathlib.Core.Logic.{inl, inr, _↔_, Iff·rfl, Iff·trans}
-use mathlib.Core.Bool.{Bool, true, false}
-use mathlib.Core.List.{List, [], _∷_, _++_, map, map-append, append-assoc, append-nil}
-use native.Mathlib.Numerals.{add-one}
-use native.Mathlib.Omega.{arith}
-use lib.Dec.{eqb}
-use lib.ListN.{length, getD, set, take, drop, take-append-drop, length-set, length-append}
-use lib.Seq.{take-suc, take-take, getD-set-same, getD-set-other}
+use Rattle.basics.specs.Words.{ℕ, _+_, _-_, _*_, _<_, _≤_, _≡_, refl, sym, ap, _∙_, subst, Bool, true, false, List, [], _∷_, _++_, map, map-append}
+use Rattle.basics.specs.Words.{append-assoc, append-nil, inl, inr, _↔_, Iff·rfl, Iff·trans, length, getD, set, take, drop, take-append-drop, length-set}
+use Rattle.basics.specs.Words.{length-append, take-suc, take-take, getD-set-same, getD-set-other, eqb, add-one, arith, eq-eqb, ne-eqb}
 use borrow.Author.Count.{below-none, below-more}
-use borrow.Author.Tests.{eq-eqb, ne-eqb}
 use Rattle.basics.specs.Meaning.Says.{Decided}
 use Rattle.basics.proofs.laws.Says.{d-lt, d-eq}
 use Rattle.basics.specs.Meaning.Refusals.{pick}

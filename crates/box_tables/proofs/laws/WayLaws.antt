@@ -1,16 +1,8 @@
 -- Laws of the way: what is to come is one list, and for a box it is the keys of its range. Assumes nothing.
-use Prim.Native.Nat.{ℕ, zero, suc, _+_, _-_, _*_, _/_, _<_, _≤_}
-use mathlib.Core.Path.{_≡_, refl, sym, ap, ap₂, _∙_, subst}
-use mathlib.Core.Bool.{Bool, true, false}
-use mathlib.Core.Logic.{inl, inr}
-use mathlib.Core.List.{List, [], _∷_, _++_, map}
-use native.Mathlib.Numerals.{add-one}
-use native.Mathlib.Omega.{arith}
-use lib.Dec.{T, eqb, leb→le}
-use lib.IntN.{ℤ}
+use Rattle.basics.specs.Words.{ℕ, zero, suc, _+_, _-_, _*_, _/_, _<_, _≤_, _≡_, refl, sym, ap, ap₂, _∙_, subst, Bool, true, false, List, [], _∷_, _++_, map}
+use Rattle.basics.specs.Words.{inl, inr, T, eqb, leb→le, ℤ, add-one, arith, eq-eqb, ne-eqb}
 use lib.Signed.{mag, leZ}
 use lib.Ieee.{Float}
-use borrow.Author.Tests.{eq-eqb, ne-eqb}
 use Rattle.basics.proofs.laws.Says.{d-eq}
 use Rattle.basics.specs.Meaning.Refusals.{pick}
 use Rattle.cells.specs.declared.Cell.{Cell}

@@ -1,11 +1,6 @@
 -- What the parts of the check ask: each slot and its box, and each entry of the pool as the next on the way of its box. Assumes nothing.
-use Prim.Native.Nat.{ℕ, _+_, _/_, _<_, _≤_}
-use mathlib.Core.Path.{_≡_}
-use mathlib.Core.Logic.{_↔_}
-use mathlib.Core.List.{List, [], _∷_, _++_, map}
-use lib.Dec.{T}
+use Rattle.basics.specs.Words.{ℕ, _+_, _/_, _<_, _≤_, _≡_, List, [], _∷_, _++_, map, _↔_, length, getD, take, T}
 use lib.Ieee.{Float}
-use lib.ListN.{length, getD, take}
 use Rattle.basics.specs.Meaning.Limits.{mostBoxes, mostEntries, mostCells}
 use Rattle.geometry.specs.declared.Aabb.{Aabb}
 use Rattle.geometry.specs.Meaning.Domain.{aabbInDomain}

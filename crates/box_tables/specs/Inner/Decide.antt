@@ -1,11 +1,6 @@
 -- Whether tables hold a box grid can be decided: `holds`. It is never computed: the check says the same. Assumes nothing.
 -- Here: what only inner contracts cite.
-use Prim.Native.Nat.{ℕ}
-use mathlib.Core.Path.{_≡_, refl, ap, ap₂}
-use mathlib.Core.Logic.{inl, inr}
-use native.Mathlib.Omega.{arith}
-use mathlib.Core.List.{List, [], _∷_}
-use lib.ListN.{length, getD, drop}
+use Rattle.basics.specs.Words.{ℕ, _≡_, refl, ap, ap₂, List, [], _∷_, inl, inr, length, getD, drop, arith}
 use Rattle.basics.specs.Meaning.Says.{Decided}
 use Rattle.basics.proofs.laws.Says.{d-via, d-and, d-imp, d-eq, d-le, d-all, d-any, d-t}
 use Rattle.geometry.specs.Meaning.Domain.{aabbInDomain}

@@ -1,13 +1,8 @@
 -- The way of a box through the cells that it covers, as the check goes it: the key that comes next, the last key, the step from the end of
 -- a row to the start of the row above, and the item. Assumes nothing.
 -- Here: what only inner contracts cite.
-use Prim.Native.Nat.{ℕ, _+_, _-_, _≤_}
-use mathlib.Core.Path.{_≡_}
-use mathlib.Core.Bool.{false}
-use mathlib.Core.List.{List, [], _∷_}
-use lib.Dec.{eqb}
+use Rattle.basics.specs.Words.{ℕ, _+_, _-_, _≤_, _≡_, false, List, [], _∷_, getD, eqb}
 use lib.Ieee.{Float}
-use lib.ListN.{getD}
 use Rattle.basics.specs.Meaning.Refusals.{pick}
 use Rattle.geometry.specs.declared.Aabb.{Aabb}
 use Rattle.cells.specs.declared.Cell.{Cell}

@@ -1,5 +1,5 @@
 -- Whether tables hold a box grid can be decided: `holds`. It is never computed: the check says the same. Assumes nothing.
-use mathlib.Core.Bool.{Bool}
+use Rattle.basics.specs.Words.{Bool}
 use Rattle.basics.specs.Meaning.Says.{Says, said}
 use Rattle.basics.proofs.laws.Says.{said-says}
 use Rattle.box_tables.specs.Meaning.Tables.{Tables, Sized}

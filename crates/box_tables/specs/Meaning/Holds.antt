@@ -1,9 +1,6 @@
 -- Tables hold a box grid: the list of document 01, clause by clause. Assumes nothing.
 -- Of rows that are not in use nothing is asked but version, phase and map bit of every slot.
-use Prim.Native.Nat.{ℕ, _<_, _≤_}
-use mathlib.Core.Path.{_≡_}
-use lib.Dec.{T}
-use lib.ListN.{length}
+use Rattle.basics.specs.Words.{ℕ, _<_, _≤_, _≡_, length, T}
 use Rattle.basics.specs.Meaning.Limits.{mostCells}
 use Rattle.geometry.specs.Meaning.Domain.{aabbInDomain}
 use Rattle.cells.specs.Meaning.Size.{SizeInDomain}

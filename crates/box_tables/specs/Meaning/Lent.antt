@@ -1,6 +1,5 @@
 -- The tables behind four references, so that a contract takes two lines. Assumes nothing.
-use Prim.Native.Nat.{ℕ}
-use mathlib.Core.List.{List}
+use Rattle.basics.specs.Words.{ℕ, List}
 use lib.Ieee.{Float}
 use denote.Ref.{RefT, now}
 use Rattle.basics.specs.Meaning.Lent.{Lent}

@@ -1,11 +1,6 @@
 -- The tables of a box grid of n slots and a pool of some entries, as lists, and their lengths. Assumes nothing.
-use Prim.Native.Nat.{ℕ, _+_, _*_, _/_, _≤_}
-use mathlib.Core.Path.{_≡_}
-use mathlib.Core.Bool.{Bool}
-use mathlib.Core.List.{List, [], _∷_}
-use lib.Dec.{eqb}
+use Rattle.basics.specs.Words.{ℕ, _+_, _*_, _/_, _≤_, _≡_, Bool, List, [], _∷_, length, getD, set, take, eqb}
 use lib.Ieee.{Float, nan}
-use lib.ListN.{length, getD, set, take}
 use Rattle.basics.specs.Meaning.Limits.{mostBoxes, mostEntries}
 use Rattle.basics.specs.Meaning.Refusals.{pick}
 use Rattle.geometry.specs.declared.Aabb.{Aabb}

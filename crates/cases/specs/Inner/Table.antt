@@ -1,11 +1,7 @@
 -- The nine rows of the cell table and the cases C1 to C5, with the rounding case of the box test, as one table and one computed test.
 -- Assumes nothing.
-use Prim.Native.Nat.{_+_}
-use mathlib.Core.Path.{_≡_, refl}
-use mathlib.Core.Bool.{Bool, true, _&&_}
-use mathlib.Core.List.{List, [], _∷_, _++_, map}
+use Rattle.basics.specs.Words.{_+_, _≡_, refl, Bool, true, _&&_, List, [], _∷_, _++_, map, length}
 use lib.Ieee.{fits}
-use lib.ListN.{length}
 use Rattle.cells.proofs.laws.CellTable
 use Rattle.geometry.proofs.laws.Cases
 

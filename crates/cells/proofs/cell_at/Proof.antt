@@ -1,11 +1,9 @@
 -- `cells::cell_at` meets its contract. Assumes nothing.
-use mathlib.Core.Path.{ap, _∙_}
-use lib.IntN.{ℤ}
+use Rattle.basics.specs.Words.{ap, _∙_, ℤ, needs}
 use mir.Facts.{toZ-ofZ}
 use Rattle.cells.specs.Meaning.CellRule.{cellOf}
 use Rattle.cells.proofs.laws.Numbers.{cell-ext}
 use Rattle.cells.proofs.Signs.{size-is, size-some}
-use borrow.Author.Needs.{needs}
 use Rattle.cells.proofs.cell_at.Statement.{statement}
 use Rattle.cells.proofs.cell_at.Tie as tie
 

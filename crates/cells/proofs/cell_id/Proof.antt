@@ -1,11 +1,9 @@
 -- `cells::cell_id` meets its contract. Assumes nothing.
-use mathlib.Core.Path.{_≡_, sym, ap, _∙_, subst}
-use lib.IntN.{ℤ, pos, _-ℤ_}
+use Rattle.basics.specs.Words.{_≡_, sym, ap, _∙_, subst, ℤ, pos, _-ℤ_, needs}
 use lib.Signed.{quotZ}
 use mir.Syntax.{w32}
 use mir.Val.{SFits, toZ, ofZ}
 use mir.ValLaws.{toZ-ofZ}
-use borrow.Author.Needs.{needs}
 use Rattle.cells.proofs.Quotient.{asks, quotient, under-fits, cell-under, cell-over}
 use Rattle.cells.proofs.cell_id.Statement.{statement}
 use Rattle.cells.proofs.cell_id.Tie as tie

@@ -1,7 +1,6 @@
 -- `cells::cell_of_key` meets its contract. Assumes nothing.
-use mathlib.Core.Path.{ap, _∙_}
+use Rattle.basics.specs.Words.{ap, _∙_, needs}
 use mir.Facts.{toZ-ofZ}
-use borrow.Author.Needs.{needs}
 use Rattle.cells.proofs.laws.Numbers.{cell-ext}
 use Rattle.cells.specs.Inner.Key.{downward, cellOfKey}
 use Rattle.cells.proofs.cell_of_key.Statement.{statement}

@@ -1,12 +1,8 @@
 -- `cells::cells_in` meets its contract. Assumes nothing.
-use Prim.Native.Nat.{_<_, _*_}
-use mathlib.Core.Path.{_≡_, ap₂, _∙_}
-use native.Mathlib.Omega.{arith}
-use lib.IntN.{ℤ}
+use Rattle.basics.specs.Words.{_<_, _*_, _≡_, ap₂, _∙_, ℤ, arith, needs}
 use lib.Signed.{mag}
 use mir.Syntax.{w32}
 use mir.Val.{toZ, ofZ}
-use borrow.Author.Needs.{needs}
 use Rattle.cells.proofs.laws.Numbers.{near-fits}
 use Rattle.cells.specs.Meaning.Range.{countFrom, cellsIn}
 use Rattle.cells.proofs.laws.RangeKeyLaws.{near-cells}

@@ -1,7 +1,5 @@
 -- `cells::count_from` meets its contract. Assumes nothing.
-use mathlib.Core.Path.{_≡_, sym, ap, _∙_}
-use native.Mathlib.Omega.{arith}
-use borrow.Author.Needs.{needs}
+use Rattle.basics.specs.Words.{_≡_, sym, ap, _∙_, arith, needs}
 use mir.Facts.{toZ-ofZ}
 use Rattle.cells.specs.Meaning.Key.{upward}
 use Rattle.cells.proofs.laws.KeyLaws.{upward-lt}

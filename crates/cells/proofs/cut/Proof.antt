@@ -1,9 +1,6 @@
 -- `cells::cut` meets its contract. Assumes nothing.
-use Prim.Native.Nat.{ℕ, _/_, _%_, _<_}
-use mathlib.Core.Path.{sym, subst}
-use native.Mathlib.Nat.{mod-lt}
+use Rattle.basics.specs.Words.{ℕ, _/_, _%_, _<_, sym, subst, mod-lt, needs}
 use lib.Pow.{pow-pos}
-use borrow.Author.Needs.{needs}
 use Rattle.cells.specs.Inner.Cut.{cutBits}
 use Rattle.cells.proofs.Fields.{cut-low, cut-high, cut-down, cut-up, scaled-fits}
 use Rattle.cells.proofs.cut.Statement.{statement}

@@ -1,5 +1,5 @@
 -- `cells::down_from_least` meets its contract. Assumes nothing.
-use borrow.Author.Needs.{needs}
+use Rattle.basics.specs.Words.{needs}
 use Rattle.cells.proofs.Signs.{lowered-fits, lowered-small, lowered-is}
 use Rattle.cells.proofs.down_from_least.Statement.{statement}
 use Rattle.cells.proofs.down_from_least.Tie as tie

@@ -1,14 +1,9 @@
 -- `cells::exactly` meets its contract. Assumes nothing.
-use Prim.Native.Nat.{ℕ, _≤_}
-use mathlib.Core.Path.{_≡_, sym, ap, subst}
-use native.Mathlib.Omega.{arith}
-use lib.Dec.{T, le→leb}
-use lib.IntN.{ℤ, pos}
+use Rattle.basics.specs.Words.{ℕ, _≤_, _≡_, sym, ap, subst, T, le→leb, ℤ, pos, arith, needs}
 use lib.Ieee.{binary32, inFloat, ofInt}
 use mir.Syntax.{w64}
 use mir.Val.{toZ}
 use mir.ValLaws.{toZ-pos}
-use borrow.Author.Needs.{needs}
 use Rattle.cells.proofs.exactly.Statement.{statement}
 use Rattle.cells.proofs.exactly.Tie as tie
 

@@ -1,9 +1,6 @@
 -- `cells::first_from` meets its contract. Assumes nothing.
-use mathlib.Core.Path.{sym, subst}
-use native.Mathlib.Omega.{arith}
+use Rattle.basics.specs.Words.{sym, subst, lit≤, arith, needs}
 use lib.Ieee.{Float}
-use lib.Dec.{lit≤}
-use borrow.Author.Needs.{needs}
 use Rattle.cells.proofs.laws.Patterns.{number-pattern}
 use Rattle.cells.specs.Inner.Span.{FirstFrom}
 use Rattle.cells.proofs.laws.SpanLaws.{first-zero, first-whole}

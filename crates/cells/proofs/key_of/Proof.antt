@@ -1,8 +1,5 @@
 -- `cells::key_of` meets its contract. Assumes nothing.
-use Prim.Native.Nat.{ℕ, _<_}
-use mathlib.Core.Path.{_≡_, ap, _∙_, sym, subst}
-use native.Mathlib.Omega.{arith}
-use borrow.Author.Needs.{needs}
+use Rattle.basics.specs.Words.{ℕ, _<_, _≡_, ap, _∙_, sym, subst, arith, needs}
 use Rattle.cells.specs.Meaning.Key.{upward, keyOf}
 use Rattle.cells.proofs.laws.KeyLaws.{upward-lt}
 use Rattle.cells.proofs.Signs.{back}

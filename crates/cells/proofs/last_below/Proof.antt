@@ -1,11 +1,6 @@
 -- `cells::last_below` meets its contract. Assumes nothing.
-use mathlib.Core.Path.{sym, subst}
-use native.Mathlib.Omega.{arith}
-use Prim.Native.Nat.{_-_, _<_}
-use mathlib.Core.Bool.{not}
-use lib.Dec.{T}
+use Rattle.basics.specs.Words.{_-_, _<_, sym, subst, not, T, arith, needs}
 use lib.Ieee.{Float, binary32, toBits, ofBits, isNan}
-use borrow.Author.Needs.{needs}
 use Rattle.cells.specs.Inner.Span.{LastBelow}
 use Rattle.cells.proofs.laws.SpanLaws.{last-far, last-near, whole-pattern, whole-number}
 use Rattle.cells.proofs.laws.Patterns.{number-pattern}

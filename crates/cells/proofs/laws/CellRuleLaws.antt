@@ -1,13 +1,7 @@
 -- The cell rule never falls as the coordinate rises, and the cells of what a call may ask for are small numbers. Assumes nothing.
-use mathlib.Core.Path.{_≡_, sym, ap, _∙_, subst}
-use mathlib.Core.Logic.{inl, inr}
-use mathlib.Core.Bool.{Bool, true, false, _&&_, _||_}
-use Prim.Native.Nat.{ℕ, zero, suc, _*_, _/_, _≤_, _<_, min, zero-le}
-use native.Mathlib.Nat.{eq-zero-or-pos, le-of-lt, le-refl, le-of-eq, le-trans, zero-mul, mul-pos, zero-lt-suc, zero-div, div-le-self, div-le-of-le-mul}
-use native.Mathlib.Nat.{mul-le-mul-right}
-use native.Mathlib.Omega.{arith}
-use lib.IntN.{ℤ, pos}
-use lib.Dec.{T, ltb, eqb, ltb→lt, le→leb, eqb→eq}
+use Rattle.basics.specs.Words.{ℕ, zero, suc, _*_, _/_, _≤_, _<_, min, zero-le, _≡_, sym, ap, _∙_, subst, Bool, true, false, _&&_, _||_, inl, inr, T, ltb, eqb}
+use Rattle.basics.specs.Words.{ltb→lt, le→leb, eqb→eq, ℤ, pos, eq-zero-or-pos, le-of-lt, le-refl, le-of-eq, le-trans, zero-mul, mul-pos, zero-lt-suc, zero-div}
+use Rattle.basics.specs.Words.{div-le-self, div-le-of-le-mul, mul-le-mul-right, arith}
 use lib.Signed.{mag, leZ}
 use lib.Ieee.{Float, nan, inf, fin, up, down, lt, eq, le}
 use lib.Ieee.Fits.{down-pos, and-l, and-r}

@@ -1,14 +1,8 @@
 -- The cell of a coordinate by its sign and its magnitude, where no minus one or quotient is left to work out. Assumes nothing.
-use mathlib.Core.Path.{_≡_, refl, sym, ap, _∙_, subst}
-use mathlib.Core.Bool.{Bool, true, false, cond}
-use Prim.Native.Nat.{ℕ, zero, suc, _+_, _*_, _/_, _≤_, _<_, min, zero-le}
-use native.Mathlib.Nat.{zero-mul, zero-div}
-use native.Mathlib.Omega.{arith}
-use lib.IntN.{ℤ, pos, negsuc, negℤ, _-ℤ_, predℤ, -ℤ-one}
-use lib.Dec.{ltb}
+use Rattle.basics.specs.Words.{ℕ, zero, suc, _+_, _*_, _/_, _≤_, _<_, min, zero-le, _≡_, refl, sym, ap, _∙_, subst, Bool, true, false, cond, ltb, ℤ, pos}
+use Rattle.basics.specs.Words.{negsuc, negℤ, _-ℤ_, predℤ, -ℤ-one, zero-mul, zero-div, arith, lt-ltb, le-ltb}
 use lib.Signed.{quotZ}
 use lib.Ieee.{inf, fin, up, down}
-use borrow.Author.Tests.{lt-ltb, le-ltb}
 use Rattle.cells.specs.Meaning.CellRule.{cellOf}
 
 -- ---- whether the coordinate is below zero

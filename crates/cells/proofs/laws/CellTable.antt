@@ -1,8 +1,5 @@
 -- The nine rows of the table of cells: at each size, the coordinate with these bits has this cell. Assumes nothing.
-use mathlib.Core.Bool.{Bool, _&&_}
-use mathlib.Core.List.{List, [], _∷_}
-use Prim.Native.Nat.{ℕ}
-use lib.IntN.{ℤ, pos, negsuc}
+use Rattle.basics.specs.Words.{ℕ, Bool, _&&_, List, [], _∷_, ℤ, pos, negsuc}
 use lib.Signed.{leZ}
 use lib.Ieee.{binary32, ofBits}
 use Rattle.cells.specs.Meaning.CellRule.{cellOf}

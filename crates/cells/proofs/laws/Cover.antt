@@ -1,10 +1,6 @@
 -- No found point lies outside the searched range: the cell of a point that the circle test finds, or that a rectangle holds, is a cell
 -- of the range that is searched, for every cell size. Assumes nothing.
-use Prim.Native.Nat.{ℕ, _≤_}
-use mathlib.Core.Path.{_≡_}
-use mathlib.Core.Bool.{true, _&&_}
-use lib.Dec.{T}
-use lib.IntN.{pos}
+use Rattle.basics.specs.Words.{ℕ, _≤_, _≡_, true, _&&_, T, pos}
 use lib.Signed.{leZ}
 use lib.Ieee.{Float, le}
 use Rattle.basics.proofs.laws.Says.{says-t, and-true}

@@ -1,13 +1,7 @@
 -- The cell rule by comparison with edges, the multiples of the cell size: a coordinate stands in cell k from edge k on and below edge k + 1, and below zero,
 -- mirrored, in cell -1 - k. Said of the numbers that floats stand for, in units of the format's smallest value. Assumes nothing.
-use mathlib.Core.Path.{_≡_, sym, ap, _∙_, subst}
-use mathlib.Core.Logic.{inl, inr, ⊎-elim}
-use mathlib.Core.Bool.{Bool, true, false, not, _&&_}
-use Prim.Native.Nat.{ℕ, suc, _*_, _/_, _^_, _≤_, _<_, min}
-use native.Mathlib.Nat.{eq-zero-or-pos, le-trans, le-of-eq, zero-div, mul-comm, div-le-of-le-mul, le-div-iff-mul-le, div-lt-iff-lt-mul}
-use native.Mathlib.Omega.{arith}
-use lib.IntN.{ℤ, pos, negsuc}
-use lib.Dec.{T}
+use Rattle.basics.specs.Words.{ℕ, suc, _*_, _/_, _^_, _≤_, _<_, min, _≡_, sym, ap, _∙_, subst, Bool, true, false, not, _&&_, inl, inr, ⊎-elim, T, ℤ, pos}
+use Rattle.basics.specs.Words.{negsuc, eq-zero-or-pos, le-trans, le-of-eq, zero-div, mul-comm, div-le-of-le-mul, le-div-iff-mul-le, div-lt-iff-lt-mul, arith}
 use lib.Pow.{pow-pos}
 use lib.Signed.{mag, nonNeg}
 use lib.Ieee.{Float, nan, inf, fin, Format, low, up, down, neg, lt, le}

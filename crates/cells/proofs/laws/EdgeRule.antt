@@ -1,14 +1,8 @@
 -- The cell rule by comparison with edges that are exactly binary32 numbers. Assumes nothing.
 -- Here: the laws.
-use mathlib.Core.Path.{_≡_, refl, sym, ap, _∙_, subst}
-use mathlib.Core.Logic.{_⊎_, inl, inr, ⊎-elim}
-use mathlib.Core.Bool.{Bool, true, false, cond}
-use Prim.Native.Nat.{ℕ, zero, suc, _+_, _*_, _≤_, _<_, zero-le}
-use native.Mathlib.Nat.{le-trans, le-of-eq, lt-irrefl, lt-of-le-of-lt, lt-of-lt-of-le, zero-lt-suc, zero-mul, suc-mul, mul-one, mul-right-comm}
-use native.Mathlib.Nat.{mul-le-mul-right, mul-lt-mul-of-pos-right, mul-pos}
-use native.Mathlib.Omega.{arith}
-use lib.IntN.{ℤ, pos, negsuc, negℤ, sucℤ}
-use lib.Dec.{T, lit<}
+use Rattle.basics.specs.Words.{ℕ, zero, suc, _+_, _*_, _≤_, _<_, zero-le, _≡_, refl, sym, ap, _∙_, subst, Bool, true, false, cond, _⊎_, inl, inr, ⊎-elim, T}
+use Rattle.basics.specs.Words.{lit<, ℤ, pos, negsuc, negℤ, sucℤ, le-trans, le-of-eq, lt-irrefl, lt-of-le-of-lt, lt-of-lt-of-le, zero-lt-suc, zero-mul, suc-mul}
+use Rattle.basics.specs.Words.{mul-one, mul-right-comm, mul-le-mul-right, mul-lt-mul-of-pos-right, mul-pos, arith}
 use lib.Pow.{pow-pos}
 use lib.Signed.{mag}
 use lib.Ieee.{Float, nan, inf, fin, binary32, low, up, down, round, ofInt, lt, eq, le}

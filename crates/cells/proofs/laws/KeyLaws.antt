@@ -1,11 +1,6 @@
 -- Cells whose numbers fit 32 bits have keys below 2 ^ 64, and each comes back from its key. Assumes nothing.
-use Prim.Native.Nat.{ℕ, _<_}
-use mathlib.Core.Path.{_≡_, ap, _∙_}
-use native.Mathlib.Omega.{arith}
-use lib.IntN.{ℤ, pos, negsuc}
+use Rattle.basics.specs.Words.{ℕ, _<_, _≡_, ap, _∙_, inl, inr, ℤ, pos, negsuc, arith, lt-ltb, le-ltb}
 use lib.Signed.{mag}
-use mathlib.Core.Logic.{inl, inr}
-use borrow.Author.Tests.{lt-ltb, le-ltb}
 use Rattle.basics.proofs.laws.Says.{d-lt}
 use Rattle.cells.specs.declared.Cell.{Cell}
 use Rattle.cells.proofs.laws.Numbers.{cell-ext, Fits}

@@ -1,8 +1,6 @@
 -- A cell by its two numbers: how large they are, and that equal numbers make equal cells. Assumes nothing.
 -- Here: the laws.
-use Prim.Native.Nat.{_<_}
-use mathlib.Core.Path.{_≡_}
-use native.Mathlib.Omega.{arith}
+use Rattle.basics.specs.Words.{_<_, _≡_, arith}
 use lib.Signed.{mag}
 use Rattle.cells.specs.declared.Cell.{Cell}
 use Rattle.cells.specs.Inner.Numbers.{Near}

@@ -1,22 +1,16 @@
 -- The numbers that binary32 holds, by the bit patterns from 0 up: a greater pattern has the greater number, so none lies between the numbers of two
 -- patterns one after the other. Numbers are in units of the smallest. Assumes nothing.
 -- Here: the laws.
-use mathlib.Core.Path.{_≡_, refl, sym, ap, _∙_, subst}
-use mathlib.Core.Logic.{_⊎_, inl, inr}
-use mathlib.Core.Bool.{Bool, true, false, not, cond}
-use Prim.Native.Nat.{ℕ, zero, suc, _+_, _-_, _*_, _/_, _%_, _^_, _≤_, _<_}
-use native.Mathlib.Nat.{lt-irrefl, lt-trans, lt-of-lt-of-le, lt-of-le-of-lt, le-of-eq, mod-lt, mod-eq-of-lt, mul-one, mul-assoc, mul-comm, mul-le-mul}
-use native.Mathlib.Nat.{pow-suc, mul-lt-mul-of-pos-right, eq-of-mul-eq-mul-right}
-use native.Mathlib.Omega.{arith}
-use lib.Dec.{T, leb, ltb, eqb, lit≤}
-use lib.IntN.{ℤ}
+use Rattle.basics.specs.Words.{ℕ, zero, suc, _+_, _-_, _*_, _/_, _%_, _^_, _≤_, _<_, _≡_, refl, sym, ap, _∙_, subst, Bool, true, false, not, cond, _⊎_, inl}
+use Rattle.basics.specs.Words.{inr, T, leb, ltb, eqb, lit≤, ℤ, lt-irrefl, lt-trans, lt-of-lt-of-le, lt-of-le-of-lt, le-of-eq, mod-lt, mod-eq-of-lt, mul-one}
+use Rattle.basics.specs.Words.{mul-assoc, mul-comm, mul-le-mul, pow-suc, mul-lt-mul-of-pos-right, eq-of-mul-eq-mul-right, arith, leb-false, lt-leb, le-ltb}
+use Rattle.basics.specs.Words.{ne-eqb, eqb-false}
 use lib.Pow.{pow-pos, pow-mono, shl-lt}
 use lib.Ieee.{Float, nan, inf, fin, binary32, down, odd, fits, ofFields, ofBits, toBits, nanBits}
 use lib.Ieee.Fits.{down-pos}
 use lib.Ieee.Bits.{ofBits-toBits, toBits-lt, nanBits-above}
 use lib.Ieee.Exact.{HasValue, odd-sign}
 use lib.Ieee.Scale.{overflow, finite}
-use borrow.Author.Tests.{leb-false, lt-leb, le-ltb, ne-eqb, eqb-false}
 use Rattle.basics.proofs.laws.Says.{d-lt, d-eq}
 use Rattle.geometry.specs.Inner.Value.{Num}
 use Rattle.geometry.proofs.laws.Rounding.{from-value}

@@ -1,7 +1,7 @@
 -- A range of cells: from the cell of the lower left to that of the upper right, row by row, x fastest; empty if either number is
 -- reversed. Assumes nothing.
 -- Here: the laws.
-use mathlib.Core.Bool.{Bool, _&&_}
+use Rattle.basics.specs.Words.{Bool, _&&_}
 use lib.Signed.{leZ}
 use Rattle.cells.specs.declared.Cell.{Cell}
 

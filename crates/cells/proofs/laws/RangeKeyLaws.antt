@@ -1,16 +1,8 @@
 -- The keys of a range: in a row one after the other, from row to row 2 ^ 32 further, so that key order is range order; and whether a
 -- cell lies in a range, told from its key. Assumes nothing.
-use Prim.Native.Nat.{ℕ, zero, suc, _+_, _-_, _*_, _≤_, _<_}
-use mathlib.Core.Path.{_≡_, refl, sym, ap, ap₂, _∙_, subst}
-use mathlib.Core.Logic.{inl, inr}
-use mathlib.Core.Bool.{_&&_}
-use mathlib.Core.List.{_∷_, _++_, map, map-append}
-use native.Mathlib.Omega.{arith}
-use native.Mathlib.Nat.{mul-le-mul}
-use lib.Dec.{leb}
-use lib.IntN.{ℤ, pos, negsuc, _+ℤ_, +ℤ-idr}
+use Rattle.basics.specs.Words.{ℕ, zero, suc, _+_, _-_, _*_, _≤_, _<_, _≡_, refl, sym, ap, ap₂, _∙_, subst, _&&_, _∷_, _++_, map, map-append, inl, inr, leb, ℤ}
+use Rattle.basics.specs.Words.{pos, negsuc, _+ℤ_, +ℤ-idr, mul-le-mul, arith, lt-ltb, le-ltb, leb-true, le-leb, lt-leb}
 use lib.Signed.{mag, leZ}
-use borrow.Author.Tests.{lt-ltb, le-ltb, leb-true, le-leb, lt-leb}
 use Rattle.basics.specs.Meaning.Says.{Says}
 use Rattle.basics.proofs.laws.Says.{says-same, says-via, d-le, d-lt}
 use Rattle.cells.specs.declared.Cell.{Cell}

@@ -1,13 +1,7 @@
 -- The cells of a range: as many as `cellsIn` says, exactly those that lie in it, and none if it is reversed. Assumes nothing.
-use Prim.Native.Nat.{ℕ, zero, suc, _+_, _*_, _<_}
-use mathlib.Core.Path.{_≡_, refl, sym, ap, _∙_, subst}
-use mathlib.Core.Logic.{inl, inr}
-use mathlib.Core.Bool.{true, false, _&&_}
-use mathlib.Core.List.{[], List·Memᴰ, List·Memᴰ·head, List·Memᴰ·tail, List·Memᴰ·cases-cons, List·Memᴰ·append-cases, List·Memᴰ·not-nil, Memᴰ·cast, Memᴰ·append-left, Memᴰ·append-right}
-use native.Mathlib.Omega.{arith}
-use native.Mathlib.Nat.{mul-zero, mul-suc}
-use lib.IntN.{ℤ, pos, _+ℤ_, +ℤ-idr}
-use lib.ListN.{length, length-append}
+use Rattle.basics.specs.Words.{ℕ, zero, suc, _+_, _*_, _<_, _≡_, refl, sym, ap, _∙_, subst, true, false, _&&_, [], List·Memᴰ, List·Memᴰ·head, List·Memᴰ·tail}
+use Rattle.basics.specs.Words.{List·Memᴰ·cases-cons, List·Memᴰ·append-cases, List·Memᴰ·not-nil, Memᴰ·cast, Memᴰ·append-left, Memᴰ·append-right, inl, inr}
+use Rattle.basics.specs.Words.{length, length-append, ℤ, pos, _+ℤ_, +ℤ-idr, mul-zero, mul-suc, arith}
 use lib.Signed.{leZ}
 use Rattle.basics.proofs.laws.Says.{both-true, and-true}
 use Rattle.cells.specs.declared.Cell.{Cell}

@@ -1,10 +1,5 @@
 -- What `cell_at` asks of a position holds in the domain and at the corners of a circle's range. Assumes nothing.
-use Prim.Native.Nat.{_*_}
-use mathlib.Core.Path.{sym}
-use mathlib.Core.Bool.{true, false, _&&_}
-use native.Mathlib.Omega.{arith}
-use lib.Dec.{T, eqb, eqb→eq}
-use lib.IntN.{pos}
+use Rattle.basics.specs.Words.{_*_, sym, true, false, _&&_, T, eqb, eqb→eq, pos, arith}
 use lib.Ieee.{Float, nan, inf, fin, up, down, lt, eq, le}
 use lib.Ieee.Fits.{and-i, and-l, and-r}
 use Rattle.geometry.specs.declared.Position.{Position}

@@ -1,8 +1,6 @@
 -- Numbers that rise strictly, and those one after the other. Assumes nothing.
 -- Here: the laws.
-use Prim.Native.Nat.{ℕ, zero, suc, _+_, _≤_, _<_}
-use mathlib.Core.List.{List, [], _∷_, _++_}
-use native.Mathlib.Omega.{arith}
+use Rattle.basics.specs.Words.{ℕ, zero, suc, _+_, _≤_, _<_, List, [], _∷_, _++_, arith}
 use Rattle.cells.specs.Inner.Rising.{Above, Rising}
 
 -- n numbers from k on

@@ -1,13 +1,8 @@
 -- Spans: between the first and the last number of a cell lies the cell. Assumes nothing.
-use mathlib.Core.Path.{_≡_, refl, sym, ap, _∙_}
-use mathlib.Core.Logic.{_⊎_, ⊎-elim}
-use mathlib.Core.Bool.{true, false, not, _&&_}
-use Prim.Native.Nat.{ℕ, suc, _+_, _*_, _≤_, _<_, _-_, zero-le}
-use native.Mathlib.Nat.{lt-irrefl, le-trans, le-of-lt, le-of-eq, lt-of-le-of-lt, lt-of-lt-of-le, zero-mul, mul-le-mul-right, mul-lt-mul-of-pos-right, mul-pos}
-use native.Mathlib.Omega.{arith}
-use lib.Dec.{T, lit<}
+use Rattle.basics.specs.Words.{ℕ, suc, _+_, _*_, _≤_, _<_, _-_, zero-le, _≡_, refl, sym, ap, _∙_, true, false, not, _&&_, _⊎_, ⊎-elim, T, lit<, ℤ, pos, negsuc}
+use Rattle.basics.specs.Words.{lt-irrefl, le-trans, le-of-lt, le-of-eq, lt-of-le-of-lt, lt-of-lt-of-le, zero-mul, mul-le-mul-right, mul-lt-mul-of-pos-right}
+use Rattle.basics.specs.Words.{mul-pos, arith}
 use lib.Pow.{pow-pos}
-use lib.IntN.{ℤ, pos, negsuc}
 use lib.Signed.{mag}
 use lib.Ieee.{Float, nan, inf, fin, binary32, low, ofInt, ofBits, toBits, neg, lt, eq, le, fits, isNan}
 use lib.Ieee.Fits.{and-i, and-l, and-r, ofInt-fits}

@@ -1,14 +1,9 @@
 -- Whole numbers by the steps between them: of two, one is some steps above the other, and that settles `leZ` and `countFrom`.
 -- Assumes nothing.
-use Prim.Native.Nat.{ℕ, suc, _+_, _-_, _<_}
-use mathlib.Core.Path.{_≡_, refl, sym, ap, _∙_}
-use mathlib.Core.Logic.{_⊎_, inl, inr}
-use mathlib.Core.Bool.{Bool, true, false, cond}
-use native.Mathlib.Omega.{arith}
-use lib.Dec.{ltb}
-use lib.IntN.{ℤ, pos, negsuc, negℤ, _+ℤ_, _-ℤ_, +ℤ-comm, +ℤ-assoc, +ℤ-idl, +ℤ-invr, +ℤ-negℤ-cancel, -ℤ-+ℤ-cancel, negℤ-+ℤ, negℤ-negℤ}
+use Rattle.basics.specs.Words.{ℕ, suc, _+_, _-_, _<_, _≡_, refl, sym, ap, _∙_, Bool, true, false, cond, _⊎_, inl, inr, ltb, ℤ, pos, negsuc, negℤ, _+ℤ_, _-ℤ_}
+use Rattle.basics.specs.Words.{+ℤ-comm, +ℤ-assoc, +ℤ-idl, +ℤ-invr, +ℤ-negℤ-cancel, -ℤ-+ℤ-cancel, negℤ-+ℤ, negℤ-negℤ, arith, ltb-true, lt-ltb, le-ltb, le-leb}
+use Rattle.basics.specs.Words.{lt-leb}
 use lib.Signed.{leZ}
-use borrow.Author.Tests.{ltb-true, lt-ltb, le-ltb, le-leb, lt-leb}
 use Rattle.basics.proofs.laws.Says.{apart, d-lt}
 use Rattle.cells.specs.Meaning.Range.{counted, countFrom}
 

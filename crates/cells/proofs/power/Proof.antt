@@ -1,11 +1,5 @@
 -- `cells::power` meets its contract: the table's rule is a test at each of its entries, which antt computes. Assumes nothing.
-use mathlib.Core.Path.{_∙_, ap}
-use mathlib.Core.List.{List, [], _∷_}
-use mathlib.Core.Bool.{Bool}
-use Prim.Native.Nat.{ℕ, zero, suc, _*_, _^_}
-use lib.Dec.{eqb, eqb→eq}
-use lib.ListN.{getD}
-use borrow.Author.Needs.{needs}
+use Rattle.basics.specs.Words.{ℕ, zero, suc, _*_, _^_, _∙_, ap, Bool, List, [], _∷_, getD, eqb, eqb→eq, needs}
 use Rattle.cells.proofs.Table.{at}
 use Rattle.cells.proofs.power.Statement.{statement}
 use Rattle.cells.proofs.power.Tie as tie

@@ -1,5 +1,5 @@
 -- `cells::same_cell` meets its contract. Assumes nothing.
-use mathlib.Core.Path.{sym, _∙_, ap}
+use Rattle.basics.specs.Words.{sym, _∙_, ap}
 use mir.Syntax.{w32}
 use mir.Val.{toZ, ofZ}
 use Rattle.cells.specs.declared.Cell.{Cell}

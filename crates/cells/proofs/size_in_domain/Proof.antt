@@ -1,6 +1,5 @@
 -- `cells::size_in_domain` meets its contract. Assumes nothing.
-use native.Mathlib.Omega.{arith}
-use borrow.Author.Needs.{needs}
+use Rattle.basics.specs.Words.{arith, needs}
 use Rattle.basics.proofs.laws.Says.{says-yes, says-no}
 use Rattle.cells.proofs.size_in_domain.Statement.{statement}
 use Rattle.cells.proofs.size_in_domain.Tie as tie

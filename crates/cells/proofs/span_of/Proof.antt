@@ -1,11 +1,7 @@
 -- `cells::span_of` meets its contract. Assumes nothing.
-use mathlib.Core.Path.{_≡_, sym, ap, _∙_, subst}
-use Prim.Native.Nat.{ℕ, suc, _+_, _*_, _≤_, _<_}
-use native.Mathlib.Nat.{suc-mul}
-use lib.IntN.{ℤ, pos, negsuc}
+use Rattle.basics.specs.Words.{ℕ, suc, _+_, _*_, _≤_, _<_, _≡_, sym, ap, _∙_, subst, ℤ, pos, suc-mul, needs}
 use lib.Signed.{mag}
-use lib.Ieee.{Float, neg, ofInt, binary32}
-use borrow.Author.Needs.{needs}
+use lib.Ieee.{neg, ofInt, binary32}
 use Rattle.cells.specs.Inner.Span.{Spans, LastBelow, FirstFrom}
 use Rattle.cells.proofs.laws.SpanLaws.{no-span, over-span, under-span}
 use Rattle.cells.proofs.Signs.{is-under, is-over}

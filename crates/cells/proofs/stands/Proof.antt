@@ -1,10 +1,7 @@
 -- `cells::stands` meets its contract. Assumes nothing.
-use mathlib.Core.Path.{_≡_, ap, _∙_, subst}
-use Prim.Native.Nat.{ℕ, _+_, _*_, _≤_, _<_}
-use lib.IntN.{pos}
+use Rattle.basics.specs.Words.{ℕ, _+_, _*_, _≤_, _<_, _≡_, ap, _∙_, subst, pos, needs}
 use lib.Signed.{mag}
 use lib.Ieee.{binary32, ofInt}
-use borrow.Author.Needs.{needs}
 use Rattle.basics.proofs.laws.Says.{says-no}
 use Rattle.cells.proofs.laws.EdgeRule.{none-past}
 use Rattle.cells.proofs.Edges.{near-is, near-fits, read-sign, over-edges, under-edges}

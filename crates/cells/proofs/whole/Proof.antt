@@ -1,14 +1,8 @@
 -- `cells::whole` meets its contract. Assumes nothing.
-use mathlib.Core.Path.{sym, ap, _∙_, subst}
-use native.Mathlib.Omega.{arith}
-use Prim.Native.Nat.{ℕ, _<_, _≤_}
-use mathlib.Core.Bool.{not}
-use lib.IntN.{pos, negℤ}
-use lib.Dec.{T}
+use Rattle.basics.specs.Words.{ℕ, _<_, _≤_, sym, ap, _∙_, subst, not, T, pos, negℤ, arith, needs}
 use lib.Ieee.{Float, binary32, fits, toBits, isNan}
 use mir.Syntax.{w32}
 use mir.ValLaws.{toZ-pos}
-use borrow.Author.Needs.{needs}
 use Rattle.cells.proofs.Fields.{cut-le, above, far-above, under, number, no-number}
 use Rattle.cells.proofs.Signs.{one-less-fits, negated-fits, negated}
 use Rattle.cells.proofs.whole.Statement.{statement}

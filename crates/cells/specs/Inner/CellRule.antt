@@ -1,6 +1,6 @@
 -- The cell of a coordinate and of a position. Assumes nothing.
 -- Here: what only inner contracts cite.
-use lib.Dec.{T}
+use Rattle.basics.specs.Words.{T}
 use Rattle.geometry.specs.declared.Position.{Position}
 use Rattle.geometry.specs.Meaning.Domain.{within}
 

@@ -1,7 +1,5 @@
 -- The whole part of a binary32's magnitude by the fields of its bit pattern. Assumes nothing.
-use Prim.Native.Nat.{ℕ, _+_, _*_, _/_, _%_, _^_}
-use mathlib.Core.Bool.{cond}
-use lib.Dec.{ltb}
+use Rattle.basics.specs.Words.{ℕ, _+_, _*_, _/_, _%_, _^_, cond, ltb}
 
 -- of the exponent field e and the digits t: without the fraction, and at most 2 ^ 31
 unfoldable pub cutFields : ℕ → ℕ → ℕ

@@ -1,7 +1,5 @@
 -- The edges of the cells, and where a coordinate stands by comparison with them. Assumes nothing.
-use Prim.Native.Nat.{ℕ, zero, suc, _*_}
-use mathlib.Core.Bool.{Bool, false, _&&_}
-use lib.IntN.{ℤ, pos, negsuc, negℤ}
+use Rattle.basics.specs.Words.{ℕ, zero, suc, _*_, Bool, false, _&&_, ℤ, pos, negsuc, negℤ}
 use lib.Ieee.{Float, fin, binary32, ofInt, lt, le}
 
 -- edge c of a cell size: c times the size, as a binary32

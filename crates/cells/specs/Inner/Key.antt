@@ -1,7 +1,6 @@
 -- The key of a cell: one number for each cell, in the order of the rows and, in a row, of x. Assumes nothing.
 -- Here: what only inner contracts cite.
-use Prim.Native.Nat.{ℕ, _/_, _%_}
-use lib.IntN.{ℤ, pos, _-ℤ_}
+use Rattle.basics.specs.Words.{ℕ, _/_, _%_, ℤ, pos, _-ℤ_}
 use Rattle.cells.specs.declared.Cell.{Cell}
 
 -- ---- back from a key

@@ -1,6 +1,6 @@
 -- A cell by its two numbers: how large they are, and that equal numbers make equal cells. Assumes nothing.
 -- Here: what only inner contracts cite.
-use Prim.Native.Nat.{_≤_}
+use Rattle.basics.specs.Words.{_≤_}
 use lib.Signed.{mag}
 use Rattle.cells.specs.declared.Cell.{Cell}
 

@@ -1,8 +1,7 @@
 -- The numbers that binary32 holds, by the bit patterns from 0 up: a greater pattern has the greater number, so none lies between the numbers of two
 -- patterns one after the other. Numbers are in units of the smallest. Assumes nothing.
 -- Here: what only inner contracts cite.
-use mathlib.Core.Path.{_≡_}
-use Prim.Native.Nat.{ℕ, zero, suc, _+_, _*_, _/_, _%_, _^_}
+use Rattle.basics.specs.Words.{ℕ, zero, suc, _+_, _*_, _/_, _%_, _^_, _≡_}
 
 -- ---- the number of an exponent's field and digits, and of a pattern
 abbrev pub fieldsOf : ℕ → ℕ → ℕ

@@ -1,9 +1,5 @@
 -- The coordinates of a cell as all binary32 numbers from one to another. Assumes nothing.
-use mathlib.Core.Path.{_≡_}
-use mathlib.Core.Bool.{Bool, _&&_}
-use Prim.Native.Nat.{ℕ, _*_, _≤_, _<_}
-use lib.Dec.{T}
-use lib.IntN.{ℤ, pos}
+use Rattle.basics.specs.Words.{ℕ, _*_, _≤_, _<_, _≡_, Bool, _&&_, T, ℤ, pos}
 use lib.Ieee.{Float, binary32, le, fits}
 use Rattle.basics.specs.Meaning.Says.{Says}
 use Rattle.geometry.specs.Meaning.Domain.{inDomain}

@@ -1,7 +1,5 @@
 -- The cell of a coordinate and of a position. Assumes nothing.
-use Prim.Native.Nat.{ℕ}
-use mathlib.Core.Bool.{false, cond}
-use lib.IntN.{ℤ, pos, _-ℤ_}
+use Rattle.basics.specs.Words.{ℕ, false, cond, ℤ, pos, _-ℤ_}
 use lib.Signed.{quotZ}
 use lib.Ieee.{Float, fin, lt, toSigned}
 use Rattle.geometry.specs.declared.Position.{Position}

@@ -1,6 +1,5 @@
 -- The key of a cell: one number for each cell, in the order of the rows and, in a row, of x. Assumes nothing.
-use Prim.Native.Nat.{ℕ, _+_, _-_, _*_}
-use lib.IntN.{ℤ, pos, negsuc}
+use Rattle.basics.specs.Words.{ℕ, _+_, _-_, _*_, ℤ, pos, negsuc}
 use Rattle.cells.specs.declared.Cell.{Cell}
 
 -- a 32-bit number counted from the least

@@ -1,8 +1,6 @@
 -- A range of cells: from the cell of the lower left to that of the upper right, row by row, x fastest; empty if either number is
 -- reversed. Assumes nothing.
-use Prim.Native.Nat.{ℕ, zero, suc, _*_}
-use mathlib.Core.List.{List, [], _∷_, _++_}
-use lib.IntN.{ℤ, pos, negsuc, _+ℤ_, _-ℤ_}
+use Rattle.basics.specs.Words.{ℕ, zero, suc, _*_, List, [], _∷_, _++_, ℤ, pos, negsuc, _+ℤ_, _-ℤ_}
 use Rattle.cells.specs.declared.Cell.{Cell}
 
 -- how many whole numbers there are from a to b, both counted

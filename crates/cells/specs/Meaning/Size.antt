@@ -1,5 +1,5 @@
 -- The cell sizes of the domain. Assumes nothing.
-use Prim.Native.Nat.{ℕ, _≤_}
+use Rattle.basics.specs.Words.{ℕ, _≤_}
 
 -- the one place that says how large a cell may be: 2 ^ 20
 abbrev pub sizeMost : ℕ

@@ -1,12 +1,6 @@
 -- The user's demands on the box grid: demand 1, and that tables built and changed only by its calls always hold a grid. Assumes nothing.
 -- Here: the laws.
-use Prim.Native.Nat.{ℕ}
-use mathlib.Core.Path.{_≡_, refl, ap, _∙_}
-use mathlib.Core.Bool.{true, false}
-use mathlib.Core.List.{List, [], _∷_}
-use mathlib.Core.Logic.{⊎-elim}
-use lib.Dec.{eqb}
-use borrow.Author.Tests.{eqb-false}
+use Rattle.basics.specs.Words.{ℕ, _≡_, refl, ap, _∙_, true, false, List, [], _∷_, ⊎-elim, eqb, eqb-false}
 use Rattle.basics.proofs.laws.Says.{d-eq}
 use Rattle.basics.specs.Meaning.Refusals.{applies, firstThat}
 use Rattle.basics.proofs.laws.RefusalLaws.{three-first}

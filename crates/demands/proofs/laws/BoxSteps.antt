@@ -1,9 +1,6 @@
 -- Each call of the box grid makes its tests one after the other: it is done if they pass, and else leaves what a call refused with the first
 -- number leaves. Assumes nothing.
-use mathlib.Core.Path.{refl}
-use mathlib.Core.List.{[]}
-use lib.Dec.{eqb}
-use lib.ListN.{length}
+use Rattle.basics.specs.Words.{refl, [], length, eqb}
 use Rattle.basics.specs.Meaning.Refusals.{pick}
 use Rattle.replies.specs.Meaning.Replies.{count, inserted, reply}
 use Rattle.box_tables.specs.Meaning.Tables.{Tables}

@@ -1,11 +1,6 @@
 -- The user's demands on the point grid. Demand 2 is each call's own promise, read beside 01 and the Rust: docs/PROMISES.md. Assumes nothing.
 -- Here: the laws.
-use Prim.Native.Nat.{ℕ}
-use mathlib.Core.Path.{_≡_, refl, ap, _∙_}
-use mathlib.Core.Bool.{Bool, true, false, not, _&&_, _||_}
-use mathlib.Core.List.{List, [], _∷_, _++_}
-use mathlib.Core.Logic.{⊎-elim}
-use lib.Dec.{eqb}
+use Rattle.basics.specs.Words.{ℕ, _≡_, refl, ap, _∙_, Bool, true, false, not, _&&_, _||_, List, [], _∷_, _++_, ⊎-elim, eqb}
 use lib.Ieee.{Float}
 use Rattle.basics.proofs.laws.Says.{d-eq}
 use Rattle.basics.specs.Meaning.Refusals.{applies, firstThat}

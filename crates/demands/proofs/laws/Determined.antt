@@ -1,8 +1,6 @@
 -- Any two results that a promise permits are equal: one theorem for each public call. The promises are those of the calls' `ensures`. A NaN
 -- is one value here: which of its bit patterns stands in a place is not said. Assumes nothing.
-use Prim.Native.Nat.{ℕ}
-use mathlib.Core.Path.{_≡_, sym, ap, _∙_}
-use mathlib.Core.List.{List}
+use Rattle.basics.specs.Words.{ℕ, _≡_, sym, ap, _∙_, List}
 use lib.Ieee.{Float}
 use Rattle.geometry.specs.declared.Position.{Position}
 use Rattle.geometry.specs.declared.Aabb.{Aabb}

@@ -1,12 +1,7 @@
 -- The right lengths of the tables exist for every number of slots and every pool of the domain: `new` answers 0 on tables of these lengths,
 -- at every cell size of the domain. Assumes nothing.
-use Prim.Native.Nat.{ℕ, _+_, _≤_}
-use mathlib.Core.Path.{_≡_}
-use mathlib.Core.List.{List, [], _∷_}
-use mathlib.Core.Bool.{false}
-use lib.IntN.{pos}
+use Rattle.basics.specs.Words.{ℕ, _+_, _≤_, _≡_, false, List, [], _∷_, replicate, length-replicate, pos}
 use lib.Ieee.{Float, fin}
-use lib.ListN.{replicate, length-replicate}
 use Rattle.basics.specs.Meaning.Limits.{mostBoxes, mostEntries, mostSlots}
 use Rattle.cells.specs.Meaning.Size.{SizeInDomain}
 use Rattle.slots.specs.Meaning.Map.{head, wordsFor}

@@ -1,12 +1,7 @@
 -- Each call of the point grid makes its tests one after the other: it is done if they pass, and else leaves what a call refused with the
 -- first number leaves. Assumes nothing.
-use Prim.Native.Nat.{ℕ}
-use mathlib.Core.Path.{_≡_, refl, subst}
-use mathlib.Core.Bool.{Bool, _&&_}
-use mathlib.Core.List.{List, []}
-use lib.Dec.{eqb}
+use Rattle.basics.specs.Words.{ℕ, _≡_, refl, subst, Bool, _&&_, List, [], length, length-map, eqb}
 use lib.Ieee.{Float}
-use lib.ListN.{length, length-map}
 use Rattle.basics.specs.Meaning.Refusals.{pick}
 use Rattle.replies.specs.Meaning.Replies.{count, inserted, reply}
 use Rattle.geometry.specs.declared.Position.{Position}

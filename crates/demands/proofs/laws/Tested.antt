@@ -1,10 +1,5 @@
 -- A call that makes its tests one after the other, and leaves what a refused call leaves if one does not pass. Assumes nothing.
-use Prim.Native.Nat.{ℕ}
-use mathlib.Core.Path.{_≡_, refl, sym, ap, _∙_}
-use mathlib.Core.Bool.{Bool, true, false}
-use mathlib.Core.List.{List}
-use lib.Dec.{eqb}
-use borrow.Author.Tests.{eqb-true, ne-eqb}
+use Rattle.basics.specs.Words.{ℕ, _≡_, refl, sym, ap, _∙_, Bool, true, false, List, eqb, eqb-true, ne-eqb}
 use Rattle.basics.specs.Meaning.Refusals.{Refusal, firstOf, pick, byTests, order, firstThat}
 use Rattle.basics.proofs.laws.RefusalLaws.{ordered, in-order}
 use Rattle.demands.specs.Meaning.Left.{Outputs, zeros, theCount, Left, left, refused}

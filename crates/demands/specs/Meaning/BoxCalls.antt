@@ -1,9 +1,7 @@
 -- Every public call of the box grid with all that it is handed besides the tables, what it leaves, which refusals apply to it, and what it
 -- leaves if it is refused. Assumes nothing.
-use Prim.Native.Nat.{ℕ}
-use mathlib.Core.List.{List, []}
+use Rattle.basics.specs.Words.{ℕ, List, [], length}
 use lib.Ieee.{Float}
-use lib.ListN.{length}
 use Rattle.geometry.specs.declared.Aabb.{Aabb}
 use Rattle.slots.specs.declared.Handle.{Handle}
 use Rattle.replies.specs.declared.Inserted.{Inserted}

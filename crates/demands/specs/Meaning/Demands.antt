@@ -1,5 +1,5 @@
 -- The user's demands on the point grid. Demand 2 is each call's own promise, read beside 01 and the Rust: docs/PROMISES.md. Assumes nothing.
-use mathlib.Core.List.{List, [], _∷_}
+use Rattle.basics.specs.Words.{List, [], _∷_}
 use Rattle.point_tables.specs.Meaning.Tables.{Tables}
 use Rattle.demands.specs.Meaning.PointCalls.{PointCall}
 use Rattle.demands.specs.Meaning.PointCalls.{leaves}

@@ -1,8 +1,6 @@
 -- What a call of either grid leaves: its answer, what it returns beside it, the tables and the outputs. T are the grid's tables, P its
 -- places: positions, or boxes. Assumes nothing.
-use Prim.Native.Nat.{ℕ}
-use mathlib.Core.List.{List, []}
-use lib.Dec.{eqb}
+use Rattle.basics.specs.Words.{ℕ, List, [], eqb}
 use lib.Ieee.{Float}
 use Rattle.basics.specs.Meaning.Refusals.{pick}
 use Rattle.slots.specs.declared.Handle.{Handle}

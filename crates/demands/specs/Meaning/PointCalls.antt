@@ -1,10 +1,7 @@
 -- Every public call of the point grid with all that it is handed besides the tables, what it leaves, which refusals apply to it, and what
 -- it leaves if it is refused. Assumes nothing.
-use Prim.Native.Nat.{ℕ}
-use mathlib.Core.Bool.{Bool, false, not}
-use mathlib.Core.List.{List, []}
+use Rattle.basics.specs.Words.{ℕ, Bool, false, not, List, [], length}
 use lib.Ieee.{Float}
-use lib.ListN.{length}
 use Rattle.geometry.specs.declared.Position.{Position}
 use Rattle.slots.specs.declared.Handle.{Handle}
 use Rattle.point_tables.specs.Meaning.Tables.{Tables}

@@ -1,6 +1,5 @@
 -- What the calls of the box grid tell, with the lent outputs after them. Assumes nothing.
-use Prim.Native.Nat.{ℕ}
-use mathlib.Core.List.{List}
+use Rattle.basics.specs.Words.{ℕ, List}
 use lib.Ieee.{Float}
 use Rattle.basics.specs.Meaning.Lent.{Lent, is}
 use Rattle.box_get.specs.Meaning.Clear.{Written, wrote}

@@ -1,8 +1,5 @@
 -- What the calls of the point grid tell, with the lent outputs after them. Assumes nothing.
-use Prim.Native.Nat.{ℕ}
-use mathlib.Core.Path.{_≡_}
-use mathlib.Core.List.{List}
-use lib.IntN.{ℤ}
+use Rattle.basics.specs.Words.{ℕ, _≡_, List, ℤ}
 use lib.Ieee.{Float}
 use Rattle.basics.specs.Meaning.Lent.{Lent, was, is}
 use Rattle.point_tables.specs.Meaning.Tables.{Tables}

@@ -1,6 +1,5 @@
 -- `geometry::aabb_in_domain` meets its contract. Assumes nothing.
-use mathlib.Core.Path.{refl}
-use borrow.Author.Needs.{needs}
+use Rattle.basics.specs.Words.{refl, needs}
 use Rattle.geometry.proofs.Tests.{both}
 use Rattle.geometry.proofs.aabb_in_domain.Statement.{statement}
 use Rattle.geometry.proofs.aabb_in_domain.Tie as tie

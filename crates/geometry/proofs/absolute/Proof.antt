@@ -1,6 +1,5 @@
 -- `geometry::absolute` meets its contract. Assumes nothing.
-use mathlib.Core.Path.{sym, ap, _∙_, subst}
-use lib.Dec.{T}
+use Rattle.basics.specs.Words.{sym, ap, _∙_, subst, T}
 use lib.Ieee.{eq, lt}
 use Rattle.geometry.proofs.Tests.{nought}
 use Rattle.geometry.proofs.Unsigned.{of-zero, of-below, of-above}

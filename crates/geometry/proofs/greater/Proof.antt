@@ -1,6 +1,5 @@
 -- `geometry::greater` meets its contract. Assumes nothing.
-use mathlib.Core.Path.{sym, ap}
-use mathlib.Core.Bool.{Bool}
+use Rattle.basics.specs.Words.{sym, ap, Bool}
 use Rattle.basics.specs.Meaning.Refusals.{pick}
 use Rattle.geometry.proofs.greater.Statement.{statement}
 use Rattle.geometry.proofs.greater.Tie as tie

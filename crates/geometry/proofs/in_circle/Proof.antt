@@ -1,5 +1,5 @@
 -- `geometry::in_circle` meets its contract. Assumes nothing.
-use mathlib.Core.Path.{refl}
+use Rattle.basics.specs.Words.{refl}
 use Rattle.geometry.specs.Meaning.Circle.{inCircle}
 use Rattle.geometry.proofs.in_circle.Statement.{statement}
 use Rattle.geometry.proofs.in_circle.Tie as tie

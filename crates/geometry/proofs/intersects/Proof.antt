@@ -1,5 +1,5 @@
 -- `geometry::intersects` meets its contract. Assumes nothing.
-use borrow.Author.Needs.{needs}
+use Rattle.basics.specs.Words.{needs}
 use Rattle.geometry.specs.Meaning.Intersects.{intersects}
 use Rattle.geometry.proofs.Tests.{both}
 use Rattle.geometry.proofs.intersects.Statement.{statement}

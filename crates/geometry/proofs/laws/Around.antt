@@ -1,13 +1,6 @@
 -- What differs from c by less than r, as the machine rounds the difference, is not below c - r and not above c + r, as it rounds those.
 -- It holds of all finite values: where a bound overflows it is an infinity on the far side. Assumes nothing.
-use mathlib.Core.Path.{_≡_, refl, ap, _∙_}
-use mathlib.Core.Logic.{_⊎_, inl, inr, ⊎-elim}
-use Prim.Native.Nat.{ℕ, suc, _+_, _-_, _*_, _^_, _≤_, _<_}
-use native.Mathlib.Nat.{zero-mul}
-use native.Mathlib.Omega.{arith}
-use mathlib.Core.Bool.{false}
-use lib.IntN.{pos}
-use lib.Dec.{T, not-T}
+use Rattle.basics.specs.Words.{ℕ, suc, _+_, _-_, _*_, _^_, _≤_, _<_, _≡_, refl, ap, _∙_, false, _⊎_, inl, inr, ⊎-elim, T, not-T, pos, zero-mul, arith}
 use lib.Pow.{pow-pos}
 use lib.Ieee.{Float, fin, Format, emax, low, add, sub, lt, le, fits}
 use lib.Ieee.Scale.{finite}

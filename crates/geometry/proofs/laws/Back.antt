@@ -1,11 +1,6 @@
 -- From the values to the tests: the order of two floats' values is what `le` and `lt` answer. Assumes nothing.
-use mathlib.Core.Path.{_≡_, sym, _∙_, subst}
-use mathlib.Core.Logic.{inl, inr}
-use Prim.Native.Nat.{ℕ, _+_, _*_, _^_, _≤_, _<_}
-use native.Mathlib.Nat.{le-of-eq, eq-or-lt-of-le, eq-zero-or-pos, mul-pos}
-use native.Mathlib.Omega.{arith}
-use mathlib.Core.Bool.{Bool, true, false, not, _&&_, _||_, Bool·beq}
-use lib.Dec.{T, ltb, eqb, eqb-refl, lt→ltb, T-not}
+use Rattle.basics.specs.Words.{ℕ, _+_, _*_, _^_, _≤_, _<_, _≡_, sym, _∙_, subst, Bool, true, false, not, _&&_, _||_, Bool·beq, inl, inr, T, ltb, eqb, eqb-refl}
+use Rattle.basics.specs.Words.{lt→ltb, T-not, le-of-eq, eq-or-lt-of-le, eq-zero-or-pos, mul-pos, arith}
 use lib.Pow.{pow-pos}
 use lib.Ieee.{Float, nan, inf, fin, Format, low, up, down, lt, eq, le}
 use lib.Ieee.Fits.{down-pos, and-i}

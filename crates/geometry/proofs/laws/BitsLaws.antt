@@ -1,7 +1,5 @@
 -- Two binary32 numbers with the same bits are the same number, and a position is what its coordinates are. Assumes nothing.
-use mathlib.Core.Path.{_≡_, refl, sym, ap, _∙_, subst}
-use mathlib.Core.Bool.{true, false}
-use lib.Dec.{T}
+use Rattle.basics.specs.Words.{_≡_, refl, sym, ap, _∙_, subst, true, false, T}
 use lib.Ieee.{Float, nan, inf, fin, ne, isNan, fits, binary32, ofBits, toBits}
 use lib.Ieee.Compare.{differs-from-itself, nan-differs}
 use lib.Ieee.Bits.{ofBits-toBits}

@@ -1,8 +1,6 @@
 -- Document 01's cases C1 to C5 and its box that passes by rounding, with a miss beside each hit and the edges of the domain.
 -- Numbers are bit patterns. Assumes nothing.
-use Prim.Native.Nat.{ℕ}
-use mathlib.Core.Bool.{Bool, true, false, Bool·beq}
-use mathlib.Core.List.{List, [], _∷_}
+use Rattle.basics.specs.Words.{ℕ, Bool, true, false, Bool·beq, List, [], _∷_}
 use lib.Ieee.{binary32, ofBits, lt, le, eq, add, sub, mul, neg}
 use Rattle.geometry.specs.declared.Position.{Position}
 use Rattle.geometry.specs.declared.Aabb.{Aabb}

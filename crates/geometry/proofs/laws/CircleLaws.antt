@@ -1,9 +1,6 @@
 -- No point that the circle test finds lies outside the searched range: it is not below centre - r and not above centre + r on either axis,
 -- all as binary32 rounds them. It holds of all finite values and any radius that is not negative. Assumes nothing.
-use mathlib.Core.Path.{_≡_}
-use mathlib.Core.Bool.{false}
-use lib.IntN.{pos}
-use lib.Dec.{T}
+use Rattle.basics.specs.Words.{_≡_, false, T, pos}
 use lib.Ieee.{Float, fin, binary32, le, sub}
 use Rattle.geometry.specs.declared.Position.{Position}
 use Rattle.geometry.specs.Meaning.Domain.{inDomain, positionInDomain, radiusInDomain}

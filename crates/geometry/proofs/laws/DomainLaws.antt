@@ -1,12 +1,6 @@
 -- What the domain's tests let through: finite numbers, whose sums and differences stay within twice the reach. Assumes nothing.
-use Prim.Native.Nat.{ℕ, suc, _+_, _*_, _≤_, _<_}
-use native.Mathlib.Nat.{zero-mul}
-use native.Mathlib.Omega.{arith}
-use mathlib.Core.Path.{_≡_, refl, ap}
-use mathlib.Core.Bool.{Bool, true, false, _&&_, _||_}
-use lib.IntN.{pos}
-use lib.Dec.{T, eqb, ltb→lt, eqb→eq, lit<}
-use borrow.Author.Tests.{ne-eqb}
+use Rattle.basics.specs.Words.{ℕ, suc, _+_, _*_, _≤_, _<_, _≡_, refl, ap, Bool, true, false, _&&_, _||_, T, eqb, ltb→lt, eqb→eq, lit<, pos, zero-mul, arith}
+use Rattle.basics.specs.Words.{ne-eqb}
 use lib.Ieee.{Float, nan, inf, fin, binary32, up, down, lt, eq, le, add, sub, fits}
 use lib.Ieee.Fits.{and-i, and-l, and-r}
 use lib.Ieee.Scale.{finite}

@@ -1,11 +1,5 @@
 -- A point that the circle test finds differs from the centre by less than the radius on each axis, as the machine rounds the differences. Assumes nothing.
-use mathlib.Core.Logic.{inl, inr}
-use mathlib.Core.Path.{_≡_, refl, sym, subst}
-use Prim.Native.Nat.{ℕ, suc, _+_, _-_, _≤_, _<_}
-use native.Mathlib.Nat.{lt-irrefl}
-use native.Mathlib.Omega.{arith}
-use mathlib.Core.Bool.{true, false}
-use lib.Dec.{T}
+use Rattle.basics.specs.Words.{ℕ, suc, _+_, _-_, _≤_, _<_, _≡_, refl, sym, subst, true, false, inl, inr, T, lt-irrefl, arith}
 use lib.Pow.{pow-pos}
 use lib.Ieee.{Float, nan, inf, fin, Format, emax, low, add, mul, lt}
 use lib.Ieee.Fits.{mul-fits}

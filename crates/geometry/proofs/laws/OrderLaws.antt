@@ -1,11 +1,5 @@
 -- The order of finite floats: each is at most itself, and of two one is at most the other. Assumes nothing.
-use mathlib.Core.Logic.{inl, inr}
-use mathlib.Core.Path.{_≡_, refl, subst}
-use Prim.Native.Nat.{ℕ, _*_, _≤_}
-use native.Mathlib.Nat.{le-of-eq}
-use native.Mathlib.Omega.{arith}
-use mathlib.Core.Bool.{Bool, true, false}
-use lib.Dec.{T}
+use Rattle.basics.specs.Words.{ℕ, _*_, _≤_, _≡_, refl, subst, Bool, true, false, inl, inr, T, le-of-eq, arith}
 use lib.Ieee.{Float, nan, inf, fin, up, down, lt, eq, le}
 use lib.Ieee.Scale.{finite}
 use Rattle.basics.proofs.laws.Says.{d-le}

@@ -1,8 +1,6 @@
 -- Sorted corners: the lower lies below both that were given, the upper above both, and both stay in the domain. A point that the rectangle's test lets
 -- through lies between them. Assumes nothing.
-use mathlib.Core.Path.{_≡_, refl, subst, sym}
-use mathlib.Core.Bool.{Bool, true, false, _&&_}
-use lib.Dec.{T}
+use Rattle.basics.specs.Words.{_≡_, refl, subst, sym, Bool, true, false, _&&_, T}
 use lib.Ieee.{Float, le}
 use lib.Ieee.Fits.{and-i, and-l, and-r}
 use lib.Ieee.Scale.{finite}

@@ -1,12 +1,8 @@
 -- Rounding, in units of the format's smallest value: one function, which keeps the order and leaves every value of the format as it is. Assumes nothing.
-use mathlib.Core.Logic.{inl, inr}
-use mathlib.Core.Path.{_≡_, refl, sym, ap, _∙_, subst}
-use Prim.Native.Nat.{ℕ, zero, suc, _+_, _-_, _*_, _%_, _^_, _≤_, _<_, min}
-use native.Mathlib.Nat.{le-of-eq, lt-of-lt-of-le, lt-of-le-of-lt, lt-irrefl, mul-one, zero-mul, mul-comm, mul-assoc, mul-right-comm, mul-le-mul-right, mul-lt-mul-of-pos-right, lt-of-mul-lt-mul-right, eq-of-mul-eq-mul-right}
-use native.Mathlib.Omega.{arith}
-use mathlib.Core.Bool.{Bool, true, false, not, _&&_, cond, true≢false, false≢true}
-use lib.IntN.{ℤ, pos, negsuc}
-use lib.Dec.{T, leb, ltb, eqb, ltb→lt, nltb→le, leb→le}
+use Rattle.basics.specs.Words.{ℕ, zero, suc, _+_, _-_, _*_, _%_, _^_, _≤_, _<_, min, _≡_, refl, sym, ap, _∙_, subst, Bool, true, false, not, _&&_, cond}
+use Rattle.basics.specs.Words.{true≢false, false≢true, inl, inr, T, leb, ltb, eqb, ltb→lt, nltb→le, leb→le, ℤ, pos, negsuc, le-of-eq, lt-of-lt-of-le}
+use Rattle.basics.specs.Words.{lt-of-le-of-lt, lt-irrefl, mul-one, zero-mul, mul-comm, mul-assoc, mul-right-comm, mul-le-mul-right, mul-lt-mul-of-pos-right}
+use Rattle.basics.specs.Words.{lt-of-mul-lt-mul-right, eq-of-mul-eq-mul-right, arith}
 use lib.Pow.{pow-add, pow-pos, pow-lt}
 use lib.Ieee.{Float, nan, inf, fin, Format, prec, emax, low, up, down, odd, units, round, fits}
 use lib.Ieee.Digits.{back}

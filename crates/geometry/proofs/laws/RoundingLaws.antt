@@ -1,9 +1,5 @@
 -- Rounding keeps the order: of sums, of differences in either place, and of squares by magnitude. Assumes nothing.
-use mathlib.Core.Path.{refl}
-use Prim.Native.Nat.{ℕ, _+_, _-_, _≤_}
-use native.Mathlib.Omega.{arith}
-use mathlib.Core.Bool.{true, false}
-use lib.Dec.{T}
+use Rattle.basics.specs.Words.{ℕ, _+_, _-_, _≤_, refl, true, false, T, arith}
 use lib.Ieee.{Float, nan, inf, fin, Format, add, sub, mul, le}
 use Rattle.geometry.specs.Meaning.Intersects.{absolute}
 use Rattle.geometry.specs.Inner.Value.{Num}

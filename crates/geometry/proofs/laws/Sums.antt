@@ -1,10 +1,6 @@
 -- The value of a sum, of a difference and of a square is the exact one, rounded once. Assumes nothing.
-use mathlib.Core.Path.{_≡_, sym, ap, _∙_, subst}
-use Prim.Native.Nat.{ℕ, _+_, _-_, _*_, _^_, _≤_, _<_}
-use native.Mathlib.Nat.{le-trans, le-of-eq, mul-comm, mul-le-mul-right, mul-le-mul, mul-pos, mul-sub, add-mul, mul-mul-mul-comm}
-use native.Mathlib.Omega.{arith}
-use mathlib.Core.Bool.{Bool, true, false, not, _&&_, cond}
-use lib.Dec.{T, ltb, ltb→lt, nltb→le}
+use Rattle.basics.specs.Words.{ℕ, _+_, _-_, _*_, _^_, _≤_, _<_, _≡_, sym, ap, _∙_, subst, Bool, true, false, not, _&&_, cond, T, ltb, ltb→lt, nltb→le, le-trans}
+use Rattle.basics.specs.Words.{le-of-eq, mul-comm, mul-le-mul-right, mul-le-mul, mul-pos, mul-sub, add-mul, mul-mul-mul-comm, arith}
 use lib.Pow.{pow-pos}
 use lib.Ieee.{Float, nan, inf, fin, Format, low, up, down, round, sum, add, sub, mul, neg}
 use lib.Ieee.Fits.{down-pos}

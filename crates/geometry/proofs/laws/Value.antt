@@ -1,15 +1,10 @@
 -- A float's value as a signed whole number of the format's smallest value: p - n, where p or n is 0. An infinity counts as the least number that is too large.
 -- `Num f x p n` says that x is no NaN and has that value. The order is that of the values. Assumes nothing.
 -- Here: the laws.
-use mathlib.Core.Path.{_≡_, sym, ap, _∙_, subst}
-use mathlib.Core.Logic.{_⊎_, inl, inr}
-use Prim.Native.Nat.{ℕ, suc, _+_, _*_, _^_, _≤_, _<_}
-use native.Mathlib.Nat.{eq-zero-or-pos, le-trans, le-of-eq, lt-of-lt-of-le, lt-of-le-of-lt, lt-irrefl, zero-mul, mul-comm, mul-assoc, mul-right-comm}
-use native.Mathlib.Nat.{mul-le-mul-right, mul-lt-mul-of-pos-right, lt-of-mul-lt-mul-right, le-of-mul-le-mul-right, mul-pos, add-mul}
-use native.Mathlib.Nat.{eq-of-mul-eq-mul-right}
-use native.Mathlib.Omega.{arith}
-use mathlib.Core.Bool.{Bool, true, false, _||_}
-use lib.Dec.{T, eqb, ltb→lt, eqb→eq}
+use Rattle.basics.specs.Words.{ℕ, suc, _+_, _*_, _^_, _≤_, _<_, _≡_, sym, ap, _∙_, subst, Bool, true, false, _||_, _⊎_, inl, inr, T, eqb, ltb→lt, eqb→eq}
+use Rattle.basics.specs.Words.{eq-zero-or-pos, le-trans, le-of-eq, lt-of-lt-of-le, lt-of-le-of-lt, lt-irrefl, zero-mul, mul-comm, mul-assoc, mul-right-comm}
+use Rattle.basics.specs.Words.{mul-le-mul-right, mul-lt-mul-of-pos-right, lt-of-mul-lt-mul-right, le-of-mul-le-mul-right, mul-pos, add-mul}
+use Rattle.basics.specs.Words.{eq-of-mul-eq-mul-right, arith}
 use lib.Pow.{pow-pos}
 use lib.Ieee.{Float, nan, inf, fin, Format, emax, low, up, down, lt, eq, le}
 use lib.Ieee.Fits.{down-pos, and-l, and-r}

@@ -1,12 +1,6 @@
 -- Within a bound a float is finite, and a sum or a difference of two within 2 ^ j is within 2 ^ (j + 1). Assumes nothing.
-use mathlib.Core.Path.{_≡_, refl, sym, ap, _∙_}
-use mathlib.Core.Logic.{⊎-elim}
-use Prim.Native.Nat.{ℕ, suc, _+_, _-_, _*_, _^_, _≤_, _<_}
-use native.Mathlib.Nat.{le-trans, le-of-eq, one-mul, mul-one, add-mul, pow-suc}
-use native.Mathlib.Omega.{arith}
-use mathlib.Core.Bool.{true, false}
-use lib.IntN.{pos}
-use lib.Dec.{T}
+use Rattle.basics.specs.Words.{ℕ, suc, _+_, _-_, _*_, _^_, _≤_, _<_, _≡_, refl, sym, ap, _∙_, true, false, ⊎-elim, T, pos, le-trans, le-of-eq, one-mul, mul-one}
+use Rattle.basics.specs.Words.{add-mul, pow-suc, arith}
 use lib.Ieee.{Float, nan, inf, fin, Format, low, lt, eq, le, add, sub, fits}
 use lib.Ieee.Fits.{and-i, and-l, and-r}
 use lib.Ieee.Scale.{finite, overflow}

@@ -1,7 +1,6 @@
 -- `geometry::overlaps` meets its contract. Assumes nothing.
-use mathlib.Core.Path.{ap}
+use Rattle.basics.specs.Words.{ap, needs}
 use lib.Ieee.{Float, binary32, le, add, sub}
-use borrow.Author.Needs.{needs}
 use Rattle.geometry.specs.Meaning.Intersects.{overlaps}
 use Rattle.geometry.proofs.overlaps.Statement.{statement}
 use Rattle.geometry.proofs.overlaps.Tie as tie

@@ -1,5 +1,5 @@
 -- `geometry::position_in_domain` meets its contract. Assumes nothing.
-use borrow.Author.Needs.{needs}
+use Rattle.basics.specs.Words.{needs}
 use Rattle.geometry.proofs.Tests.{both}
 use Rattle.geometry.proofs.position_in_domain.Statement.{statement}
 use Rattle.geometry.proofs.position_in_domain.Tie as tie

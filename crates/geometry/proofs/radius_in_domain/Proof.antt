@@ -1,5 +1,5 @@
 -- `geometry::radius_in_domain` meets its contract. Assumes nothing.
-use mathlib.Core.Path.{ap, _∙_}
+use Rattle.basics.specs.Words.{ap, _∙_}
 use lib.Ieee.{Float, le}
 use Rattle.basics.proofs.laws.Says.{also}
 use Rattle.geometry.proofs.Tests.{both, nought, most}

@@ -1,9 +1,6 @@
 -- `geometry::same_bits` meets its contract. Assumes nothing.
-use mathlib.Core.Path.{_≡_, sym, _∙_, ap, subst}
-use mathlib.Core.Bool.{false, not}
-use lib.Dec.{T}
+use Rattle.basics.specs.Words.{_≡_, sym, _∙_, ap, subst, false, not, T, eq-eqb, eqb-true}
 use lib.Ieee.{Float, isNan, binary32, toBits}
-use borrow.Author.Tests.{eq-eqb, eqb-true}
 use Rattle.basics.proofs.laws.Says.{says-no}
 use Rattle.geometry.proofs.laws.BitsLaws.{same-by-bits, nan-if-unlike, number-if-alike}
 use Rattle.geometry.proofs.same_bits.Statement.{statement}

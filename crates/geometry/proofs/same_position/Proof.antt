@@ -1,6 +1,5 @@
 -- `geometry::same_position` meets its contract. Assumes nothing.
-use mathlib.Core.Path.{ap}
-use borrow.Author.Needs.{needs}
+use Rattle.basics.specs.Words.{ap, needs}
 use Rattle.basics.proofs.laws.Says.{both-true}
 use Rattle.geometry.specs.declared.Position.{Position}
 use Rattle.geometry.proofs.laws.BitsLaws.{same-by-axes}

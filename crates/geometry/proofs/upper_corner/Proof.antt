@@ -1,5 +1,5 @@
 -- `geometry::upper_corner` meets its contract. Assumes nothing.
-use borrow.Author.Needs.{needs}
+use Rattle.basics.specs.Words.{needs}
 use Rattle.geometry.proofs.laws.BitsLaws.{same-by-axes}
 use Rattle.geometry.proofs.upper_corner.Statement.{statement}
 use Rattle.geometry.proofs.upper_corner.Tie as tie

@@ -1,6 +1,6 @@
 -- The circle of `query_around`: the test, that the squared distance is below the squared radius, and the corners of the searched range.
 -- Each operation is rounded once. Assumes nothing.
-use mathlib.Core.Bool.{Bool}
+use Rattle.basics.specs.Words.{Bool}
 use lib.Ieee.{Float, binary32, lt, add, sub, mul}
 use Rattle.geometry.specs.declared.Position.{Position}
 

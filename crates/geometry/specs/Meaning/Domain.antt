@@ -1,8 +1,6 @@
 -- The domain: coordinates are binary32 numbers, finite with magnitude at most 2 ^ 20, which is 1,048,576; a radius is from 0 to that; no box is reversed.
 -- NaN and the infinities fail the comparisons here, and -0.0 counts as 0. Assumes nothing.
-use Prim.Native.Nat.{ℕ}
-use mathlib.Core.Bool.{Bool, true, false, _&&_}
-use lib.IntN.{pos}
+use Rattle.basics.specs.Words.{ℕ, Bool, true, false, _&&_, pos}
 use lib.Ieee.{Float, fin, binary32, le, fits}
 use Rattle.geometry.specs.declared.Position.{Position}
 use Rattle.geometry.specs.declared.Aabb.{Aabb}

@@ -1,5 +1,5 @@
 -- The box test, its operations in the order of `src/lib.rs`, the query box first. Assumes nothing.
-use mathlib.Core.Bool.{Bool, false, _&&_}
+use Rattle.basics.specs.Words.{Bool, false, _&&_}
 use lib.Ieee.{Float, nan, inf, fin, binary32, le, add, sub}
 use Rattle.geometry.specs.declared.Aabb.{Aabb}
 

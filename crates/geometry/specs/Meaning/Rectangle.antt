@@ -1,5 +1,5 @@
 -- The rectangle of `query_aabb`: corners sorted on each axis by comparison, edges included. Assumes nothing.
-use mathlib.Core.Bool.{Bool, _&&_}
+use Rattle.basics.specs.Words.{Bool, _&&_}
 use lib.Ieee.{Float, le}
 use Rattle.basics.specs.Meaning.Refusals.{pick}
 use Rattle.geometry.specs.declared.Position.{Position}

@@ -1,6 +1,5 @@
 -- The position and the box that stand in an answer which has none to give: each number is +0.0. Assumes nothing.
-use mathlib.Core.Bool.{false}
-use lib.IntN.{pos}
+use Rattle.basics.specs.Words.{false, pos}
 use lib.Ieee.{fin}
 use Rattle.geometry.specs.declared.Position.{Position}
 use Rattle.geometry.specs.declared.Aabb.{Aabb}

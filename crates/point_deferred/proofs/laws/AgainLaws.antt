@@ -1,7 +1,6 @@
 -- Deferred calls on an object that has something pending: a second removal returns the data again, and a removed object cannot be moved.
 -- Assumes nothing.
-use mathlib.Core.Path.{_≡_, refl, ap, _∙_}
-use mathlib.Core.Bool.{true}
+use Rattle.basics.specs.Words.{_≡_, refl, ap, _∙_, true}
 use Rattle.basics.proofs.laws.Says.{says-t}
 use Rattle.geometry.specs.Meaning.Domain.{positionInDomain}
 use Rattle.geometry.specs.declared.Position.{Position}

@@ -1,11 +1,5 @@
 -- The answers of the deferred calls: which there are, and what a refused and an accepted call leave. Assumes nothing.
-use Prim.Native.Nat.{ℕ}
-use mathlib.Core.Path.{_≡_, refl, sym, _∙_}
-use mathlib.Core.Bool.{Bool, true, false, not}
-use mathlib.Core.List.{List, [], _∷_}
-use mathlib.Core.Logic.{_⊎_, inl, inr, ⊎-elim}
-use native.Mathlib.Omega.{arith}
-use lib.Dec.{eqb}
+use Rattle.basics.specs.Words.{ℕ, _≡_, refl, sym, _∙_, Bool, true, false, not, List, [], _∷_, _⊎_, inl, inr, ⊎-elim, eqb, arith}
 use Rattle.basics.specs.Meaning.Says.{Says}
 use Rattle.basics.proofs.laws.Says.{apart, says-yes, says-no, d-eq}
 use Rattle.basics.specs.Meaning.Refusals.{orElse, pick}

@@ -1,14 +1,6 @@
 -- The answers of a batch: what 0 says, what it leaves with each, and that it keeps a grid. Assumes nothing.
-use Prim.Native.Nat.{ℕ, _≤_}
-use mathlib.Core.Path.{_≡_, refl}
-use mathlib.Core.Bool.{Bool, true, false, _&&_}
-use mathlib.Core.List.{List}
-use mathlib.Core.Logic.{⊎-elim}
-use native.Mathlib.Omega.{arith}
-use lib.Dec.{eqb, leb}
+use Rattle.basics.specs.Words.{ℕ, _≤_, _≡_, refl, Bool, true, false, _&&_, List, ⊎-elim, length, eqb, leb, arith, eqb-true, leb-true, ne-eqb}
 use lib.Ieee.{Float}
-use lib.ListN.{length}
-use borrow.Author.Tests.{eqb-true, leb-true, ne-eqb}
 use Rattle.basics.proofs.laws.Says.{apart, d-eq}
 use Rattle.basics.specs.Meaning.Refusals.{orElse}
 use Rattle.storage.specs.Meaning.Keyed.{written}

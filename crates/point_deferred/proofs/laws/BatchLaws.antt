@@ -1,13 +1,7 @@
 -- A batch runs its calls one by one: what holds before each, and what is left to do. Assumes nothing.
-use Prim.Native.Nat.{ℕ, suc, _+_, _≤_, _<_}
-use mathlib.Core.Path.{_≡_, refl, sym, ap, _∙_, subst}
-use mathlib.Core.List.{List, [], _∷_, _++_}
-use native.Mathlib.Omega.{arith}
-use native.Mathlib.Nat.{zero-add}
-use native.Mathlib.Numerals.{add-one}
+use Rattle.basics.specs.Words.{ℕ, suc, _+_, _≤_, _<_, _≡_, refl, sym, ap, _∙_, subst, List, [], _∷_, _++_, length, getD, set, drop, length-set}
+use Rattle.basics.specs.Words.{drop-of-length-le, sets, sets-eq, drop-cons, zero-add, add-one, arith}
 use lib.Ieee.{Float}
-use lib.ListN.{length, getD, set, drop, length-set, drop-of-length-le}
-use lib.Seq.{sets, sets-eq, drop-cons}
 use Rattle.storage.specs.Meaning.Keyed.{written}
 use Rattle.point_tables.specs.Meaning.Tables.{Tables}
 use Rattle.point_tables.specs.Meaning.Outcome.{Outcome, outcome}

@@ -1,15 +1,8 @@
 -- On tables that hold a grid a deferred call is `heldOf`, with the pool or without it, and it leaves tables that are ready for the next.
 -- Assumes nothing.
-use Prim.Native.Nat.{ℕ}
-use mathlib.Core.Path.{_≡_, refl, sym, ap, _∙_, subst}
-use mathlib.Core.Bool.{Bool, true, false, not}
-use mathlib.Core.List.{List, [], _∷_}
-use mathlib.Core.Logic.{⊎-elim}
-use native.Mathlib.Omega.{arith}
-use lib.Dec.{T, eqb}
+use Rattle.basics.specs.Words.{ℕ, _≡_, refl, sym, ap, _∙_, subst, Bool, true, false, not, List, [], _∷_, ⊎-elim, length, T, eqb, arith, eqb-false, eq-eqb}
+use Rattle.basics.specs.Words.{ne-eqb}
 use lib.Ieee.{Float}
-use lib.ListN.{length}
-use borrow.Author.Tests.{eqb-false, eq-eqb, ne-eqb}
 use Rattle.basics.proofs.laws.Says.{d-eq}
 use Rattle.basics.specs.Meaning.Refusals.{orElse}
 use Rattle.geometry.specs.Meaning.Domain.{positionInDomain}

@@ -1,15 +1,7 @@
 -- Many calls at once: the records by the calls one after the other, and then the marks by one walk, are what the calls make. Assumes nothing.
-use Prim.Native.Nat.{ℕ, _+_, _<_, _≤_}
-use mathlib.Core.Path.{_≡_, refl, sym, ap, _∙_, subst}
-use mathlib.Core.Bool.{Bool, true, false}
-use mathlib.Core.List.{List, [], _∷_}
-use mathlib.Core.Logic.{_⊎_, inl, inr, ⊎-elim}
-use native.Mathlib.Omega.{arith}
-use lib.Dec.{eqb}
-use lib.IntN.{ℤ}
+use Rattle.basics.specs.Words.{ℕ, _+_, _<_, _≤_, _≡_, refl, sym, ap, _∙_, subst, Bool, true, false, List, [], _∷_, _⊎_, inl, inr, ⊎-elim, length, getD, set}
+use Rattle.basics.specs.Words.{ext-getD, eqb, ℤ, arith}
 use lib.Ieee.{Float}
-use lib.ListN.{length, getD, set}
-use lib.Seq.{ext-getD}
 use Rattle.basics.proofs.laws.Says.{d-eq}
 use Rattle.basics.specs.Meaning.Says.{said}
 use Rattle.basics.specs.Meaning.Refusals.{pick}

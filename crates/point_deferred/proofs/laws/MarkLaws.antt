@@ -1,12 +1,6 @@
 -- The turns of the walk that marks the cells of pending objects. Assumes nothing.
-use Prim.Native.Nat.{ℕ, suc, _<_, _≤_}
-use mathlib.Core.Path.{_≡_, refl, sym, ap, _∙_, subst}
-use mathlib.Core.List.{List, [], _∷_}
-use mathlib.Core.Logic.{inl, inr, ⊎-elim}
-use native.Mathlib.Omega.{arith}
-use native.Mathlib.Nat.{not-suc-le-zero}
-use lib.ListN.{length, getD, set, length-set}
-use lib.Seq.{getD-set-same, getD-set-other}
+use Rattle.basics.specs.Words.{ℕ, suc, _<_, _≤_, _≡_, refl, sym, ap, _∙_, subst, List, [], _∷_, inl, inr, ⊎-elim, length, getD, set, length-set, getD-set-same}
+use Rattle.basics.specs.Words.{getD-set-other, not-suc-le-zero, arith}
 use Rattle.basics.proofs.laws.Says.{d-eq, d-lt}
 use Rattle.storage.specs.Meaning.Packed.{first, second}
 use Rattle.point_deferred.specs.Inner.Marks.{Walkable, SetRow, MarkedTo}

@@ -1,12 +1,5 @@
 -- The deferred calls keep a grid: tables that held one hold one after any call, and after any row of calls. Assumes nothing.
-use Prim.Native.Nat.{ℕ, _<_, _≤_}
-use mathlib.Core.Path.{_≡_, refl, sym, ap, _∙_, subst}
-use mathlib.Core.Bool.{Bool, true, false}
-use mathlib.Core.List.{List, [], _∷_}
-use mathlib.Core.Logic.{⊎-elim}
-use native.Mathlib.Omega.{arith}
-use lib.Dec.{eqb}
-use lib.ListN.{getD}
+use Rattle.basics.specs.Words.{ℕ, _<_, _≤_, _≡_, refl, sym, ap, _∙_, subst, Bool, true, false, List, [], _∷_, ⊎-elim, getD, eqb, arith}
 use Rattle.basics.proofs.laws.Says.{d-eq, d-lt}
 use Rattle.basics.specs.Meaning.Refusals.{pick}
 use Rattle.geometry.specs.declared.Position.{Position}
@@ -28,7 +21,8 @@ use Rattle.point_deferred.specs.Meaning.Moves.{pended, setPositionAnswer
 use Rattle.point_deferred.specs.Meaning.Batch.{Call, callOf, tablesAfter}
 use Rattle.point_deferred.specs.Inner.Ready.{Ready}
 use Rattle.point_deferred.proofs.laws.ReadyLaws.{holds-ready}
-use Rattle.point_deferred.proofs.laws.PendedLaws.{nums-long, reals-long, ints-long, record-same, record-other, kept, tag-same, tag-other, cells-long, key-kept, mark-set, mark-kept}
+use Rattle.point_deferred.proofs.laws.PendedLaws.{nums-long, reals-long, ints-long, record-same, record-other, kept, tag-same, tag-other, cells-long}
+use Rattle.point_deferred.proofs.laws.PendedLaws.{key-kept, mark-set, mark-kept}
 use Rattle.point_deferred.proofs.laws.MovesLaws.{set-accepted, remove-accepted, set-refused, set-done, remove-refused, remove-done}
 
 tag-most : (s : State) → tagOf s ≤ 3

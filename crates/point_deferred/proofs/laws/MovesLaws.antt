@@ -1,10 +1,5 @@
 -- The answers of the deferred calls: what each says, that there is no other, and that a refused call changes nothing. Assumes nothing.
-use Prim.Native.Nat.{_<_}
-use mathlib.Core.Path.{_≡_, refl, sym, subst}
-use mathlib.Core.Bool.{Bool, true, false, not}
-use native.Mathlib.Omega.{arith}
-use lib.Dec.{T}
-use borrow.Author.Tests.{eq-eqb, ne-eqb}
+use Rattle.basics.specs.Words.{_<_, _≡_, refl, sym, subst, Bool, true, false, not, T, arith, eq-eqb, ne-eqb}
 use Rattle.basics.specs.Meaning.Refusals.{orElse}
 use Rattle.basics.proofs.laws.Says.{untrue}
 use Rattle.geometry.specs.Meaning.Domain.{positionInDomain}

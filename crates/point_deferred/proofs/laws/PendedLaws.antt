@@ -1,11 +1,6 @@
 -- What a pending state changes in the tables: the state of one record and the mark of its cell, and nothing else. Assumes nothing.
-use Prim.Native.Nat.{ℕ, _<_}
-use mathlib.Core.Path.{_≡_, refl, sym, ap, _∙_, subst}
-use mathlib.Core.List.{List, [], _∷_}
-use mathlib.Core.Logic.{⊎-elim}
-use native.Mathlib.Omega.{arith}
-use lib.ListN.{length, getD, set, length-set}
-use lib.Seq.{getD-set-same, getD-set-other}
+use Rattle.basics.specs.Words.{ℕ, _<_, _≡_, refl, sym, ap, _∙_, subst, List, [], _∷_, ⊎-elim, length, getD, set, length-set, getD-set-same, getD-set-other}
+use Rattle.basics.specs.Words.{arith}
 use Rattle.basics.proofs.laws.Says.{d-eq}
 use Rattle.cells.specs.Meaning.Key.{keyOf}
 use Rattle.slots.specs.Meaning.Slot.{live, phaseAt}

@@ -1,11 +1,6 @@
 -- Tables that hold a grid are ready for a deferred call, and so they are without the pool. Assumes nothing.
-use Prim.Native.Nat.{ℕ, _<_}
-use mathlib.Core.Path.{_≡_, ap, _∙_}
-use mathlib.Core.List.{List, [], _∷_}
-use native.Mathlib.Omega.{arith}
+use Rattle.basics.specs.Words.{ℕ, _<_, _≡_, ap, _∙_, List, [], _∷_, set, length-take-le, getD-take, arith}
 use lib.Ieee.{Float}
-use lib.ListN.{set}
-use lib.Seq.{length-take-le, getD-take}
 use Rattle.cells.specs.Meaning.Key.{keyOf}
 use Rattle.storage.specs.Meaning.Keyed.{written}
 use Rattle.storage.specs.Meaning.Entries.{rowKey}

@@ -1,8 +1,5 @@
 -- `point_deferred::remove` meets its contract. Assumes nothing.
-use mathlib.Core.Path.{_≡_, sym, _∙_}
-use mathlib.Core.Bool.{true}
-use borrow.Author.Tests.{not-true, not-false}
-use borrow.Author.Needs.{needs}
+use Rattle.basics.specs.Words.{_≡_, sym, _∙_, true, not-true, not-false, needs}
 use Rattle.point_tables.specs.Meaning.Tables.{Tables, tables}
 use Rattle.point_tables.specs.Meaning.Decide.{holds, holds-says}
 use Rattle.point_deferred.proofs.laws.ReadyLaws.{holds-ready, ready-pool}

@@ -1,7 +1,6 @@
 -- A batch of deferred calls: kind 0 is `set_position`, any other `remove`. Assumes nothing.
 -- Here: what only inner contracts cite.
-use Prim.Native.Nat.{ℕ}
-use mathlib.Core.List.{List}
+use Rattle.basics.specs.Words.{ℕ, List}
 use lib.Ieee.{Float}
 use Rattle.basics.specs.Meaning.Lent.{Lent, was}
 use Rattle.point_deferred.specs.Meaning.Batch.{Call, callsOf}

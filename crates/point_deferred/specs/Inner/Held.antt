@@ -1,14 +1,9 @@
 -- A deferred call on tables that are known to hold a grid: what the working code does. `HeldLaws` shows that it is the call. The pool and
 -- its positions are neither read nor written, so that the tables may be without them. Assumes nothing.
 -- Here: what only inner contracts cite.
-use Prim.Native.Nat.{ℕ}
-use mathlib.Core.Path.{_≡_}
-use mathlib.Core.List.{List, [], _∷_}
-use lib.Dec.{eqb}
+use Rattle.basics.specs.Words.{ℕ, _≡_, List, [], _∷_, set, eqb, ℤ}
 use denote.Ref.{RefT, now}
-use lib.IntN.{ℤ}
 use lib.Ieee.{Float}
-use lib.ListN.{set}
 use Rattle.basics.specs.Meaning.Lent.{Lent, was, is}
 use Rattle.basics.specs.Meaning.Says.{said}
 use Rattle.basics.specs.Meaning.Refusals.{firstOf, pick}

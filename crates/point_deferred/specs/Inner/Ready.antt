@@ -1,7 +1,5 @@
 -- What a deferred call needs of its tables: less than that they hold a grid, since it neither reads nor writes the pool. Assumes nothing.
-use Prim.Native.Nat.{ℕ, _<_, _≤_}
-use mathlib.Core.Path.{_≡_}
-use lib.ListN.{length}
+use Rattle.basics.specs.Words.{ℕ, _<_, _≤_, _≡_, length}
 use Rattle.geometry.specs.declared.Position.{Position}
 use Rattle.cells.specs.Meaning.Size.{SizeInDomain}
 use Rattle.cells.specs.Meaning.Key.{keyOf}

@@ -1,10 +1,6 @@
 -- A batch of deferred calls: kind 0 is `set_position`, any other `remove`. Assumes nothing.
-use Prim.Native.Nat.{ℕ}
-use mathlib.Core.Bool.{Bool, _&&_}
-use mathlib.Core.List.{List, [], _∷_}
-use lib.Dec.{eqb, leb}
-use lib.Ieee.{Float, nan}
-use lib.ListN.{length, getD}
+use Rattle.basics.specs.Words.{ℕ, Bool, _&&_, List, [], _∷_, length, getD, eqb, leb}
+use lib.Ieee.{Float}
 use Rattle.basics.specs.Meaning.Lent.{Lent, is}
 use Rattle.basics.specs.Meaning.Refusals.{Refusal, unless, firstOf, pick, byTests}
 use Rattle.geometry.specs.declared.Position.{Position}

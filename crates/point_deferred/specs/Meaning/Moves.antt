@@ -1,7 +1,5 @@
 -- `set_position` and the deferred `remove`: their answers, and the tables after them. Assumes nothing.
-use Prim.Native.Nat.{ℕ}
-use mathlib.Core.Bool.{not}
-use mathlib.Core.List.{List, [], _∷_}
+use Rattle.basics.specs.Words.{ℕ, not, List, [], _∷_}
 use Rattle.basics.specs.Meaning.Refusals.{Refusal, unless, firstOf, byTests}
 use Rattle.geometry.specs.Meaning.Domain.{positionInDomain}
 use Rattle.geometry.specs.declared.Position.{Position}

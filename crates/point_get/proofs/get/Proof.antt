@@ -1,11 +1,6 @@
 -- `point_get::get` meets its contract. Assumes nothing.
-use Prim.Native.Nat.{ℕ, _<_}
-use mathlib.Core.Path.{_≡_, sym, ap, _∙_, subst}
-use mathlib.Core.Bool.{true}
+use Rattle.basics.specs.Words.{ℕ, _<_, _≡_, sym, ap, _∙_, subst, true, length, not-true, not-false, needs}
 use lib.Ieee.{ofBits}
-use lib.ListN.{length}
-use borrow.Author.Tests.{not-true, not-false}
-use borrow.Author.Needs.{needs}
 use Rattle.slots.specs.Meaning.Slot.{good}
 use Rattle.slots.proofs.laws.HandleLaws.{not-refused}
 use Rattle.point_tables.specs.Meaning.Tables.{Tables, tables, recordOn}

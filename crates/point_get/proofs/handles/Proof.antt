@@ -1,13 +1,7 @@
 -- `point_get::handles` meets its contract. Assumes nothing.
-use Prim.Native.Nat.{ℕ, _<_, _≤_}
-use mathlib.Core.Path.{_≡_, sym, ap, _∙_, subst}
-use mathlib.Core.Bool.{true}
-use native.Mathlib.Omega.{arith}
-use lib.ListN.{length}
-use borrow.Author.Needs.{needs}
-use Rattle.point_tables.specs.Meaning.Tables.{Tables, tables, slotsOf}
+use Rattle.basics.specs.Words.{ℕ, _≤_, _≡_, sym, ap, _∙_, true, length, arith, needs}
+use Rattle.point_tables.specs.Meaning.Tables.{Tables, tables}
 use Rattle.point_tables.specs.Meaning.Decide.{holds, holds-says}
-use Rattle.storage.proofs.laws.WrittenLaws.{length-written}
 use Rattle.replies.specs.declared.Count.{Count}
 use Rattle.point_get.specs.Meaning.{listing, liveHandles, lenOf}
 use Rattle.point_get.proofs.laws.ReadsLaws.{len-0, len-3, len-done, len-refused, handles-3, handles-9, handles-0}

@@ -1,6 +1,5 @@
 -- The handles are as many as the live slots, and these as the entries in use. Assumes nothing.
-use mathlib.Core.Path.{_≡_, _∙_}
-use lib.ListN.{length, length-map}
+use Rattle.basics.specs.Words.{_≡_, _∙_, length, length-map}
 use Rattle.point_tables.specs.Meaning.Tables.{Tables, usedOf}
 use Rattle.point_tables.specs.Meaning.Holds.{Holds}
 use Rattle.point_tables.proofs.laws.CountLaws.{live-count}

@@ -1,12 +1,6 @@
 -- The reading calls, answer by answer. Assumes nothing.
-use Prim.Native.Nat.{ℕ, _<_, _≤_}
-use mathlib.Core.Path.{_≡_, refl, sym, ap}
-use mathlib.Core.Bool.{Bool, true, false, _&&_}
-use mathlib.Core.List.{List, [], _∷_}
-use native.Mathlib.Omega.{arith}
-use lib.Dec.{eqb, ltb}
-use lib.ListN.{length}
-use borrow.Author.Tests.{ltb-true, ne-eqb, le-leb, lt-leb}
+use Rattle.basics.specs.Words.{ℕ, _<_, _≤_, _≡_, refl, sym, ap, Bool, true, false, _&&_, List, [], _∷_, length, eqb, ltb, arith, ltb-true, ne-eqb, le-leb}
+use Rattle.basics.specs.Words.{lt-leb}
 use Rattle.basics.proofs.laws.Says.{both-true}
 use Rattle.slots.specs.declared.Handle.{Handle}
 use Rattle.slots.specs.Meaning.Slot.{live, good, handleRefusal, phaseAt, versionAt}

@@ -1,11 +1,6 @@
 -- `point_get::len` meets its contract. Assumes nothing.
-use Prim.Native.Nat.{ℕ, _<_, _≤_}
-use mathlib.Core.Path.{_≡_, sym, ap, _∙_}
-use mathlib.Core.Bool.{true}
-use native.Mathlib.Omega.{arith}
-use borrow.Author.Tests.{not-true, not-false}
-use borrow.Author.Needs.{needs}
-use Rattle.point_tables.specs.Meaning.Tables.{Tables, tables, usedOf}
+use Rattle.basics.specs.Words.{_≡_, sym, ap, _∙_, true, arith, not-true, not-false, needs}
+use Rattle.point_tables.specs.Meaning.Tables.{Tables, tables}
 use Rattle.point_tables.specs.Meaning.Holds.{Holds}
 use Rattle.point_tables.specs.Meaning.Decide.{holds, holds-says}
 use Rattle.point_get.proofs.laws.ReadsLaws.{len-3, len-0}

@@ -1,12 +1,6 @@
 -- The length law: since an accepted `new`, the number of objects is that of the accepted inserts less the objects taken out. Assumes nothing.
-use Prim.Native.Nat.{ℕ, _+_}
-use mathlib.Core.Path.{_≡_, refl, sym, ap, _∙_}
-use mathlib.Core.Bool.{Bool, true, false}
-use mathlib.Core.List.{List, [], _∷_}
-use native.Mathlib.Omega.{arith}
-use lib.Dec.{eqb}
+use Rattle.basics.specs.Words.{ℕ, _+_, _≡_, refl, sym, ap, _∙_, Bool, true, false, List, [], _∷_, eqb, arith, eqb-true, eqb-false}
 use lib.Ieee.{Float}
-use borrow.Author.Tests.{eqb-true, eqb-false}
 use Rattle.basics.proofs.laws.Says.{apart, says-t}
 use Rattle.geometry.specs.declared.Position.{Position}
 use Rattle.geometry.specs.Meaning.Domain.{positionInDomain}
@@ -35,7 +29,8 @@ use Rattle.point_maintain.proofs.laws.MaintainLaws.{maintain-keeps, maintain-le
 use Rattle.point_get.specs.Meaning.{lenOf}
 use Rattle.point_get.proofs.laws.ReadsLaws.{len-0}
 use Rattle.point_get.proofs.laws.LenLaws.{len-used}
-use Rattle.point_histories.specs.Inner.History.{Op, insert, setPosition, remove, batch, maintain, removeMaintain, clear, after, afterAll, accepted, putIn, objectsTakenOut, allIn, allOut}
+use Rattle.point_histories.specs.Inner.History.{Op, insert, setPosition, remove, batch, maintain, removeMaintain, clear, after, afterAll, accepted, putIn}
+use Rattle.point_histories.specs.Inner.History.{objectsTakenOut, allIn, allOut}
 
 -- ---- every call keeps the tables holding a grid
 pub after-holds : (t : Tables) (o : Op) → Holds t → Holds (after t o)

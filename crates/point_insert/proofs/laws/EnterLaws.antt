@@ -1,12 +1,6 @@
 -- A cell that is entered has a row: its own, or a new one with no mark. So the rows stay a storage when an entry is appended and its cell
 -- entered, and there are never more rows than entries. Assumes nothing.
-use Prim.Native.Nat.{ℕ, zero, suc, _<_, _≤_}
-use mathlib.Core.Path.{_≡_, refl, sym}
-use mathlib.Core.List.{List, [], _∷_, _++_, cons≢nil}
-use mathlib.Core.Logic.{inl, inr}
-use native.Mathlib.Omega.{arith}
-use lib.Dec.{eqb}
-use borrow.Author.Tests.{eqb-false}
+use Rattle.basics.specs.Words.{ℕ, zero, suc, _<_, _≤_, _≡_, refl, sym, List, [], _∷_, _++_, cons≢nil, inl, inr, eqb, arith, eqb-false}
 use Rattle.basics.proofs.laws.Says.{d-le}
 use Rattle.storage.specs.Meaning.Keyed.{All, under, onList, append1}
 use Rattle.storage.specs.Inner.Keyed.{Sorted}

@@ -1,11 +1,5 @@
 -- An accepted insert leaves tables that hold a grid. Assumes nothing.
-use Prim.Native.Nat.{ℕ, _<_}
-use mathlib.Core.Path.{_≡_, refl, sym, _∙_, ap}
-use mathlib.Core.List.{[]}
-use mathlib.Core.Logic.{inl, inr}
-use native.Mathlib.Omega.{arith}
-use lib.ListN.{length, getD, drop, List·getD-append}
-use lib.Seq.{getD-set-same, getD-set-other}
+use Rattle.basics.specs.Words.{ℕ, _<_, _≡_, refl, sym, _∙_, ap, [], inl, inr, length, getD, drop, List·getD-append, getD-set-same, getD-set-other, arith}
 use Rattle.basics.proofs.laws.Says.{d-eq}
 use Rattle.geometry.specs.declared.Position.{Position}
 use Rattle.cells.specs.Meaning.CellRule.{cellAt}
@@ -28,7 +22,8 @@ use Rattle.point_insert.specs.Meaning.Insert.{newRecord, newEntry, entri
 use Rattle.point_tables.proofs.laws.Members.{some-append1, new-append1, pairs-append1}
 use Rattle.point_insert.proofs.laws.EnterLaws.{all-entered}
 use Rattle.point_tables.proofs.laws.ListedLaws.{Named, Listing, from-listing, listing, unnamed, rows-in}
-use Rattle.point_insert.proofs.laws.PutLaws.{put-rows, put-size, put-length, put-slots, put-same, put-other, put-entries, put-packed, put-sized, put-counted}
+use Rattle.point_insert.proofs.laws.PutLaws.{put-rows, put-size, put-length, put-slots, put-same, put-other, put-entries, put-packed, put-sized}
+use Rattle.point_insert.proofs.laws.PutLaws.{put-counted}
 
 module _ (t : Tables) (h : Holds t) (s : ℕ) (inside : s < slotsOf t) (is-free : phaseAt (t .nums) s ≡ free) (p : Position) (d : ℕ) (in-domain : InDomain p) where
   abbrev after : Tables

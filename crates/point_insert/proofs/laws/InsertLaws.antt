@@ -1,8 +1,5 @@
 -- `insert`: exactly when each answer is given, what it then leaves, and that tables that hold a grid still do after it. Assumes nothing.
-use Prim.Native.Nat.{ℕ}
-use mathlib.Core.Path.{_≡_, refl, _∙_}
-use mathlib.Core.Bool.{Bool, true, false}
-use lib.Dec.{eqb}
+use Rattle.basics.specs.Words.{ℕ, _≡_, refl, _∙_, Bool, true, false, eqb}
 use Rattle.basics.proofs.laws.Says.{says-t, not-said}
 use Rattle.basics.specs.Meaning.Refusals.{pick}
 use Rattle.geometry.specs.Meaning.Domain.{positionInDomain}

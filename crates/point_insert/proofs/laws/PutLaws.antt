@@ -1,9 +1,5 @@
 -- The tables after an insert, part by part: the counts, the slots, the records, the entries and the rows. Assumes nothing.
-use Prim.Native.Nat.{ℕ, _+_, _<_, _≤_}
-use mathlib.Core.Path.{_≡_, refl, _∙_, ap, subst}
-use mathlib.Core.List.{map}
-use native.Mathlib.Omega.{arith}
-use lib.ListN.{length, set, length-set, length-map}
+use Rattle.basics.specs.Words.{ℕ, _+_, _<_, _≤_, _≡_, refl, _∙_, ap, subst, map, length, set, length-set, length-map, arith}
 use Rattle.geometry.specs.declared.Position.{Position}
 use Rattle.slots.specs.Meaning.Map.{head, taken}
 use Rattle.slots.proofs.laws.MapLaws.{taken-length, taken-head}

@@ -1,11 +1,6 @@
 -- What the work of an insert needs, and its parts in the words of the code. Assumes nothing.
-use Prim.Native.Nat.{ℕ, _<_}
-use mathlib.Core.Path.{_≡_}
-use mathlib.Core.Bool.{Bool}
-use mathlib.Core.List.{List}
-use lib.IntN.{ℤ}
+use Rattle.basics.specs.Words.{ℕ, _<_, _≡_, Bool, List, set, ℤ}
 use lib.Ieee.{Float}
-use lib.ListN.{set}
 use Rattle.basics.specs.Meaning.Lent.{Lent, was, is}
 use Rattle.geometry.specs.Meaning.Domain.{positionInDomain}
 use Rattle.geometry.specs.declared.Position.{Position}

@@ -1,7 +1,6 @@
 -- `insert`: the lowest usable slot takes the object, and (handle, position) goes to the end of its cell's list. Assumes nothing.
 -- Here: what only inner contracts cite.
-use Prim.Native.Nat.{ℕ}
-use mathlib.Core.Bool.{Bool}
+use Rattle.basics.specs.Words.{ℕ, Bool}
 use Rattle.basics.specs.Meaning.Refusals.{firstOf}
 use Rattle.slots.specs.declared.Usable.{Usable}
 use Rattle.point_insert.specs.Meaning.Insert.{insertTestsBy}

@@ -1,8 +1,5 @@
 -- `insert`: the lowest usable slot takes the object, and (handle, position) goes to the end of its cell's list. Assumes nothing.
-use Prim.Native.Nat.{ℕ}
-use mathlib.Core.Bool.{Bool}
-use mathlib.Core.List.{List, [], _∷_, map}
-use lib.ListN.{length, set}
+use Rattle.basics.specs.Words.{ℕ, Bool, List, [], _∷_, map, length, set}
 use Rattle.basics.specs.Meaning.Refusals.{Refusal, unless, firstOf, byTests}
 use Rattle.geometry.specs.Meaning.Domain.{positionInDomain}
 use Rattle.geometry.specs.declared.Position.{Position}

@@ -1,12 +1,5 @@
 -- A cell with no dirty mark has no object with something pending, so that to pass it over is to walk it. Assumes nothing.
-use Prim.Native.Nat.{ℕ, _<_}
-use mathlib.Core.Path.{_≡_, refl, sym, _∙_, ap}
-use mathlib.Core.Bool.{true, false}
-use mathlib.Core.List.{List, [], _∷_}
-use mathlib.Core.Logic.{_⊎_, inl, inr, ⊎-elim}
-use native.Mathlib.Omega.{arith}
-use lib.Dec.{eqb}
-use borrow.Author.Tests.{eqb-true, eq-eqb}
+use Rattle.basics.specs.Words.{ℕ, _<_, _≡_, refl, sym, _∙_, ap, true, false, List, [], _∷_, _⊎_, inl, inr, ⊎-elim, eqb, arith, eqb-true, eq-eqb}
 use Rattle.basics.proofs.laws.Says.{apart}
 use Rattle.slots.specs.Meaning.Slot.{live, phaseAt}
 use Rattle.storage.specs.Meaning.Keyed.{All, under}

@@ -1,12 +1,6 @@
 -- The lists of the cells in use, one after the other in the order of the table, are sorted, and the table's order is an order of visiting.
 -- Assumes nothing.
-use Prim.Native.Nat.{ℕ, _≤_, _<_}
-use mathlib.Core.Path.{_≡_, refl, sym, _∙_, ap}
-use mathlib.Core.Bool.{true, false}
-use mathlib.Core.List.{List, [], _∷_, map, append-nil}
-use native.Mathlib.Omega.{arith}
-use lib.Dec.{eqb}
-use borrow.Author.Tests.{eqb-true, eqb-false, ne-eqb}
+use Rattle.basics.specs.Words.{ℕ, _≤_, _<_, _≡_, refl, sym, _∙_, ap, true, false, List, [], _∷_, map, append-nil, eqb, arith, eqb-true, eqb-false, ne-eqb}
 use Rattle.basics.specs.Meaning.Refusals.{pick}
 use Rattle.basics.proofs.laws.Says.{apart}
 use Rattle.storage.specs.Meaning.Keyed.{All, under}

@@ -1,10 +1,7 @@
 -- The tables with everything done that was to be done, with no order of the cells in it; and what an order of visiting them is.
 -- Assumes nothing.
 -- Here: the laws.
-use Prim.Native.Nat.{ℕ}
-use mathlib.Core.Path.{_≡_}
-use mathlib.Core.Bool.{true}
-use mathlib.Core.List.{List}
+use Rattle.basics.specs.Words.{ℕ, _≡_, true, List}
 use Rattle.point_tables.specs.Meaning.Tables.{Tables, cellRows}
 use Rattle.point_maintain.specs.Meaning.Maintain.{isDirty}
 use Rattle.point_maintain.proofs.laws.Settle.{among, Distinct}

@@ -1,9 +1,5 @@
 -- The counts that maintain returns, and the length law: the objects left and the objects removed are the objects before. Assumes nothing.
-use Prim.Native.Nat.{ℕ, zero, suc, _+_, _<_}
-use mathlib.Core.Path.{_≡_, refl, sym, _∙_, ap, ap₂}
-use mathlib.Core.Bool.{Bool, true, false, not}
-use native.Mathlib.Omega.{arith}
-use borrow.Author.Tests.{eqb-true}
+use Rattle.basics.specs.Words.{ℕ, zero, suc, _+_, _<_, _≡_, refl, sym, _∙_, ap, ap₂, Bool, true, false, not, arith, eqb-true}
 use Rattle.basics.specs.Inner.Counting.{one, countBelow}
 use Rattle.basics.specs.Meaning.Refusals.{pick}
 use Rattle.storage.proofs.laws.FilterLaws.{by-test}

@@ -1,14 +1,8 @@
 -- Slots may be given back to the map in any order. Assumes nothing.
-use Prim.Native.Nat.{ℕ, _+_, _/_, _%_, _^_, _<_, _≤_, max}
-use mathlib.Core.Path.{_≡_, sym, _∙_}
-use mathlib.Core.List.{List}
-use mathlib.Core.Logic.{⊎-elim}
-use native.Mathlib.Omega.{arith}
-use native.Mathlib.Nat.{max-le}
+use Rattle.basics.specs.Words.{ℕ, _+_, _/_, _%_, _^_, _<_, _≤_, max, _≡_, sym, _∙_, List, ⊎-elim, length, getD, set, getD-set-same, getD-set-other, set-out}
+use Rattle.basics.specs.Words.{set-set, set-comm, max-le, arith}
 use lib.Arith.{bin-ind}
 use lib.Bits.{bitOr, or-step, or-comm}
-use lib.ListN.{length, getD, set}
-use lib.Seq.{getD-set-same, getD-set-other, set-out, set-set, set-comm}
 use Rattle.basics.proofs.laws.Says.{d-eq, d-lt}
 use Rattle.slots.specs.Meaning.Map.{head, givenBack}
 

@@ -1,8 +1,6 @@
 -- The walk of one list by itself: each entry's fate is given, and no tables change as it goes. Assumes nothing.
 -- Here: the laws.
-use Prim.Native.Nat.{ℕ, zero, suc}
-use mathlib.Core.List.{List, [], _∷_, _++_}
-use lib.ListN.{length}
+use Rattle.basics.specs.Words.{ℕ, zero, suc, List, [], _∷_, _++_, length}
 use Rattle.storage.specs.Meaning.Entries.{Entry}
 use Rattle.point_maintain.specs.Meaning.Walk.{Fate, leaving, rest}
 

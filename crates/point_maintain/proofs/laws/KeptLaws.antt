@@ -1,10 +1,5 @@
 -- Laws of the walk of one list by itself: each entry that stays is kept, and each that is relocated is moved, once. Assumes nothing.
-use Prim.Native.Nat.{ℕ, zero, suc, _+_, _≤_}
-use mathlib.Core.Path.{_≡_, refl, sym, _∙_, ap}
-use mathlib.Core.List.{List, [], _∷_, _++_}
-use native.Mathlib.Omega.{arith}
-use native.Mathlib.Nat.{not-suc-le-zero, le-of-suc-le-suc}
-use lib.ListN.{length}
+use Rattle.basics.specs.Words.{ℕ, zero, suc, _+_, _≤_, _≡_, refl, sym, _∙_, ap, List, [], _∷_, _++_, length, not-suc-le-zero, le-of-suc-le-suc, arith}
 use Rattle.storage.specs.Meaning.Keyed.{All}
 use Rattle.storage.specs.Meaning.Entries.{Entry}
 use Rattle.storage.proofs.laws.FilterLaws.{all-append}

@@ -1,11 +1,5 @@
 -- Maintain leaves tables that hold a grid, with nothing pending and no mark set; and what it leaves of each object. Assumes nothing.
-use Prim.Native.Nat.{ℕ, _≤_, _<_}
-use mathlib.Core.Path.{_≡_, refl, sym, _∙_, ap}
-use mathlib.Core.Bool.{true}
-use mathlib.Core.List.{[], _∷_, map}
-use native.Mathlib.Omega.{arith}
-use lib.ListN.{length, getD, drop, length-map, List·getD-append}
-use borrow.Author.Tests.{eq-eqb}
+use Rattle.basics.specs.Words.{ℕ, _≤_, _<_, _≡_, refl, sym, _∙_, ap, true, [], _∷_, map, length, drop, length-map, List·getD-append, arith, eq-eqb}
 use Rattle.basics.specs.Inner.Counting.{one}
 use Rattle.slots.specs.Meaning.Map.{head}
 use Rattle.slots.specs.Meaning.Slot.{live, phaseAt, SlotsHold}

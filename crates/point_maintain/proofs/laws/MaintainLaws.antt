@@ -1,7 +1,5 @@
 -- The outcome of `maintain`: its counts, and that tables that hold a grid are followed by tables that do. Assumes nothing.
-use Prim.Native.Nat.{_+_}
-use mathlib.Core.Path.{_≡_, sym, _∙_, ap}
-use native.Mathlib.Omega.{arith}
+use Rattle.basics.specs.Words.{_+_, _≡_, sym, _∙_, ap, arith}
 use Rattle.basics.proofs.laws.Says.{apart}
 use Rattle.storage.proofs.laws.FilterLaws.{by-test}
 use Rattle.point_records.specs.Meaning.States.{isRemoved}

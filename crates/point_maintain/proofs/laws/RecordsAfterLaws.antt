@@ -1,12 +1,5 @@
 -- The records once every live slot is settled: each slot's record after, in terms of its record before. Assumes nothing.
-use Prim.Native.Nat.{ℕ, zero, suc, _≤_, _<_}
-use mathlib.Core.Path.{_≡_, refl, sym, _∙_, ap, subst}
-use mathlib.Core.Bool.{Bool, true, false, not}
-use mathlib.Core.List.{[]}
-use native.Mathlib.Omega.{arith}
-use lib.Dec.{eqb}
-use lib.ListN.{getD}
-use borrow.Author.Tests.{eqb-true}
+use Rattle.basics.specs.Words.{ℕ, zero, suc, _≤_, _<_, _≡_, refl, sym, _∙_, ap, subst, Bool, true, false, not, eqb, arith, eqb-true}
 use Rattle.basics.specs.Meaning.Refusals.{pick}
 use Rattle.basics.proofs.laws.Says.{apart, untrue}
 use Rattle.slots.specs.Meaning.Slot.{live, lastVersion, phaseAt, SlotsHold}

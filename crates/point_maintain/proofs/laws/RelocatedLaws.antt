@@ -1,13 +1,6 @@
 -- The relocated entries, whatever the order of the cells: sorted by slot they are those that the records say. Assumes nothing.
-use Prim.Native.Nat.{ℕ, zero, suc, _+_, _*_, _≤_, _<_}
-use mathlib.Core.Path.{_≡_, refl, sym, _∙_, ap, ap₂}
-use mathlib.Core.Bool.{Bool, true, false}
-use mathlib.Core.List.{List, [], _∷_, _++_}
-use native.Mathlib.Omega.{arith}
-use native.Mathlib.Nat.{add-mul, zero-add}
-use lib.Dec.{eqb}
-use lib.ListN.{length}
-use borrow.Author.Tests.{eqb-true, eq-eqb}
+use Rattle.basics.specs.Words.{ℕ, zero, suc, _+_, _*_, _≤_, _<_, _≡_, refl, sym, _∙_, ap, ap₂, Bool, true, false, List, [], _∷_, _++_, length, eqb, add-mul}
+use Rattle.basics.specs.Words.{zero-add, arith, eqb-true, eq-eqb}
 use Rattle.basics.specs.Inner.Counting.{one}
 use Rattle.basics.specs.Meaning.Refusals.{pick}
 use Rattle.basics.proofs.laws.Says.{apart}

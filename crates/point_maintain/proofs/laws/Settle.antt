@@ -1,10 +1,6 @@
 -- Slots settled one after the other: those of a list, those below n that pass a test, and every live one. Assumes nothing.
 -- Here: the laws.
-use Prim.Native.Nat.{ℕ}
-use mathlib.Core.Path.{_≡_, refl}
-use mathlib.Core.Bool.{Bool, true, false}
-use mathlib.Core.List.{List, [], _∷_}
-use lib.Dec.{eqb}
+use Rattle.basics.specs.Words.{ℕ, _≡_, refl, Bool, true, false, List, [], _∷_, eqb}
 use Rattle.basics.specs.Meaning.Refusals.{pick}
 use Rattle.point_tables.specs.Meaning.Tables.{Tables}
 use Rattle.point_maintain.specs.Meaning.Walk.{settled}

@@ -1,14 +1,7 @@
 -- Laws of slots settled one after the other: each slot that passes is settled, every other is as it was, and the order is no matter.
 -- Assumes nothing.
-use Prim.Native.Nat.{ℕ, zero, suc, _≤_, _<_}
-use mathlib.Core.Path.{_≡_, refl, sym, _∙_, ap}
-use mathlib.Core.Bool.{Bool, true, false}
-use mathlib.Core.List.{List, [], _∷_, _++_}
-use mathlib.Core.Logic.{_⊎_, inl, ⊎-elim}
-use native.Mathlib.Omega.{arith}
-use lib.Dec.{eqb}
-use lib.ListN.{getD}
-use borrow.Author.Tests.{eq-eqb, ne-eqb}
+use Rattle.basics.specs.Words.{ℕ, zero, suc, _≤_, _<_, _≡_, refl, sym, _∙_, ap, Bool, true, false, List, [], _∷_, _++_, _⊎_, inl, ⊎-elim, getD, eqb, arith}
+use Rattle.basics.specs.Words.{eq-eqb, ne-eqb}
 use Rattle.basics.specs.Meaning.Refusals.{pick}
 use Rattle.basics.proofs.laws.Says.{d-eq}
 use Rattle.slots.specs.Meaning.Map.{head}

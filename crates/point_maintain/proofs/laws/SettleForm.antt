@@ -1,13 +1,6 @@
 -- A slot settled, row by row: what comes of each row depends on the rows of that slot alone. Assumes nothing.
-use Prim.Native.Nat.{ℕ}
-use mathlib.Core.Path.{_≡_, refl, sym}
-use mathlib.Core.Bool.{Bool, false, not}
-use mathlib.Core.List.{List, []}
-use lib.Dec.{eqb}
-use lib.IntN.{ℤ}
+use Rattle.basics.specs.Words.{ℕ, _≡_, refl, sym, Bool, false, not, List, [], getD, set, set-getD, getD-drop, eqb, ℤ}
 use lib.Ieee.{Float}
-use lib.ListN.{getD, set}
-use lib.Seq.{set-getD, getD-drop}
 use Rattle.basics.specs.Meaning.Refusals.{pick}
 use Rattle.slots.specs.Meaning.Map.{givenBack}
 use Rattle.slots.specs.Meaning.Slot.{lastVersion, nextVersion, nextPhase, versionAt, emptiedRow, emptiedNums, emptiedMap}

@@ -1,13 +1,8 @@
 -- Laws of settling a slot: it reads and writes its own rows and its own bit, so that different slots may be settled in any order.
 -- Assumes nothing.
 -- Here: the laws.
-use Prim.Native.Nat.{ℕ, _+_, _<_}
-use mathlib.Core.Path.{_≡_, refl, sym, _∙_, ap}
-use mathlib.Core.Bool.{Bool, true, false}
-use mathlib.Core.List.{List, []}
-use native.Mathlib.Omega.{arith}
-use lib.ListN.{length, getD, length-set}
-use lib.Seq.{getD-set-same, getD-set-other, set-comm}
+use Rattle.basics.specs.Words.{ℕ, _+_, _<_, _≡_, refl, sym, _∙_, ap, Bool, true, false, List, [], length, getD, length-set, getD-set-same, getD-set-other}
+use Rattle.basics.specs.Words.{set-comm, arith}
 use Rattle.basics.specs.Meaning.Refusals.{pick}
 use Rattle.slots.specs.Meaning.Map.{head, wordsFor, givenBack}
 use Rattle.slots.proofs.laws.MapLaws.{given-back-length, given-back-head}

@@ -1,12 +1,6 @@
 -- Maintain does not depend on the order of visiting the cells: whatever the order, it leaves the tables with everything done that was to be
 -- done. Assumes nothing.
-use Prim.Native.Nat.{ℕ, _<_}
-use mathlib.Core.Path.{_≡_, refl, sym, _∙_, ap, ap₂}
-use mathlib.Core.Bool.{Bool, true, false}
-use mathlib.Core.List.{List, map}
-use mathlib.Core.Logic.{_⊎_, inl, inr}
-use native.Mathlib.Omega.{arith}
-use borrow.Author.Tests.{eqb-true}
+use Rattle.basics.specs.Words.{ℕ, _<_, _≡_, refl, sym, _∙_, ap, ap₂, Bool, true, false, List, map, _⊎_, inl, inr, arith, eqb-true}
 use Rattle.basics.specs.Inner.Counting.{one}
 use Rattle.basics.specs.Meaning.Refusals.{pick}
 use Rattle.storage.specs.Meaning.Keyed.{All, under, appendAll}

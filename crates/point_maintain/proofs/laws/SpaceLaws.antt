@@ -1,10 +1,5 @@
 -- Maintain never runs out of space: it leaves an entry for each object that is left, and a row for each list. Assumes nothing.
-use Prim.Native.Nat.{ℕ, _≤_}
-use mathlib.Core.Path.{_≡_, refl, sym, _∙_, ap}
-use mathlib.Core.List.{List, map}
-use native.Mathlib.Omega.{arith}
-use lib.ListN.{length, getD, length-map}
-use borrow.Author.Tests.{eq-eqb, eqb-true}
+use Rattle.basics.specs.Words.{ℕ, _≤_, _≡_, refl, sym, _∙_, ap, List, map, length, getD, length-map, arith, eq-eqb, eqb-true}
 use Rattle.basics.specs.Inner.Counting.{countBelow}
 use Rattle.basics.proofs.laws.Counting.{named-count}
 use Rattle.storage.specs.Meaning.Entries.{Entry, rowKey, rowOf, entryKey}

@@ -1,13 +1,7 @@
 -- The lists walked one after the other: what stands in the records, in the lists and among the relocated once some cells were visited.
 -- Assumes nothing.
-use Prim.Native.Nat.{ℕ}
-use mathlib.Core.Path.{_≡_, refl, sym, _∙_, ap, ap₂}
-use mathlib.Core.Bool.{Bool, true, false}
-use mathlib.Core.List.{List, [], _∷_, _++_, map, map-append, append-nil, append-assoc}
-use native.Mathlib.Omega.{arith}
-use lib.Dec.{eqb}
-use lib.ListN.{length}
-use borrow.Author.Tests.{eqb-true, eqb-false}
+use Rattle.basics.specs.Words.{ℕ, _≡_, refl, sym, _∙_, ap, ap₂, Bool, true, false, List, [], _∷_, _++_, map, map-append, append-nil, append-assoc, length, eqb}
+use Rattle.basics.specs.Words.{arith, eqb-true, eqb-false}
 use Rattle.basics.specs.Inner.Counting.{one}
 use Rattle.basics.specs.Meaning.Refusals.{pick}
 use Rattle.basics.proofs.laws.Says.{apart}

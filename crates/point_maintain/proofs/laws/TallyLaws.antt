@@ -1,13 +1,6 @@
 -- The entries of tables that hold a grid, by counts: each names an object, and each slot is named once if it is live and else not at all.
 -- Assumes nothing.
-use Prim.Native.Nat.{ℕ, _<_}
-use mathlib.Core.Path.{_≡_, refl, sym, _∙_, ap}
-use mathlib.Core.Bool.{Bool, true, false}
-use mathlib.Core.List.{List}
-use mathlib.Core.Logic.{⊎-elim}
-use native.Mathlib.Omega.{arith}
-use lib.Dec.{eqb}
-use borrow.Author.Tests.{eqb-true, eq-eqb, ne-eqb}
+use Rattle.basics.specs.Words.{ℕ, _<_, _≡_, refl, sym, _∙_, ap, Bool, true, false, List, ⊎-elim, eqb, arith, eqb-true, eq-eqb, ne-eqb}
 use Rattle.basics.specs.Inner.Counting.{one}
 use Rattle.basics.proofs.laws.Says.{apart, d-lt}
 use Rattle.cells.specs.Meaning.Key.{keyOf}

@@ -1,14 +1,6 @@
 -- Laws of sums over lists: no order matters, and how often a name stands in a list. Assumes nothing.
-use Prim.Native.Nat.{ℕ, _+_, _≤_}
-use mathlib.Core.Path.{_≡_, refl, sym, _∙_, ap}
-use mathlib.Core.Bool.{Bool}
-use mathlib.Core.List.{List, [], _∷_, _++_}
-use mathlib.Core.Logic.{inl, inr}
-use native.Mathlib.Omega.{arith}
-use native.Mathlib.Nat.{not-suc-le-zero}
-use lib.Dec.{eqb}
-use lib.ListN.{length}
-use borrow.Author.Tests.{eqb-true, eq-eqb, ne-eqb, lt-ltb, le-ltb}
+use Rattle.basics.specs.Words.{ℕ, _+_, _≤_, _≡_, refl, sym, _∙_, ap, Bool, List, [], _∷_, _++_, inl, inr, length, eqb, not-suc-le-zero, arith, eqb-true, eq-eqb}
+use Rattle.basics.specs.Words.{ne-eqb, lt-ltb, le-ltb}
 use Rattle.basics.specs.Inner.Counting.{one}
 use Rattle.basics.specs.Meaning.Refusals.{pick}
 use Rattle.storage.specs.Meaning.Keyed.{All, filter, under, below, above, onList, append1, appendAll, last, front, close}

@@ -1,8 +1,6 @@
 -- The sum of a measure over a list. Two lists have the same elements, each as often, when every measure sums to the same: so what a list
 -- holds is said with no word on its order. Assumes nothing.
-use Prim.Native.Nat.{ℕ, _+_, _≤_}
-use mathlib.Core.List.{List, [], _∷_}
-use lib.Dec.{eqb}
+use Rattle.basics.specs.Words.{ℕ, _+_, _≤_, List, [], _∷_, eqb}
 use Rattle.basics.specs.Inner.Counting.{one}
 
 abbrev pub total : {A : Type 0} → (A → ℕ) → List A → ℕ

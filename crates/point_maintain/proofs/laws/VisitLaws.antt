@@ -1,11 +1,6 @@
 -- The entries of the cells that were visited: how often each slot is named there. Assumes nothing.
-use Prim.Native.Nat.{ℕ, _+_}
-use mathlib.Core.Path.{_≡_, refl, sym, _∙_, ap}
-use mathlib.Core.Bool.{Bool, true, false}
-use mathlib.Core.List.{List, [], _∷_, _++_, append-nil, append-assoc}
-use native.Mathlib.Omega.{arith}
-use lib.Dec.{eqb}
-use borrow.Author.Tests.{eqb-true, eqb-false, eq-eqb, ne-eqb}
+use Rattle.basics.specs.Words.{ℕ, _+_, _≡_, refl, sym, _∙_, ap, Bool, true, false, List, [], _∷_, _++_, append-nil, append-assoc, eqb, arith, eqb-true}
+use Rattle.basics.specs.Words.{eqb-false, eq-eqb, ne-eqb}
 use Rattle.basics.specs.Inner.Counting.{one}
 use Rattle.basics.specs.Meaning.Refusals.{pick}
 use Rattle.basics.proofs.laws.Says.{apart}

@@ -1,13 +1,7 @@
 -- Laws of the walk of one list whose entries name different slots: the records are settled, slot by slot and in any order, and each entry's
 -- fate depends only on its slot's state before the walk. Assumes nothing.
-use Prim.Native.Nat.{ℕ, zero, suc, _+_, _≤_, _<_}
-use mathlib.Core.Path.{_≡_, refl, sym, _∙_, ap, ap₂}
-use mathlib.Core.Bool.{Bool, true, false}
-use mathlib.Core.List.{List, [], _∷_, _++_, map}
-use native.Mathlib.Omega.{arith}
-use native.Mathlib.Nat.{not-suc-le-zero, le-of-suc-le-suc}
-use lib.Dec.{eqb}
-use lib.ListN.{length}
+use Rattle.basics.specs.Words.{ℕ, zero, suc, _+_, _≤_, _<_, _≡_, refl, sym, _∙_, ap, ap₂, Bool, true, false, List, [], _∷_, _++_, map, length, eqb}
+use Rattle.basics.specs.Words.{not-suc-le-zero, le-of-suc-le-suc, arith}
 use Rattle.basics.specs.Inner.Counting.{one}
 use Rattle.storage.specs.Meaning.Keyed.{All}
 use Rattle.storage.specs.Meaning.Entries.{Entry}

@@ -1,9 +1,7 @@
 -- The tables with everything done that was to be done, with no order of the cells in it; and what an order of visiting them is.
 -- Assumes nothing.
 -- Here: what only inner contracts cite.
-use Prim.Native.Nat.{ℕ, zero, suc}
-use mathlib.Core.List.{List, [], _∷_, _++_, map}
-use lib.ListN.{length}
+use Rattle.basics.specs.Words.{ℕ, zero, suc, List, [], _∷_, _++_, map, length}
 use Rattle.basics.specs.Meaning.Refusals.{pick}
 use Rattle.storage.specs.Meaning.Keyed.{under, appendAll, written}
 use Rattle.storage.specs.Meaning.Entries.{Entry, rowOf, spotOf, entryKey}

@@ -1,14 +1,10 @@
 -- Slots settled one after the other: those of a list, those below n that pass a test, and every live one. Assumes nothing.
 -- Here: what only inner contracts cite.
-use Prim.Native.Nat.{ℕ, zero, suc}
-use mathlib.Core.Bool.{Bool}
+use Rattle.basics.specs.Words.{ℕ, zero, suc, _+_, _≡_, Bool, length}
 use Rattle.basics.specs.Meaning.Refusals.{pick}
 use Rattle.point_tables.specs.Meaning.Tables.{Tables, slotsOf}
 use Rattle.point_tables.specs.Inner.Count.{isLive}
 use Rattle.point_maintain.specs.Meaning.Walk.{settled}
-use Prim.Native.Nat.{_+_}
-use mathlib.Core.Path.{_≡_}
-use lib.ListN.{length}
 use Rattle.slots.specs.Meaning.Map.{head, wordsFor}
 
 unfoldable pub settledIn : (ℕ → Bool) → ℕ → Tables → Tables

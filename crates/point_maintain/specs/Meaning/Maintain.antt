@@ -1,10 +1,6 @@
 -- `maintain`, as `src/grid.rs` does it: each list is walked, then the relocated entries are appended to their new cells in ascending slot
 -- order; a cell with no dirty mark is passed over, and no mark is left. Assumes nothing.
-use Prim.Native.Nat.{ℕ, zero, suc, _+_}
-use mathlib.Core.Bool.{Bool, true, false}
-use mathlib.Core.List.{List, [], _∷_, _++_, map}
-use lib.Dec.{eqb}
-use lib.ListN.{length, getD}
+use Rattle.basics.specs.Words.{ℕ, zero, suc, _+_, Bool, true, false, List, [], _∷_, _++_, map, length, getD, eqb}
 use Rattle.basics.specs.Meaning.Refusals.{Refusal, unless, pick, byTests}
 use Rattle.slots.specs.Meaning.Slot.{live, phaseAt}
 use Rattle.storage.specs.Meaning.Keyed.{filter, under, onList, appendAll, written}

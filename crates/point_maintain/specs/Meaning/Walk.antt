@@ -1,7 +1,6 @@
 -- The walk of one list, as `src/cell.rs` does it: from place 0; a new position is taken, next place; a relocated or removed entry is taken
 -- out, the last entry moving into the gap, and the same place is looked at again. Assumes nothing.
-use Prim.Native.Nat.{ℕ, zero, suc}
-use mathlib.Core.List.{List, [], _∷_, _++_}
+use Rattle.basics.specs.Words.{ℕ, zero, suc, List, [], _∷_, _++_}
 use Rattle.geometry.specs.declared.Position.{Position}
 use Rattle.cells.specs.Meaning.CellRule.{cellAt}
 use Rattle.cells.specs.declared.Cell.{Cell}

@@ -1,12 +1,8 @@
 -- Entries laid one after the other into the first places of the two columns: what stands from the next place on is as it was.
 -- Assumes nothing.
-use Prim.Native.Nat.{ℕ, _+_, _-_, _<_, _≤_}
-use mathlib.Core.Path.{_≡_, sym, ap, _∙_}
-use mathlib.Core.List.{List, [], _∷_, _++_, map, map-append}
-use native.Mathlib.Omega.{arith}
+use Rattle.basics.specs.Words.{ℕ, _+_, _-_, _<_, _≤_, _≡_, sym, ap, _∙_, List, [], _∷_, _++_, map, map-append, length, getD, set, take, drop, length-append}
+use Rattle.basics.specs.Words.{length-map, getD-append-add, getD-drop, drop-append-add, drop-drop, length-take-le, arith}
 use lib.Ieee.{Float}
-use lib.ListN.{length, getD, set, take, drop, length-append, length-map}
-use lib.Seq.{getD-append-add, getD-drop, drop-append-add, drop-drop, length-take-le}
 use Rattle.storage.specs.Meaning.Keyed.{written}
 use Rattle.storage.specs.Meaning.Entries.{Entry, entry, rowOf, spotOf, entriesOf}
 use Rattle.storage.specs.Inner.Pooled.{Columns}

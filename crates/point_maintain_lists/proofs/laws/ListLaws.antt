@@ -1,17 +1,8 @@
 -- Where the list of a cell stands in the pool: behind the lists of the cells before it, and as far as its key goes; and what it keeps.
 -- Assumes nothing.
-use Prim.Native.Nat.{ℕ, zero, suc, _+_, _-_, _<_}
-use mathlib.Core.Path.{_≡_, refl, sym, ap, _∙_}
-use mathlib.Core.Bool.{Bool, true, false}
-use mathlib.Core.List.{List, [], _∷_, _++_}
-use mathlib.Core.Logic.{⊎-elim}
-use native.Mathlib.Omega.{arith}
-use native.Mathlib.Numerals.{add-one}
-use native.Mathlib.Nat.{not-suc-le-zero, le-of-suc-le-suc}
-use lib.Dec.{eqb}
-use lib.ListN.{length, getD, take, drop, length-append, length-map, List·getD-append, List·getD-map}
-use lib.Seq.{take-suc, split-at, getD-take, getD-append-add, take-at, drop-at}
-use borrow.Author.Tests.{eqb-false}
+use Rattle.basics.specs.Words.{ℕ, zero, suc, _+_, _-_, _<_, _≡_, refl, sym, ap, _∙_, Bool, true, false, List, [], _∷_, _++_, ⊎-elim, length, getD, take, drop}
+use Rattle.basics.specs.Words.{length-append, length-map, List·getD-append, List·getD-map, take-suc, split-at, getD-take, getD-append-add, take-at, drop-at}
+use Rattle.basics.specs.Words.{eqb, not-suc-le-zero, le-of-suc-le-suc, add-one, arith, eqb-false}
 use Rattle.storage.specs.Meaning.Keyed.{All}
 use Rattle.storage.specs.Meaning.Entries.{Entry, rowKey, entryKey}
 use Rattle.storage.specs.Meaning.Packed.{first, second}

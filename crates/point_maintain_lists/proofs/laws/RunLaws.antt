@@ -1,11 +1,6 @@
 -- Laws of the entries at places: they are the pool's own, the last may go in front, and a stretch has one end. Assumes nothing.
-use Prim.Native.Nat.{ℕ, zero, suc, _+_, _-_, _<_, _≤_}
-use mathlib.Core.Path.{_≡_, refl, sym, ap, _∙_}
-use mathlib.Core.List.{List, _∷_, _++_}
-use native.Mathlib.Omega.{arith}
+use Rattle.basics.specs.Words.{ℕ, zero, suc, _+_, _-_, _<_, _≤_, _≡_, refl, sym, ap, _∙_, List, _∷_, _++_, length, getD, take, drop, take-all, drop-cons, arith}
 use lib.Ieee.{Float}
-use lib.ListN.{length, getD, take, drop}
-use lib.Seq.{take-all, drop-cons}
 use Rattle.storage.specs.Meaning.Keyed.{close, last, front}
 use Rattle.storage.specs.Meaning.Entries.{entriesOf}
 use Rattle.storage.proofs.laws.FilterLaws.{by-order}

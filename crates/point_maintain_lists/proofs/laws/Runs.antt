@@ -1,7 +1,6 @@
 -- The entries that stand at places of the pool, one after the other. Assumes nothing.
 -- Here: the laws.
-use Prim.Native.Nat.{ℕ, zero, suc}
-use mathlib.Core.List.{List, [], _∷_}
+use Rattle.basics.specs.Words.{ℕ, zero, suc, List, [], _∷_}
 use Rattle.point_maintain_lists.specs.Inner.Runs.{run}
 
 module _ {A : Type 0} (at : ℕ → A) where

@@ -1,13 +1,6 @@
 -- How the pass goes on, list by list: what the lists passed keep is laid, and the lists ahead are where they were. Assumes nothing.
-use Prim.Native.Nat.{ℕ, _+_, _-_, _<_, _≤_}
-use mathlib.Core.Path.{_≡_, refl, sym, ap, _∙_}
-use mathlib.Core.Bool.{Bool}
-use mathlib.Core.List.{List, [], _++_}
-use native.Mathlib.Omega.{arith}
-use lib.Dec.{eqb}
+use Rattle.basics.specs.Words.{ℕ, _+_, _-_, _<_, _≤_, _≡_, refl, sym, ap, _∙_, Bool, List, [], _++_, length, getD, length-append, take-all, eqb, arith}
 use lib.Ieee.{Float}
-use lib.ListN.{length, getD, length-append}
-use lib.Seq.{take-all}
 use Rattle.storage.specs.Meaning.Packed.{first, second}
 use Rattle.storage.specs.Inner.Pooled.{Columns}
 use Rattle.point_tables.specs.Meaning.Tables.{Tables, usedOf, rowsOf}

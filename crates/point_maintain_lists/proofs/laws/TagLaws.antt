@@ -1,13 +1,6 @@
 -- The walk by tags is the walk by states: a list keeps the same entries. Assumes nothing.
-use Prim.Native.Nat.{ℕ, zero, suc, _<_, _≤_}
-use mathlib.Core.Path.{_≡_, refl, ap, _∙_}
-use mathlib.Core.List.{List, [], _∷_, _++_}
-use native.Mathlib.Omega.{arith}
-use lib.Dec.{eqb}
+use Rattle.basics.specs.Words.{ℕ, zero, suc, _<_, _≤_, _≡_, refl, ap, _∙_, List, [], _∷_, _++_, length, getD, eqb, ℤ, pos, arith, eqb-true, eqb-false, ne-eqb}
 use lib.Ieee.{Float, nan}
-use lib.IntN.{ℤ, pos}
-use lib.ListN.{length, getD}
-use borrow.Author.Tests.{eqb-true, eqb-false, ne-eqb}
 use Rattle.cells.specs.declared.Cell.{Cell}
 use Rattle.storage.specs.Meaning.Entries.{Entry, entry}
 use Rattle.storage.proofs.laws.FilterLaws.{by-test}

@@ -1,10 +1,6 @@
 -- How the walk of one list goes on, entry by entry: what was kept so far is laid, and the rest is still where it was. Assumes nothing.
-use Prim.Native.Nat.{ℕ, suc, _+_, _-_, _<_, _≤_}
-use mathlib.Core.Path.{_≡_, sym, ap, _∙_}
-use mathlib.Core.List.{List, [], _∷_, _++_, append-nil, append-assoc}
-use native.Mathlib.Omega.{arith}
+use Rattle.basics.specs.Words.{ℕ, suc, _+_, _-_, _<_, _≤_, _≡_, sym, ap, _∙_, List, [], _∷_, _++_, append-nil, append-assoc, length, set, length-append, arith}
 use lib.Ieee.{Float}
-use lib.ListN.{length, set, length-append}
 use Rattle.storage.specs.Meaning.Entries.{Entry, entry, entriesOf}
 use Rattle.storage.specs.Inner.Pooled.{Columns}
 use Rattle.point_tables.proofs.laws.EntryLaws.{entries-length}

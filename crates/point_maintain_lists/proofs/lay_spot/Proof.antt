@@ -1,6 +1,5 @@
 -- `point_maintain_lists::lay_spot` meets its contract. Assumes nothing.
-use borrow.Author.Needs.{needs}
-use borrow.Author.Tests.{eq-eqb, ne-eqb}
+use Rattle.basics.specs.Words.{eq-eqb, ne-eqb, needs}
 use Rattle.point_maintain_lists.proofs.lay_spot.Statement.{statement}
 use Rattle.point_maintain_lists.proofs.lay_spot.Tie as tie
 

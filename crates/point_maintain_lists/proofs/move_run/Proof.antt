@@ -1,9 +1,5 @@
 -- `point_maintain_lists::move_run` meets its contract: it is the walk of a list of which all stay. The measure is how many entries are left. Assumes nothing.
-use Prim.Native.Nat.{_-_}
-use mathlib.Core.Path.{refl}
-use native.Mathlib.Omega.{arith}
-use lib.ListN.{getD}
-use mathlib.Core.List.{[]}
+use Rattle.basics.specs.Words.{_-_, refl, [], getD, arith}
 use Rattle.point_maintain.specs.Meaning.Walk.{stays}
 use Rattle.point_maintain_lists.proofs.laws.WalkingLaws.{Walking, walking-start, walking-rows, walking-spots, walking-stays}
 use Rattle.point_maintain_lists.proofs.Turns.{Within, walk-within, move-done}

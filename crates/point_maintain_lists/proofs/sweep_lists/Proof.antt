@@ -1,16 +1,12 @@
 -- `point_maintain_lists::sweep_lists` meets its contract: the lists passed have laid what they keep, and the lists ahead are where they were. The measure
 -- is how many cells are left. Assumes nothing.
-use Prim.Native.Nat.{_-_, _<_, _≤_}
-use mathlib.Core.Path.{refl}
-use native.Mathlib.Omega.{arith}
-use lib.Dec.{eqb}
-use lib.ListN.{length}
-use borrow.Author.Needs.{needs}
+use Rattle.basics.specs.Words.{_-_, _<_, _≤_, refl, length, eqb, arith, needs}
 use Rattle.storage.specs.Meaning.Packed.{first, second}
 use Rattle.point_tables.specs.Meaning.Tables.{Tables, tables, usedOf, rowsOf}
 use Rattle.point_tables.proofs.laws.HoldsLaws.{used-in-pool, rows-in-cells}
 use Rattle.storage.specs.Inner.Run.{ListEnd}
-use Rattle.point_maintain_lists.proofs.laws.SweepingLaws.{Sweeping, sweeping-start, sweeping-rows, sweeping-spots, sweeping-room, sweeping-slots, sweeping-turn, sweeping-done}
+use Rattle.point_maintain_lists.proofs.laws.SweepingLaws.{Sweeping, sweeping-start, sweeping-rows, sweeping-spots, sweeping-room, sweeping-slots}
+use Rattle.point_maintain_lists.proofs.laws.SweepingLaws.{sweeping-turn, sweeping-done}
 use Rattle.point_maintain_lists.proofs.sweep_lists.Statement.{statement}
 use Rattle.point_maintain_lists.proofs.sweep_lists.Tie as tie
 

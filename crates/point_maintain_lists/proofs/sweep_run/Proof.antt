@@ -1,5 +1,5 @@
 -- `point_maintain_lists::sweep_run` meets its contract, by what each way of going over the list gives. Assumes nothing.
-use borrow.Author.Needs.{needs}
+use Rattle.basics.specs.Words.{needs}
 use Rattle.point_maintain_lists.proofs.Turns.{stay-done}
 use Rattle.point_maintain_lists.proofs.sweep_run.Statement.{statement}
 use Rattle.point_maintain_lists.proofs.sweep_run.Tie as tie

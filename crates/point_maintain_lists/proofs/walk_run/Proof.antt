@@ -1,9 +1,6 @@
 -- `point_maintain_lists::walk_run` meets its contract: what was looked at is kept or gone, and the rest of the list is where it was. The measure is how
 -- many entries are left. Assumes nothing.
-use Prim.Native.Nat.{_-_, _<_}
-use native.Mathlib.Omega.{arith}
-use lib.ListN.{length}
-use borrow.Author.Needs.{needs}
+use Rattle.basics.specs.Words.{_-_, _<_, length, arith, needs}
 use Rattle.point_maintain_lists.specs.Inner.Tags.{fateIn}
 use Rattle.point_maintain_lists.proofs.laws.WalkingLaws.{Walking, walking-start, walking-rows, walking-spots, walking-done}
 use Rattle.point_maintain_lists.proofs.Turns.{Within, walk-within, walk-slot, walk-stays, walk-leaves}

@@ -1,10 +1,6 @@
 -- What the functions of the pass are asked for and give. Assumes nothing.
-use Prim.Native.Nat.{ℕ, _+_, _-_, _<_, _≤_}
-use mathlib.Core.Path.{_≡_}
-use mathlib.Core.Bool.{Bool}
-use mathlib.Core.List.{List, _++_}
+use Rattle.basics.specs.Words.{ℕ, _+_, _-_, _<_, _≤_, _≡_, Bool, List, _++_, length}
 use lib.Ieee.{Float}
-use lib.ListN.{length}
 use Rattle.basics.specs.Meaning.Lent.{Lent, was, is}
 use Rattle.basics.specs.Meaning.Refusals.{pick}
 use Rattle.storage.specs.Meaning.Entries.{Entry, entriesOf}

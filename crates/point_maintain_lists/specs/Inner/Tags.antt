@@ -1,10 +1,7 @@
 -- What becomes of an entry in the walk of its list, as its slot's tag says: 0 it stays, 1 it stays at the pending position, else it leaves.
 -- Assumes nothing.
-use Prim.Native.Nat.{ℕ}
-use mathlib.Core.List.{List, [], _∷_}
-use lib.Dec.{eqb}
+use Rattle.basics.specs.Words.{ℕ, List, [], _∷_, getD, eqb}
 use lib.Ieee.{Float, nan}
-use lib.ListN.{getD}
 use Rattle.basics.specs.Meaning.Refusals.{pick}
 use Rattle.storage.specs.Meaning.Entries.{Entry, entry}
 use Rattle.point_records.specs.Meaning.Columns.{tagIn}

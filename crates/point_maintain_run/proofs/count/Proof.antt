@@ -1,6 +1,5 @@
 -- `point_maintain_run::count` meets its contract. Assumes nothing.
-use lib.ListN.{set}
-use borrow.Author.Needs.{needs}
+use Rattle.basics.specs.Words.{set, needs}
 use Rattle.point_maintain_run.proofs.count.Statement.{statement}
 use Rattle.point_maintain_run.proofs.count.Tie as tie
 

@@ -1,12 +1,8 @@
 -- The sweep over the lists, the pass over the slots, the merge and the table anew, one after the other, leave the tables of maintain.
 -- Assumes nothing.
-use Prim.Native.Nat.{ℕ, zero, suc, _+_, _≤_, _<_}
-use mathlib.Core.Path.{_≡_, refl, sym, ap, _∙_, subst}
-use mathlib.Core.List.{List, _++_, map, map-append}
-use native.Mathlib.Omega.{arith}
+use Rattle.basics.specs.Words.{ℕ, zero, suc, _+_, _≤_, _<_, _≡_, refl, sym, ap, _∙_, subst, List, _++_, map, map-append, length, take, drop, length-append}
+use Rattle.basics.specs.Words.{length-map, slice, take-at, arith}
 use lib.Ieee.{Float}
-use lib.ListN.{length, take, drop, length-append, length-map}
-use lib.Seq.{slice, take-at}
 use Rattle.storage.specs.Meaning.Keyed.{All, written, appendAll}
 use Rattle.storage.specs.Inner.Keyed.{Sorted}
 use Rattle.storage.specs.Meaning.Entries.{Entry, rowKey, rowItem, rowOf, spotOf, entryKey, zipped, entriesOf}

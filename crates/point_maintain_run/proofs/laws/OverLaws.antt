@@ -1,10 +1,6 @@
 -- Tables that are written twice, and rows that are put behind what was written. Assumes nothing.
-use Prim.Native.Nat.{ℕ, _+_, _-_, _≤_}
-use mathlib.Core.Path.{_≡_, refl, sym, ap, _∙_}
-use mathlib.Core.List.{List, _++_, append-assoc}
-use native.Mathlib.Omega.{arith}
-use lib.ListN.{length, take, drop, length-append, length-drop}
-use lib.Seq.{slice, take-at, drop-at, drop-drop, drop-append-add, take-append-add}
+use Rattle.basics.specs.Words.{ℕ, _+_, _-_, _≤_, _≡_, refl, sym, ap, _∙_, List, _++_, append-assoc, length, take, drop, length-append, slice, take-at, drop-at}
+use Rattle.basics.specs.Words.{drop-drop, drop-append-add, arith}
 use Rattle.storage.specs.Meaning.Keyed.{written}
 use Rattle.point_maintain_slots.specs.Inner.Pass.{putAt}
 

@@ -1,16 +1,11 @@
 -- `point_maintain_run::maintain` meets its contract. Assumes nothing.
-use mathlib.Core.Path.{_≡_, sym, ap, _∙_}
-use mathlib.Core.Bool.{true, false}
-use lib.ListN.{length}
-use borrow.Author.Tests.{not-true, not-false}
-use borrow.Author.Needs.{needs}
+use Rattle.basics.specs.Words.{_≡_, sym, ap, _∙_, false, not-true, not-false, needs}
 use Rattle.basics.proofs.laws.Says.{apart}
-use Rattle.point_records.specs.Meaning.States.{isRemoved}
 use Rattle.point_tables.specs.Meaning.Tables.{Tables, tables, slotsOf}
 use Rattle.point_tables.specs.Meaning.Holds.{Holds}
 use Rattle.point_tables.specs.Meaning.Decide.{holds, holds-says}
 use Rattle.point_tables.specs.Meaning.Outcome.{outcome}
-use Rattle.point_maintain.specs.Meaning.Maintain.{isMoving, countStates, maintainedCounts}
+use Rattle.point_maintain.specs.Meaning.Maintain.{maintainedCounts}
 use Rattle.point_maintain.proofs.laws.SettledForm.{maintained-is}
 use Rattle.point_maintain.proofs.laws.MaintainLaws.{maintain-done, maintain-refused}
 use Rattle.point_maintain_slots.proofs.laws.CountsLaws.{moved-numbered, removed-numbered}

@@ -1,9 +1,9 @@
 -- `point_maintain_run::settle_all` meets its contract: each pass is asked for what the one before it left. Assumes nothing.
-use native.Mathlib.Omega.{arith}
-use borrow.Author.Needs.{needs}
+use Rattle.basics.specs.Words.{arith, needs}
 use Rattle.point_tables.specs.Meaning.Tables.{Tables, tables}
 use Rattle.point_maintain_slots.proofs.laws.BareLaws.{holds-ready}
-use Rattle.point_maintain_run.proofs.laws.Assembled.{room, put-room, k-is, in-pool, in-spots, few, sorted-front, named-back, map-room, used-inside, cells-room, assembled}
+use Rattle.point_maintain_run.proofs.laws.Assembled.{room, put-room, k-is, in-pool, in-spots, few, sorted-front, named-back, map-room, used-inside}
+use Rattle.point_maintain_run.proofs.laws.Assembled.{cells-room, assembled}
 use Rattle.point_maintain_run.proofs.settle_all.Statement.{statement}
 use Rattle.point_maintain_run.proofs.settle_all.Tie as tie
 

@@ -1,9 +1,5 @@
 -- `point_maintain_slots::count_moves` meets its contract. The rows below i are counted. The measure is what is left of the rows. Assumes nothing.
-use Prim.Native.Nat.{ℕ, _+_, _≤_, _-_}
-use mathlib.Core.Path.{_≡_, refl, _∙_, ap}
-use native.Mathlib.Omega.{arith}
-use lib.ListN.{length}
-use borrow.Author.Needs.{needs}
+use Rattle.basics.specs.Words.{ℕ, _+_, _≤_, _-_, _≡_, refl, _∙_, ap, length, arith, needs}
 use Rattle.point_maintain_slots.specs.Inner.Counts.{counts, numbered, movedIn, removedIn}
 use Rattle.point_maintain_slots.proofs.Tags.{moved-next, removed-next, moved-most, removed-most}
 use Rattle.point_maintain_slots.proofs.count_moves.Statement.{statement}

@@ -1,8 +1,5 @@
 -- The pass looks at the records and the slot map alone: the pool, its positions and the cell table may be any. Assumes nothing.
-use Prim.Native.Nat.{ℕ, zero, suc}
-use mathlib.Core.Path.{_≡_, refl, sym, _∙_, ap}
-use mathlib.Core.Bool.{Bool}
-use mathlib.Core.List.{List, _++_}
+use Rattle.basics.specs.Words.{ℕ, zero, suc, _≡_, refl, sym, _∙_, ap, Bool, List, _++_}
 use Rattle.storage.specs.Meaning.Entries.{Entry}
 use Rattle.storage.proofs.laws.FilterLaws.{by-test}
 use Rattle.point_tables.specs.Meaning.Tables.{Tables, slotsOf}

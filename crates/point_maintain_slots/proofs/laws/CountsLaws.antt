@@ -1,13 +1,6 @@
 -- The counts come from the tags of the live rows, and are at most the number of slots. Assumes nothing.
-use Prim.Native.Nat.{ℕ, zero, suc, _+_, _≤_}
-use mathlib.Core.Path.{_≡_, refl, ap, ap₂}
-use mathlib.Core.Bool.{Bool, true, false}
-use mathlib.Core.List.{List, []}
-use native.Mathlib.Omega.{arith}
-use lib.Dec.{eqb}
-use lib.IntN.{ℤ}
+use Rattle.basics.specs.Words.{ℕ, zero, suc, _+_, _≤_, _≡_, refl, ap, ap₂, Bool, true, false, List, [], getD, eqb, ℤ, arith}
 use lib.Ieee.{Float}
-use lib.ListN.{getD}
 use Rattle.basics.specs.Meaning.Refusals.{pick}
 use Rattle.geometry.specs.declared.Position.{Position}
 use Rattle.cells.specs.declared.Cell.{Cell}

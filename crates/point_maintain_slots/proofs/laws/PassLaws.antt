@@ -1,13 +1,6 @@
 -- Laws of the pass: the slot at hand is as it was at entry, and its part of the pass is one more of the whole. Assumes nothing.
-use Prim.Native.Nat.{ℕ, zero, suc, _+_, _≤_, _<_}
-use mathlib.Core.Path.{_≡_, refl, sym, ap}
-use mathlib.Core.Bool.{Bool}
-use mathlib.Core.List.{[], _∷_, _++_, map, map-append}
-use mathlib.Core.Logic.{⊎-elim}
-use native.Mathlib.Omega.{arith}
-use lib.Dec.{eqb}
-use lib.ListN.{length, length-append, length-map}
-use borrow.Author.Tests.{eqb-true}
+use Rattle.basics.specs.Words.{ℕ, zero, suc, _+_, _≤_, _<_, _≡_, refl, sym, ap, Bool, [], _∷_, _++_, map, map-append, ⊎-elim, length, length-append, length-map}
+use Rattle.basics.specs.Words.{eqb, arith, eqb-true}
 use Rattle.basics.specs.Meaning.Refusals.{pick}
 use Rattle.basics.proofs.laws.Says.{d-eq}
 use Rattle.cells.specs.declared.Cell.{Cell}

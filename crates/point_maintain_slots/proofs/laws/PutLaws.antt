@@ -1,12 +1,6 @@
 -- Laws of rows that are put into a table from a place on. Assumes nothing.
-use Prim.Native.Nat.{ℕ, _+_, _≤_, _<_}
-use mathlib.Core.Path.{_≡_, sym, _∙_, ap, ap₂}
-use mathlib.Core.List.{List, [], _∷_, _++_, append-assoc}
-use native.Mathlib.Omega.{arith}
-use native.Mathlib.Nat.{add-zero}
-use native.Mathlib.Numerals.{add-one}
-use lib.ListN.{length, take, drop, set, length-append, length-drop, take-append-drop}
-use lib.Seq.{length-take-le, set-split, take-at, drop-append-add, drop-drop}
+use Rattle.basics.specs.Words.{ℕ, _+_, _≤_, _<_, _≡_, sym, _∙_, ap, ap₂, List, [], _∷_, _++_, append-assoc, length, take, drop, set, length-append, length-drop}
+use Rattle.basics.specs.Words.{take-append-drop, length-take-le, set-split, take-at, drop-append-add, drop-drop, add-zero, add-one, arith}
 use Rattle.point_maintain_slots.specs.Inner.Pass.{putAt}
 
 module _ {A : Type 0} (w : ℕ) where

@@ -1,9 +1,5 @@
 -- After the pass the records hold the new position of each relocated object, so that the rows say the entries. Assumes nothing.
-use Prim.Native.Nat.{ℕ, zero, suc, _≤_, _<_}
-use mathlib.Core.Path.{_≡_, refl, _∙_, ap, ap₂}
-use mathlib.Core.Bool.{true}
-use mathlib.Core.List.{List, [], _∷_, _++_, map, map-append}
-use native.Mathlib.Omega.{arith}
+use Rattle.basics.specs.Words.{ℕ, zero, suc, _≤_, _<_, _≡_, refl, _∙_, ap, ap₂, true, List, [], _∷_, _++_, map, map-append, arith}
 use Rattle.geometry.specs.declared.Position.{Position}
 use Rattle.cells.specs.declared.Cell.{Cell}
 use Rattle.storage.specs.Meaning.Entries.{Entry, rowOf}

@@ -1,5 +1,5 @@
 -- `point_maintain_slots::place` meets its contract. Assumes nothing.
-use borrow.Author.Needs.{needs}
+use Rattle.basics.specs.Words.{needs}
 use Rattle.point_records.proofs.Shared.{back}
 use Rattle.point_maintain_slots.proofs.Turns.{made}
 use Rattle.point_maintain_slots.proofs.place.Statement.{statement}

@@ -1,6 +1,5 @@
 -- `point_maintain_slots::put_row` meets its contract. Assumes nothing.
-use mathlib.Core.Path.{refl}
-use borrow.Author.Needs.{needs}
+use Rattle.basics.specs.Words.{refl, needs}
 use Rattle.point_maintain_slots.proofs.put_row.Statement.{statement}
 use Rattle.point_maintain_slots.proofs.put_row.Tie as tie
 

@@ -1,12 +1,10 @@
 -- `point_maintain_slots::settle_slots` meets its contract. The slots below i are settled, and their k rows stand from place w on.
 -- The measure is what is left of the slots. Assumes nothing.
-use Prim.Native.Nat.{_+_, _<_, _≤_, _-_}
-use mathlib.Core.Path.{_≡_}
-use native.Mathlib.Omega.{arith}
-use lib.ListN.{length}
+use Rattle.basics.specs.Words.{_+_, _<_, _≤_, _-_, _≡_, length, arith}
 use Rattle.point_tables.specs.Meaning.Tables.{Tables}
 use Rattle.point_maintain_slots.specs.Inner.Pass.{recordTables}
-use Rattle.point_maintain_slots.proofs.Turns.{Done, none-done, all-done, done-slots, done-reals, done-ints, done-map, done-room, put-long, turn-slotted, turn-room, turn-done}
+use Rattle.point_maintain_slots.proofs.Turns.{Done, none-done, all-done, done-slots, done-reals, done-ints, done-map, done-room, put-long, turn-slotted}
+use Rattle.point_maintain_slots.proofs.Turns.{turn-room, turn-done}
 use Rattle.point_maintain_slots.proofs.settle_slots.Statement.{statement}
 use Rattle.point_maintain_slots.proofs.settle_slots.Tie as tie
 

@@ -1,6 +1,5 @@
 -- `point_maintain_slots::turn` meets its contract, by the phase and the tag of the slot. Assumes nothing.
-use mathlib.Core.Path.{sym, _∙_}
-use borrow.Author.Needs.{needs}
+use Rattle.basics.specs.Words.{sym, _∙_, needs}
 use Rattle.point_records.proofs.Shared.{back}
 use Rattle.cells.proofs.laws.Numbers.{cell-ext}
 use Rattle.point_maintain_slots.proofs.Turns.{turn-idle, turn-unchanged, turn-moved, turn-removed, target-room, turn-relocated}

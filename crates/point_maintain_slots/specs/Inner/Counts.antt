@@ -1,7 +1,5 @@
 -- The two counts of `maintain`, from the column of numbers alone. Assumes nothing.
-use Prim.Native.Nat.{ℕ}
-use mathlib.Core.List.{List, []}
-use lib.Dec.{eqb}
+use Rattle.basics.specs.Words.{ℕ, List, [], eqb}
 use Rattle.basics.specs.Meaning.Refusals.{pick}
 use Rattle.slots.specs.Meaning.Slot.{live}
 use Rattle.point_records.specs.declared.State.{State}

@@ -1,11 +1,7 @@
 -- The pass over the slots: what it is asked for, one slot's part of it, and what it leaves. Assumes nothing.
 -- Here: what only inner contracts cite.
-use Prim.Native.Nat.{ℕ, _+_, _/_, _<_, _≤_}
-use mathlib.Core.Path.{_≡_}
-use mathlib.Core.List.{List, [], _∷_, _++_, map}
-use lib.IntN.{ℤ}
+use Rattle.basics.specs.Words.{ℕ, _+_, _/_, _<_, _≤_, _≡_, List, [], _∷_, _++_, map, length, getD, set, take, drop, ℤ}
 use lib.Ieee.{Float, nan}
-use lib.ListN.{length, getD, set, take, drop}
 use denote.Ref.{RefT, now}
 use Rattle.basics.specs.Meaning.Lent.{Lent}
 use Rattle.basics.specs.Meaning.Refusals.{pick}

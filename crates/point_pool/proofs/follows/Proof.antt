@@ -1,7 +1,5 @@
 -- `point_pool::follows` meets its contract. Assumes nothing.
-use native.Mathlib.Omega.{arith}
-use borrow.Author.Tests.{leb-true, le-leb}
-use borrow.Author.Needs.{needs}
+use Rattle.basics.specs.Words.{arith, leb-true, le-leb, needs}
 use Rattle.basics.proofs.laws.Says.{says-no}
 use Rattle.point_pool.proofs.follows.Statement.{statement}
 use Rattle.point_pool.proofs.follows.Tie as tie

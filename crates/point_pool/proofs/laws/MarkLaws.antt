@@ -1,12 +1,6 @@
 -- Laws of the marks: none is set at first, and one more is set with each entry. Assumes nothing.
-use Prim.Native.Nat.{ℕ, zero, suc, _+_, _<_}
-use mathlib.Core.Path.{_≡_, refl, sym, ap, _∙_}
-use mathlib.Core.Bool.{Bool, true, false}
-use mathlib.Core.List.{List, [], _∷_}
-use mathlib.Core.Logic.{_⊎_, inl, inr, ⊎-elim}
-use native.Mathlib.Omega.{arith}
-use lib.ListN.{length, getD, set, replicate}
-use lib.Seq.{getD-set-same}
+use Rattle.basics.specs.Words.{ℕ, zero, suc, _+_, _<_, _≡_, refl, sym, ap, _∙_, Bool, true, false, List, [], _∷_, _⊎_, inl, inr, ⊎-elim, length, getD, set}
+use Rattle.basics.specs.Words.{replicate, getD-set-same, arith}
 use borrow.Author.Count.{below-none, below-more}
 use Rattle.basics.proofs.laws.Says.{apart}
 use Rattle.storage.specs.Meaning.Packed.{second}

@@ -1,9 +1,6 @@
 -- What the pass over the pool and the cell table asks of each entry, of a run of them, and of all of them. Assumes nothing.
 -- Here: the laws.
-use Prim.Native.Nat.{ℕ, _+_, _-_, _<_, _≤_}
-use mathlib.Core.Path.{_≡_}
-use mathlib.Core.List.{List}
-use lib.IntN.{ℤ}
+use Rattle.basics.specs.Words.{ℕ, _+_, _-_, _<_, _≤_, _≡_, List, ℤ}
 use lib.Ieee.{Float}
 use Rattle.storage.specs.Meaning.Packed.{first, second}
 use Rattle.point_records.specs.Inner.Listed.{listedAt}

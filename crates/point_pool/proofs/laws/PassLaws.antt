@@ -1,16 +1,9 @@
 -- Laws of the pass: what holds of the entries passed goes on by one, and where an entry cannot be passed the whole does not hold.
 -- Assumes nothing.
-use Prim.Native.Nat.{ℕ, _+_, _-_, _<_, _≤_}
-use mathlib.Core.Path.{_≡_, refl, sym, ap, _∙_, subst}
-use mathlib.Core.Bool.{Bool, true, false}
-use mathlib.Core.Logic.{_⊎_, inl, inr, ⊎-elim}
-use mathlib.Core.List.{List}
-use native.Mathlib.Omega.{arith}
-use lib.Dec.{ltb}
-use lib.IntN.{ℤ}
+use Rattle.basics.specs.Words.{ℕ, _+_, _-_, _<_, _≤_, _≡_, refl, sym, ap, _∙_, subst, Bool, true, false, List, _⊎_, inl, inr, ⊎-elim, ltb, ℤ, arith, ltb-true}
+use Rattle.basics.specs.Words.{ltb-false}
 use lib.Ieee.{Float}
 use borrow.Author.Count.{below-none, below-more}
-use borrow.Author.Tests.{ltb-true, ltb-false}
 use Rattle.storage.specs.Meaning.Packed.{first, second, Packed}
 use Rattle.point_records.specs.Inner.Listed.{listedAt}
 use Rattle.point_pool.specs.Inner.Pass.{Fits, Marked, Whole, Passes}

@@ -1,11 +1,6 @@
 -- Laws of a run of entries: it is passed as a whole with the row of its list, and where all is right the next row is that of the next entry.
 -- Assumes nothing.
-use Prim.Native.Nat.{ℕ, zero, suc, _+_, _-_, _<_, _≤_}
-use mathlib.Core.Path.{_≡_, refl, sym, ap, _∙_, subst}
-use mathlib.Core.Logic.{_⊎_, inl, inr, ⊎-elim}
-use mathlib.Core.List.{List}
-use native.Mathlib.Omega.{arith}
-use lib.IntN.{ℤ, pos, negsuc}
+use Rattle.basics.specs.Words.{ℕ, zero, suc, _+_, _-_, _<_, _≤_, _≡_, refl, sym, ap, _∙_, subst, List, ⊎-elim, ℤ, pos, negsuc, arith}
 use lib.Signed.{mag}
 use lib.Ieee.{Float}
 use Rattle.cells.specs.declared.Cell.{Cell}
@@ -19,7 +14,7 @@ use Rattle.cells.proofs.laws.KeyLaws.{cell-key, key-cell}
 use Rattle.storage.specs.Meaning.Packed.{first, second}
 use Rattle.point_records.specs.Meaning.Columns.{recordAt}
 use Rattle.point_pool.proofs.laws.Pass.{Step, stays, steps, Turn}
-use Rattle.point_pool.specs.Inner.Pass.{Marked, Whole, Right, Here, Run, Passes}
+use Rattle.point_pool.specs.Inner.Pass.{Marked, Here, Run, Passes}
 use Rattle.point_pool.proofs.laws.PassLaws.{below-or, Met, met-next, met-short, Passed, passed-more}
 
 -- ---- the key of a cell near 0 is not 0

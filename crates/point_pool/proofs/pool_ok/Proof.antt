@@ -1,17 +1,10 @@
 -- `point_pool::pool_ok` meets its contract. With r rows met, all is right up to entry j, the marks say which slots were named, entry j is not right in
 -- the list of the last row, the two locals are the span of its line, and the spans kept are those of their columns. The measure is what is left of
 -- the rows. Assumes nothing.
-use Prim.Native.Nat.{ℕ, _+_, _-_, _*_, _≤_, _<_}
-use mathlib.Core.Path.{_≡_, refl, sym, _∙_, ap, subst}
-use mathlib.Core.Bool.{false}
-use mathlib.Core.List.{List}
-use mathlib.Core.Logic.{⊎-elim}
-use native.Mathlib.Omega.{arith}
-use lib.IntN.{ℤ}
+use Rattle.basics.specs.Words.{ℕ, _+_, _-_, _*_, _≤_, _<_, _≡_, refl, sym, _∙_, ap, subst, false, List, ⊎-elim, length, length-replicate, ℤ, arith, eqb-true}
+use Rattle.basics.specs.Words.{eq-eqb, not-true, not-false}
 use lib.Signed.{mag}
 use lib.Ieee.{Float}
-use lib.ListN.{length, length-replicate}
-use borrow.Author.Tests.{eqb-true, eq-eqb, not-true, not-false}
 use Rattle.basics.proofs.laws.Says.{says-no, apart}
 use Rattle.cells.specs.declared.Cell.{Cell}
 use Rattle.cells.specs.Meaning.Size.{SizeInDomain}

@@ -1,14 +1,6 @@
 -- `point_pool::run_end` meets its contract: up to entry j all is right in the list, the marks say which slots were named, and the spans kept are right.
 -- The measure is what is left of the entries. Assumes nothing.
-use Prim.Native.Nat.{ℕ, _-_, _≤_, _<_, _+_}
-use mathlib.Core.Path.{_≡_, refl, sym, _∙_, ap, subst}
-use mathlib.Core.Bool.{Bool}
-use mathlib.Core.Logic.{⊎-elim}
-use native.Mathlib.Omega.{arith}
-use lib.IntN.{ℤ}
-use lib.ListN.{length, length-set}
-use borrow.Author.Tests.{not-true, not-false}
-use borrow.Author.Needs.{needs}
+use Rattle.basics.specs.Words.{ℕ, _-_, _≤_, _<_, _≡_, sym, _∙_, ap, subst, ⊎-elim, length, length-set, ℤ, arith, not-true, not-false, needs}
 use Rattle.basics.specs.Meaning.Says.{Says}
 use Rattle.basics.proofs.laws.Says.{apart}
 use Rattle.cells.specs.declared.Cell.{Cell}
@@ -19,7 +11,7 @@ use Rattle.point_records.specs.declared.Entry.{Entry}
 use Rattle.point_records.specs.Inner.Listed.{listedAt}
 use Rattle.point_records.specs.Inner.Kept.{Kept}
 use Rattle.point_records.proofs.laws.KeptLaws.{column-of}
-use Rattle.point_pool.specs.Inner.Pass.{Right, Here, Run, Named}
+use Rattle.point_pool.specs.Inner.Pass.{Right, Here, Named}
 use Rattle.point_pool.proofs.laws.MarkLaws.{named-more, named-new}
 use Rattle.point_pool.proofs.laws.PassLaws.{below-or}
 use Rattle.point_pool.proofs.run_end.Statement.{statement}

@@ -1,12 +1,7 @@
 -- What the pass over the pool and the cell table asks of each entry, of a run of them, and of all of them. Assumes nothing.
 -- Here: what only inner contracts cite.
-use Prim.Native.Nat.{ℕ, _<_, _≤_}
-use mathlib.Core.Path.{_≡_}
-use mathlib.Core.Bool.{Bool, true, false}
-use mathlib.Core.List.{List, []}
-use lib.IntN.{ℤ}
+use Rattle.basics.specs.Words.{ℕ, _<_, _≤_, _≡_, Bool, true, false, List, length, getD, ℤ}
 use lib.Ieee.{Float, isNan}
-use lib.ListN.{length, getD}
 use Rattle.basics.specs.Meaning.Limits.{mostSlots}
 use Rattle.cells.specs.declared.Cell.{Cell}
 use Rattle.cells.specs.Meaning.Size.{SizeInDomain}
@@ -15,7 +10,7 @@ use Rattle.cells.specs.Meaning.Key.{keyOf}
 use Rattle.slots.specs.Meaning.Slot.{live, versionAt, phaseAt}
 use Rattle.storage.specs.Meaning.Packed.{first, second, Packed}
 use Rattle.point_records.specs.declared.Entry.{Entry}
-use Rattle.point_records.specs.Meaning.Columns.{tagIn, recordAt, tagAt}
+use Rattle.point_records.specs.Meaning.Columns.{recordAt, tagAt}
 use Rattle.point_records.specs.Inner.Listed.{listedAt}
 use Rattle.point_records.specs.Meaning.Occupied.{Occupied}
 

@@ -1,12 +1,7 @@
 -- Places collected as far as an array has room for them: stretch after stretch of a run, and run after run. Assumes nothing.
-use Prim.Native.Nat.{ℕ, _+_, _-_, _<_, _≤_}
-use mathlib.Core.Path.{_≡_, refl, sym, ap, _∙_}
-use mathlib.Core.Bool.{Bool}
-use mathlib.Core.List.{List, _++_, append-nil, append-assoc}
-use native.Mathlib.Omega.{arith}
+use Rattle.basics.specs.Words.{ℕ, _+_, _-_, _<_, _≤_, _≡_, refl, sym, ap, _∙_, Bool, List, _++_, append-nil, append-assoc, length, getD, take, length-append}
+use Rattle.basics.specs.Words.{length-take, length-take-le, arith}
 use lib.Ieee.{Float}
-use lib.ListN.{length, getD, take, length-append, length-take}
-use lib.Seq.{length-take-le}
 use Rattle.cells.specs.declared.Cell.{Cell}
 use Rattle.cells.specs.Inner.Numbers.{Near}
 use Rattle.cells.specs.Meaning.Key.{keyOf}

@@ -1,15 +1,7 @@
 -- What `query` makes of document 01's case at cell size 1, whatever the grid holds: a range of 4,096 cells is accepted, and one of 4,160
 -- gets answer 7. Assumes nothing.
-use Prim.Native.Nat.{ℕ, _≤_}
-use mathlib.Core.Path.{_≡_, refl, sym, ap, _∙_}
-use mathlib.Core.Logic.{_⊎_, inl, inr}
-use mathlib.Core.Bool.{true}
-use mathlib.Core.List.{List}
-use native.Mathlib.Omega.{arith}
-use lib.Dec.{leb}
+use Rattle.basics.specs.Words.{ℕ, _≤_, _≡_, refl, sym, ap, _∙_, true, List, _⊎_, inl, inr, length, leb, arith, leb-true, leb-false}
 use lib.Ieee.{Float, ofBits, lt, le, eq, fits}
-use lib.ListN.{length}
-use borrow.Author.Tests.{leb-true, leb-false}
 use Rattle.basics.specs.Meaning.Limits.{mostCells}
 use Rattle.geometry.specs.declared.Position.{Position}
 use Rattle.geometry.specs.Meaning.Domain.{positionInDomain}

@@ -1,10 +1,6 @@
 -- The corners of the three queries: where the numbers that were given are in the domain, the cell rule may be asked of the corners; and
 -- each query is the search of its corners and its test. Assumes nothing.
-use mathlib.Core.Path.{_≡_, sym, _∙_, subst}
-use mathlib.Core.Bool.{Bool, true, _&&_}
-use mathlib.Core.List.{List}
-use Prim.Native.Nat.{ℕ}
-use lib.Dec.{T}
+use Rattle.basics.specs.Words.{ℕ, _≡_, sym, _∙_, subst, Bool, true, _&&_, List, T}
 use lib.Ieee.{Float}
 use Rattle.basics.proofs.laws.Says.{both-true, says-t}
 use Rattle.geometry.specs.declared.Position.{Position}

@@ -1,13 +1,7 @@
 -- What is written of the places that a search collected is what the search finds. Assumes nothing.
-use Prim.Native.Nat.{ℕ, _+_, _<_, _≤_}
-use mathlib.Core.Path.{_≡_, sym, ap, _∙_, subst}
-use mathlib.Core.Bool.{Bool, true}
-use mathlib.Core.List.{List, map, map-map}
-use native.Mathlib.Omega.{arith}
-use lib.Dec.{leb}
+use Rattle.basics.specs.Words.{ℕ, _+_, _<_, _≤_, _≡_, sym, ap, _∙_, subst, Bool, true, List, map, map-map, length, getD, drop, length-map, List·getD-append}
+use Rattle.basics.specs.Words.{leb, arith, leb-true, leb-false, le-leb, lt-leb}
 use lib.Ieee.{Float}
-use lib.ListN.{length, getD, drop, length-map, List·getD-append}
-use borrow.Author.Tests.{leb-true, leb-false, le-leb, lt-leb}
 use Rattle.basics.specs.Meaning.Limits.{mostCells}
 use Rattle.geometry.specs.declared.Position.{Position}
 use Rattle.cells.specs.declared.Cell.{Cell}

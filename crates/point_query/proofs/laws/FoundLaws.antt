@@ -1,12 +1,6 @@
 -- What a search finds in tables that hold a grid: the entries whose cell is in the range and whose position passes, each at its place in
 -- the pool. Assumes nothing.
-use Prim.Native.Nat.{ℕ, _<_, _≤_}
-use mathlib.Core.Path.{_≡_, refl, sym, ap, _∙_, subst}
-use mathlib.Core.Bool.{Bool, _&&_}
-use mathlib.Core.List.{List, [], _∷_, map}
-use native.Mathlib.Omega.{arith}
-use lib.Dec.{T}
-use lib.ListN.{length, take}
+use Rattle.basics.specs.Words.{ℕ, _<_, _≤_, _≡_, sym, ap, _∙_, subst, map, length, take, T, arith}
 use Rattle.geometry.specs.Meaning.Domain.{positionInDomain}
 use Rattle.geometry.specs.declared.Position.{Position}
 use Rattle.cells.specs.declared.Cell.{Cell}
@@ -25,7 +19,7 @@ use Rattle.storage.specs.Meaning.Entries.{Entry, rowItem, rowKey, entryKey}
 use Rattle.storage.specs.Meaning.Packed.{second}
 use Rattle.storage.proofs.laws.PackedLaws.{ordered-sorted}
 use Rattle.storage.proofs.laws.PoolLaws.{sorted-entries}
-use Rattle.storage.proofs.laws.FilterLaws.{by-test, all-map, filter-both}
+use Rattle.storage.proofs.laws.FilterLaws.{all-map, filter-both}
 use Rattle.storage.specs.Inner.Window.{windowOf}
 use Rattle.storage.proofs.laws.WindowLaws.{window-cell}
 use Rattle.storage.proofs.laws.WalkLaws.{walked-window}

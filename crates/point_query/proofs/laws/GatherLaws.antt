@@ -1,11 +1,6 @@
 -- Collecting places, one after the other and stretch after stretch. Assumes nothing.
-use Prim.Native.Nat.{ℕ, _+_, _-_, _<_, _≤_}
-use mathlib.Core.Path.{_≡_, sym, ap, _∙_}
-use mathlib.Core.Bool.{Bool, true, false}
-use mathlib.Core.List.{List, [], _∷_, _++_, append-nil, append-assoc}
-use native.Mathlib.Omega.{arith}
-use lib.ListN.{length, set, take, length-append}
-use lib.Seq.{length-take-le}
+use Rattle.basics.specs.Words.{ℕ, _+_, _-_, _<_, _≤_, _≡_, sym, ap, _∙_, Bool, true, false, List, [], _∷_, _++_, append-nil, append-assoc, length, set, take}
+use Rattle.basics.specs.Words.{length-append, length-take-le, arith}
 use Rattle.storage.specs.Meaning.Keyed.{written}
 use Rattle.storage.proofs.laws.WrittenLaws.{written-next}
 use Rattle.storage.proofs.laws.PlaceLaws.{written-same}

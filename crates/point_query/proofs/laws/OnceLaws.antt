@@ -1,11 +1,6 @@
 -- What is found in tables that hold a grid: live slots at their current version, each once, and every object that passes. Assumes nothing.
-use Prim.Native.Nat.{ℕ, zero, suc, _<_, _≤_}
-use mathlib.Core.Path.{_≡_, refl, sym, ap, _∙_}
-use mathlib.Core.Bool.{Bool, true, _&&_}
-use mathlib.Core.List.{List, [], _∷_, _++_, List·Memᴰ, List·Memᴰ·head, List·Memᴰ·tail, List·Memᴰ·cases-cons, Memᴰ·append-left, Memᴰ·append-right}
-use mathlib.Core.Logic.{⊎-elim}
-use native.Mathlib.Omega.{arith}
-use borrow.Author.Tests.{lt-ltb, eq-eqb}
+use Rattle.basics.specs.Words.{ℕ, zero, suc, _<_, _≤_, _≡_, refl, sym, ap, _∙_, Bool, true, _&&_, List, [], _∷_, _++_, List·Memᴰ, List·Memᴰ·head}
+use Rattle.basics.specs.Words.{List·Memᴰ·tail, List·Memᴰ·cases-cons, Memᴰ·append-left, Memᴰ·append-right, ⊎-elim, arith, lt-ltb, eq-eqb}
 use Rattle.basics.proofs.laws.Says.{d-eq}
 use Rattle.cells.specs.Meaning.CellRule.{cellAt}
 use Rattle.cells.specs.Inner.CellRule.{Reached}

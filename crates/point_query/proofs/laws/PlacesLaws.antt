@@ -1,12 +1,7 @@
 -- Places that pass a test: stretch by stretch, how many, which; and the entries at them are a filter of all. Assumes nothing.
-use Prim.Native.Nat.{ℕ, zero, suc, _+_, _-_, _<_, _≤_}
-use mathlib.Core.Path.{_≡_, refl, sym, ap, ap₂, _∙_}
-use mathlib.Core.Bool.{Bool, true, false}
-use mathlib.Core.List.{List, [], _∷_, _++_, append-nil, append-assoc, map, map-append}
-use native.Mathlib.Omega.{arith}
+use Rattle.basics.specs.Words.{ℕ, zero, suc, _+_, _-_, _<_, _≤_, _≡_, refl, sym, ap, ap₂, _∙_, Bool, true, false, List, [], _∷_, _++_, append-nil, append-assoc}
+use Rattle.basics.specs.Words.{map, map-append, length, getD, take, length-append, take-suc, length-take-le, arith}
 use lib.Ieee.{Float}
-use lib.ListN.{length, getD, take, length-append}
-use lib.Seq.{take-suc, length-take-le}
 use Rattle.basics.specs.Meaning.Refusals.{pick}
 use Rattle.storage.specs.Meaning.Keyed.{All, filter}
 use Rattle.storage.specs.Meaning.Entries.{Entry, entry, zipped, entriesOf}

@@ -1,13 +1,7 @@
 -- A reversed range has no cells and nothing is found in it. Assumes nothing.
-use Prim.Native.Nat.{ℕ}
-use mathlib.Core.Path.{_≡_, refl, sym, ap, _∙_}
-use mathlib.Core.Logic.{_⊎_, ⊎-elim}
-use mathlib.Core.Bool.{true, false}
-use mathlib.Core.List.{List, []}
-use native.Mathlib.Omega.{arith}
+use Rattle.basics.specs.Words.{ℕ, _≡_, refl, sym, ap, _∙_, true, false, List, [], _⊎_, ⊎-elim, length, arith}
 use lib.Signed.{leZ}
 use lib.Ieee.{Float}
-use lib.ListN.{length}
 use Rattle.geometry.specs.declared.Position.{Position}
 use Rattle.cells.specs.declared.Cell.{Cell}
 use Rattle.cells.specs.Meaning.CellRule.{cellAt}

@@ -1,11 +1,6 @@
 -- Rows of the places that pass, written one behind the other: place after place of a stretch, and stretch after stretch. Assumes nothing.
-use Prim.Native.Nat.{ℕ, _+_, _-_, _<_, _≤_}
-use mathlib.Core.Path.{_≡_, sym, ap, _∙_}
-use mathlib.Core.Bool.{Bool, true, false}
-use mathlib.Core.List.{List, [], _∷_, _++_, append-nil, append-assoc, map, map-append}
-use native.Mathlib.Omega.{arith}
-use lib.ListN.{length, set, take, drop, length-append, length-map}
-use lib.Seq.{length-take-le, take-append-seam, drop-append-add, drop-drop}
+use Rattle.basics.specs.Words.{ℕ, _+_, _-_, _<_, _≤_, _≡_, sym, ap, _∙_, Bool, true, false, List, [], _∷_, _++_, append-nil, append-assoc, map, map-append}
+use Rattle.basics.specs.Words.{length, set, take, drop, length-append, length-map, length-take-le, take-append-seam, drop-append-add, drop-drop, arith}
 use Rattle.storage.specs.Meaning.Keyed.{written}
 use Rattle.storage.proofs.laws.WrittenLaws.{length-written, written-next}
 use Rattle.storage.proofs.laws.PlaceLaws.{written-same}

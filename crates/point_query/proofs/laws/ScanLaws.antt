@@ -1,7 +1,5 @@
 -- A query finds what a scan of all entries would find, in the same order: no found point lies outside the searched range. Assumes nothing.
-use mathlib.Core.Path.{_≡_, refl, _∙_}
-use mathlib.Core.Bool.{Bool, true, false, _&&_}
-use lib.Dec.{T}
+use Rattle.basics.specs.Words.{_≡_, refl, _∙_, Bool, true, false, _&&_, T}
 use lib.Ieee.{Float}
 use Rattle.geometry.specs.declared.Position.{Position}
 use Rattle.geometry.specs.Meaning.Domain.{positionInDomain, radiusInDomain}

@@ -1,5 +1,5 @@
 -- `point_query::query_around` meets its contract. Assumes nothing.
-use borrow.Author.Needs.{needs}
+use Rattle.basics.specs.Words.{needs}
 use Rattle.point_tables.specs.Meaning.Tables.{Tables, tables}
 use Rattle.point_query.specs.Meaning.Queries.{findings}
 use Rattle.point_query.proofs.laws.CornerLaws.{around-reached, around-is}

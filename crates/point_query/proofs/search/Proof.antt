@@ -1,10 +1,5 @@
 -- `point_query::search` meets its contract. Assumes nothing.
-use Prim.Native.Nat.{_<_}
-use mathlib.Core.Path.{_≡_, sym, ap, _∙_, subst}
-use mathlib.Core.Bool.{true}
-use native.Mathlib.Omega.{arith}
-use borrow.Author.Needs.{needs}
-use borrow.Author.Tests.{not-true, not-false}
+use Rattle.basics.specs.Words.{_<_, _≡_, sym, ap, _∙_, subst, true, arith, not-true, not-false, needs}
 use Rattle.cells.specs.Inner.Numbers.{Near}
 use Rattle.cells.specs.Meaning.CellRule.{cellAt}
 use Rattle.cells.specs.Inner.CellRule.{Reached}

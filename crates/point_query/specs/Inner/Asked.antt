@@ -1,9 +1,6 @@
 -- What the inner contracts of a search ask for and say, by name. Assumes nothing.
-use Prim.Native.Nat.{ℕ, _+_, _<_, _≤_}
-use mathlib.Core.Path.{_≡_}
-use mathlib.Core.List.{List, _++_, map}
+use Rattle.basics.specs.Words.{ℕ, _+_, _<_, _≤_, _≡_, List, _++_, map, length, getD, take}
 use lib.Ieee.{Float}
-use lib.ListN.{length, getD, take}
 use Rattle.basics.specs.Meaning.Limits.{mostSlots}
 use Rattle.cells.specs.declared.Cell.{Cell}
 use Rattle.cells.specs.Inner.Numbers.{Near}

@@ -1,10 +1,6 @@
 -- Places collected as far as an array has room for them. Assumes nothing.
-use Prim.Native.Nat.{ℕ, _+_, _-_, _<_, _≤_}
-use mathlib.Core.Path.{_≡_}
-use mathlib.Core.Bool.{Bool}
-use mathlib.Core.List.{List, _++_}
+use Rattle.basics.specs.Words.{ℕ, _+_, _-_, _<_, _≤_, _≡_, Bool, List, _++_, length, take}
 use lib.Ieee.{Float}
-use lib.ListN.{length, take}
 use Rattle.cells.specs.declared.Cell.{Cell}
 use Rattle.point_query.specs.declared.Test.{Test}
 use Rattle.point_query.specs.Inner.Places.{placesIn, placesOf}

@@ -1,5 +1,5 @@
 -- The corners of document 01's case at cell size 1. Numbers are bit patterns. Assumes nothing.
-use Prim.Native.Nat.{ℕ}
+use Rattle.basics.specs.Words.{ℕ}
 use lib.Ieee.{binary32, ofBits}
 use Rattle.geometry.specs.declared.Position.{Position}
 

@@ -1,10 +1,7 @@
 -- What a search writes of the places that it collected, and what it returns: 9 with the number found if an output is too short.
 -- Assumes nothing.
-use Prim.Native.Nat.{ℕ, _<_, _≤_}
-use mathlib.Core.List.{List}
-use lib.Dec.{leb}
+use Rattle.basics.specs.Words.{ℕ, _<_, _≤_, List, length, take, leb}
 use lib.Ieee.{Float}
-use lib.ListN.{length, take}
 use Rattle.basics.specs.Meaning.Limits.{mostSlots}
 use Rattle.basics.specs.Meaning.Refusals.{pick}
 use Rattle.storage.specs.Inner.Keyed.{Sorted}

@@ -1,7 +1,5 @@
 -- The places of the pool whose entries a search is for, ascending. Assumes nothing.
-use Prim.Native.Nat.{ℕ, zero, suc, _+_, _-_}
-use mathlib.Core.Bool.{Bool, _&&_}
-use mathlib.Core.List.{List, [], _∷_, _++_}
+use Rattle.basics.specs.Words.{ℕ, zero, suc, _+_, _-_, Bool, _&&_, List, [], _∷_, _++_}
 use lib.Ieee.{Float}
 use Rattle.basics.specs.Meaning.Refusals.{pick}
 use Rattle.cells.specs.declared.Cell.{Cell}

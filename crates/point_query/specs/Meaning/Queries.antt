@@ -1,11 +1,7 @@
 -- `query`, `query_around` and `query_aabb`: the entries of a range that pass a test, in range order and then in list order; a finding is
 -- handle and position. Assumes nothing.
-use Prim.Native.Nat.{ℕ, min}
-use mathlib.Core.Bool.{Bool, true, _&&_}
-use mathlib.Core.List.{List, [], _∷_, map}
-use lib.Dec.{eqb, leb}
+use Rattle.basics.specs.Words.{ℕ, min, Bool, true, _&&_, List, [], _∷_, map, length, eqb, leb}
 use lib.Ieee.{Float}
-use lib.ListN.{length}
 use Rattle.basics.specs.Meaning.Limits.{mostCells}
 use Rattle.basics.specs.Meaning.Refusals.{Refusal, unless, firstOf, pick, byTests}
 use Rattle.geometry.specs.declared.Position.{Position}

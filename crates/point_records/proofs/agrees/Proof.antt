@@ -1,9 +1,5 @@
 -- `point_records::agrees` meets its contract: by the tag, which is a number wherever the state is looked at. Assumes nothing.
-use Prim.Native.Nat.{ℕ, _≤_}
-use mathlib.Core.Path.{_≡_, sym, subst}
-use mathlib.Core.Bool.{Bool}
-use native.Mathlib.Omega.{arith}
-use borrow.Author.Needs.{needs}
+use Rattle.basics.specs.Words.{ℕ, _≤_, _≡_, sym, subst, Bool, arith, needs}
 use Rattle.basics.specs.Meaning.Says.{Says}
 use Rattle.basics.proofs.laws.Says.{says-yes, says-no, says-via}
 use Rattle.point_records.specs.Meaning.Columns.{stateOf}

@@ -1,11 +1,7 @@
 -- `point_records::in_cell` meets its contract. Assumes nothing.
-use mathlib.Core.Path.{_≡_, sym, _∙_}
-use lib.IntN.{pos}
-use lib.ListN.{getD}
+use Rattle.basics.specs.Words.{_≡_, sym, _∙_, getD, pos, not-true, not-false, needs}
 use mir.Syntax.{w32}
 use mir.Val.{toZ, ofZ}
-use borrow.Author.Tests.{not-true, not-false}
-use borrow.Author.Needs.{needs}
 use Rattle.basics.proofs.laws.Says.{says-no, says-via, apart}
 use Rattle.cells.specs.declared.Cell.{Cell}
 use Rattle.cells.proofs.laws.Numbers.{cell-ext}

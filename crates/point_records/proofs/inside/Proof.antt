@@ -1,5 +1,5 @@
 -- `point_records::inside` meets its contract. Assumes nothing.
-use borrow.Author.Needs.{needs}
+use Rattle.basics.specs.Words.{needs}
 use Rattle.point_records.proofs.Shared.{inside-says}
 use Rattle.point_records.proofs.inside.Statement.{statement}
 use Rattle.point_records.proofs.inside.Tie as tie

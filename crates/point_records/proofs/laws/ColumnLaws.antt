@@ -1,11 +1,6 @@
 -- What is stored is loaded again, and every other record is as it was.
-use Prim.Native.Nat.{ℕ, _<_}
-use mathlib.Core.Path.{_≡_, refl, ap}
-use mathlib.Core.List.{List, []}
+use Rattle.basics.specs.Words.{ℕ, _<_, _≡_, refl, ap, List, [], length, set, getD-set-same, getD-set-other, ℤ}
 use lib.Ieee.{Float}
-use lib.IntN.{ℤ}
-use lib.ListN.{length, getD, set}
-use lib.Seq.{getD-set-same, getD-set-other}
 use Rattle.point_records.specs.declared.State.{State}
 use Rattle.point_records.specs.declared.State.the-variants.{Unchanged, NewPos, Relocate, Removed}
 use Rattle.point_records.specs.declared.Record.{Record}

@@ -1,6 +1,6 @@
 -- Whether an occupied record holds can be decided. Assumes nothing.
 -- Here: the laws.
-use Prim.Native.Nat.{ℕ}
+use Rattle.basics.specs.Words.{ℕ}
 use Rattle.basics.specs.Meaning.Says.{Decided}
 use Rattle.basics.proofs.laws.Says.{d-via, d-and, d-imp, d-none, d-unit, d-t}
 use Rattle.geometry.specs.Meaning.Domain.{positionInDomain}

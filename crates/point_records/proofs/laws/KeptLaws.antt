@@ -1,14 +1,8 @@
 -- Laws of spans that are kept: at first the same at each place, then one more, and the numbers of a cell's column and line lead back to the cell. Assumes nothing.
-use Prim.Native.Nat.{ℕ, _<_, _%_, _^_}
-use mathlib.Core.Path.{_≡_, sym, ap, _∙_, subst}
-use mathlib.Core.List.{List, [], _∷_}
-use mathlib.Core.Logic.{inl, inr}
-use native.Mathlib.Omega.{arith}
-use lib.IntN.{ℤ}
+use Rattle.basics.specs.Words.{ℕ, _<_, _%_, _^_, _≡_, sym, ap, _∙_, subst, List, [], inl, inr, getD, set, replicate, length-set, length-replicate}
+use Rattle.basics.specs.Words.{getD-replicate, getD-set-same, getD-set-other, ℤ, arith}
 use lib.Signed.{mag}
 use lib.Ieee.{Float, nan}
-use lib.ListN.{getD, set, replicate, length-set, length-replicate, getD-replicate}
-use lib.Seq.{getD-set-same, getD-set-other}
 use mir.Syntax.{w32}
 use mir.Val.{toZ, ofZ, hbits}
 use Rattle.basics.specs.Meaning.Says.{Decided}

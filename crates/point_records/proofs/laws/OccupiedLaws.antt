@@ -1,10 +1,6 @@
 -- What `set_position` makes pending agrees with the cell rule. Assumes nothing.
-use Prim.Native.Nat.{ℕ}
-use mathlib.Core.Path.{_≡_, refl, sym, _∙_, subst}
-use mathlib.Core.List.{List}
-use lib.IntN.{ℤ}
+use Rattle.basics.specs.Words.{ℕ, _≡_, refl, sym, _∙_, subst, List, inl, inr, ℤ}
 use lib.Ieee.{Float}
-use mathlib.Core.Logic.{inl, inr}
 use Rattle.basics.specs.Meaning.Says.{Decided, said}
 use Rattle.basics.specs.Meaning.Refusals.{pick}
 use Rattle.geometry.specs.declared.Position.{Position}

@@ -1,16 +1,10 @@
 -- `point_records::load` meets its contract. Assumes nothing.
-use Prim.Native.Nat.{ℕ}
-use mathlib.Core.List.{List, []}
-use lib.ListN.{getD}
+use Rattle.basics.specs.Words.{ℕ, _≡_, List, [], getD, pos, ℤ, needs}
 use lib.Ieee.{Float, nan}
-use lib.IntN.{pos}
 use Rattle.point_records.specs.declared.State.{State}
 use Rattle.point_records.specs.declared.Record.{Record}
 use Rattle.point_records.specs.Meaning.Columns.{tagIn, recordOf, stateOf}
-use mathlib.Core.Path.{_≡_}
-use lib.IntN.{ℤ}
 use Rattle.point_records.proofs.Shared.{back}
-use borrow.Author.Needs.{needs}
 use Rattle.point_records.proofs.load.Statement.{statement}
 use Rattle.point_records.proofs.load.Tie as tie
 

@@ -1,13 +1,8 @@
 -- `point_records::pending_ok` meets its contract. Assumes nothing.
-use Prim.Native.Nat.{ℕ, _+_, _≤_}
-use mathlib.Core.Path.{_≡_, sym, subst}
-use mathlib.Core.List.{List, []}
-use lib.IntN.{ℤ, pos}
+use Rattle.basics.specs.Words.{ℕ, _+_, _≤_, _≡_, sym, subst, List, [], getD, ℤ, pos, needs}
 use lib.Ieee.{nan}
-use lib.ListN.{getD}
 use mir.Syntax.{w32}
 use mir.Val.{toZ, ofZ}
-use borrow.Author.Needs.{needs}
 use Rattle.basics.specs.Meaning.Says.{Says}
 use Rattle.geometry.specs.declared.Position.{Position}
 use Rattle.cells.specs.declared.Cell.{Cell}

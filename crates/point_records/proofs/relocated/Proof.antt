@@ -1,8 +1,6 @@
 -- `point_records::relocated` meets its contract. Assumes nothing.
-use mathlib.Core.Path.{sym, _∙_, subst}
-use lib.IntN.{ℤ}
+use Rattle.basics.specs.Words.{sym, _∙_, subst, ℤ, needs}
 use Rattle.basics.proofs.laws.Says.{says-no, apart}
-use borrow.Author.Needs.{needs}
 use Rattle.cells.specs.Inner.Span.{Spans}
 use Rattle.point_records.proofs.laws.KeptLaws.{counted}
 use Rattle.point_records.proofs.relocated.Statement.{statement}

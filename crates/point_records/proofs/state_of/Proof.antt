@@ -1,5 +1,5 @@
 -- `point_records::state_of` meets its contract. Assumes nothing.
-use borrow.Author.Tests.{eq-eqb, ne-eqb}
+use Rattle.basics.specs.Words.{eq-eqb, ne-eqb}
 use Rattle.point_records.proofs.state_of.Statement.{statement}
 use Rattle.point_records.proofs.state_of.Tie as tie
 

@@ -1,16 +1,11 @@
 -- `point_records::store` meets its contract. Assumes nothing.
-use Prim.Native.Nat.{ℕ}
-use mathlib.Core.Path.{_≡_}
-use mathlib.Core.List.{List, [], _∷_}
-use lib.ListN.{set}
+use Rattle.basics.specs.Words.{ℕ, _≡_, List, [], _∷_, set, ℤ, needs}
 use lib.Ieee.{Float}
-use lib.IntN.{ℤ}
 use Rattle.point_records.specs.declared.Record.{Record}
 use Rattle.geometry.specs.declared.Position.{Position}
 use Rattle.cells.specs.declared.Cell.{Cell}
 use Rattle.point_records.specs.Meaning.Columns.{tagOf, pendingOf, targetOf, numsOf, realsOf, intsOf}
 use Rattle.point_records.proofs.Shared.{back}
-use borrow.Author.Needs.{needs}
 use Rattle.point_records.proofs.store.Statement.{statement}
 use Rattle.point_records.proofs.store.Tie as tie
 

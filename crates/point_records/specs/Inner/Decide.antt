@@ -1,6 +1,6 @@
 -- Whether an occupied record holds can be decided. Assumes nothing.
 -- Here: what only inner contracts cite.
-use mathlib.Core.Path.{_≡_, ap}
+use Rattle.basics.specs.Words.{_≡_, ap}
 use Rattle.basics.specs.Meaning.Says.{Decided}
 use Rattle.basics.proofs.laws.Says.{d-via, d-and, d-eqz}
 use Rattle.cells.specs.declared.Cell.{Cell}

@@ -1,9 +1,6 @@
 -- Spans that are kept: at place i that of the column, or line, whose number from the least is there. Assumes nothing.
-use Prim.Native.Nat.{ℕ, _<_}
-use mathlib.Core.Path.{_≡_}
-use mathlib.Core.List.{List, []}
+use Rattle.basics.specs.Words.{ℕ, _<_, _≡_, List, [], length, getD}
 use lib.Ieee.{Float, nan}
-use lib.ListN.{length, getD}
 use Rattle.cells.specs.Inner.Key.{cellOfKey}
 use Rattle.cells.specs.Inner.Span.{Spans}
 

@@ -1,9 +1,7 @@
 -- An entry of a list out of the two columns, and the row that it takes in each. pool: cell key, slot. spots: x, y.
 -- The storage, which is below objects and moves rows unread, has the same entry as its two rows: storage/specs/Entries. Assumes nothing.
-use Prim.Native.Nat.{ℕ}
-use mathlib.Core.List.{List, [], _∷_}
+use Rattle.basics.specs.Words.{ℕ, List, [], _∷_, getD}
 use lib.Ieee.{Float}
-use lib.ListN.{getD}
 use Rattle.geometry.specs.declared.Position.{Position}
 use Rattle.point_records.specs.declared.Entry.{Entry}
 use Rattle.point_records.specs.Meaning.Columns.{positionIn}

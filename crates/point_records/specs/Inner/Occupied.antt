@@ -1,10 +1,7 @@
 -- What an occupied record is to be: its numbers are in the domain, its cell is that of its position, and what is pending agrees with the
 -- cell rule. Assumes nothing.
 -- Here: what only inner contracts cite.
-use Prim.Native.Nat.{ℕ}
-use mathlib.Core.Path.{_≡_}
-use mathlib.Core.List.{List, []}
-use lib.IntN.{ℤ}
+use Rattle.basics.specs.Words.{ℕ, _≡_, List, [], ℤ}
 use lib.Ieee.{Float}
 use Rattle.cells.specs.declared.Cell.{Cell}
 use Rattle.cells.specs.Meaning.CellRule.{cellAt}

@@ -1,13 +1,8 @@
 -- A record out of the three columns, and the row that a record takes in each.
 -- nums: version, phase, obj (the data), tag. reals: x, y, pending x, pending y. ints: cell x, cell y, target x, target y.
 -- The tag: 0 Unchanged, 1 NewPos, 2 Relocate, any other Removed. Where nothing is pending the row repeats the position and the cell.
-use Prim.Native.Nat.{ℕ}
-use mathlib.Core.Bool.{Bool, true, false}
-use mathlib.Core.List.{List, [], _∷_}
-use lib.Dec.{eqb}
-use lib.IntN.{ℤ, pos}
+use Rattle.basics.specs.Words.{ℕ, Bool, true, false, List, [], _∷_, getD, eqb, ℤ, pos}
 use lib.Ieee.{Float, nan}
-use lib.ListN.{getD}
 use Rattle.geometry.specs.declared.Position.{Position}
 use Rattle.cells.specs.declared.Cell.{Cell}
 use Rattle.point_records.specs.declared.State.{State}

@@ -1,8 +1,6 @@
 -- What an occupied record is to be: its numbers are in the domain, its cell is that of its position, and what is pending agrees with the
 -- cell rule. Assumes nothing.
-use Prim.Native.Nat.{ℕ}
-use mathlib.Core.Path.{_≡_}
-use lib.Dec.{T}
+use Rattle.basics.specs.Words.{ℕ, _≡_, T}
 use Rattle.geometry.specs.Meaning.Domain.{positionInDomain}
 use Rattle.geometry.specs.declared.Position.{Position}
 use Rattle.cells.specs.declared.Cell.{Cell}

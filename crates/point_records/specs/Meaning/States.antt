@@ -1,6 +1,5 @@
 -- The state of an object, and the record with another state. Assumes nothing.
-use Prim.Native.Nat.{ℕ}
-use mathlib.Core.Bool.{Bool, true, false}
+use Rattle.basics.specs.Words.{ℕ, Bool, true, false}
 use Rattle.basics.specs.Meaning.Says.{said}
 use Rattle.basics.specs.Meaning.Refusals.{pick}
 use Rattle.geometry.specs.declared.Position.{Position}

@@ -1,9 +1,6 @@
 -- Clearing leaves tables that hold a grid: no slot is live, each that was is at its next version or retired, and no entry is in use.
 -- Assumes nothing.
-use Prim.Native.Nat.{ℕ, _<_, _≤_}
-use mathlib.Core.Path.{_≡_, _∙_}
-use native.Mathlib.Omega.{arith}
-use lib.ListN.{length, length-map}
+use Rattle.basics.specs.Words.{ℕ, _<_, _≤_, _≡_, _∙_, length, length-map, arith}
 use Rattle.slots.specs.Meaning.Map.{head}
 use Rattle.slots.specs.Meaning.Slot.{live, phaseAt, SlotsHold}
 use Rattle.storage.specs.Meaning.Packed.{Packed}

@@ -1,14 +1,7 @@
 -- `clear`: exactly when each answer is given, what it then leaves and writes, and that tables that hold a grid still do after it.
 -- Assumes nothing.
-use Prim.Native.Nat.{ℕ, _<_, _≤_, min}
-use mathlib.Core.Path.{_≡_, refl, _∙_}
-use mathlib.Core.Bool.{Bool, true, false}
-use mathlib.Core.List.{List, map}
-use native.Mathlib.Omega.{arith}
-use lib.Dec.{eqb, leb}
+use Rattle.basics.specs.Words.{ℕ, _<_, _≤_, min, _≡_, refl, _∙_, Bool, true, false, List, map, length, eqb, leb, arith, le-leb, lt-leb}
 use lib.Ieee.{Float}
-use lib.ListN.{length}
-use borrow.Author.Tests.{le-leb, lt-leb}
 use Rattle.basics.specs.Meaning.Refusals.{pick, orElse}
 use Rattle.basics.proofs.laws.Says.{apart}
 use Rattle.storage.specs.Meaning.Keyed.{written}

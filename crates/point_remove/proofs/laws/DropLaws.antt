@@ -1,14 +1,5 @@
 -- An entry goes out of a cell's list, and the row of the cell with it if the list is then empty: the rows stay a storage. Assumes nothing.
-use Prim.Native.Nat.{ℕ, _≤_}
-use mathlib.Core.Path.{_≡_, refl}
-use mathlib.Core.Bool.{Bool, true, false}
-use mathlib.Core.List.{List, [], _∷_, cons≢nil}
-use mathlib.Core.Logic.{inl, inr}
-use native.Mathlib.Omega.{arith}
-use lib.Dec.{eqb}
-use lib.ListN.{length}
-use borrow.Author.Tests.{eqb-false}
-use Rattle.basics.specs.Meaning.Refusals.{pick}
+use Rattle.basics.specs.Words.{ℕ, _≤_, _≡_, refl, Bool, true, false, List, [], _∷_, cons≢nil, inl, inr, length, eqb, arith, eqb-false}
 use Rattle.basics.proofs.laws.Says.{d-eq}
 use Rattle.storage.specs.Meaning.Keyed.{All, under, onList, takeOut}
 use Rattle.storage.specs.Inner.Keyed.{Sorted}

@@ -1,10 +1,5 @@
 -- Taking an element out of a list: every other one stays, no two become alike, and none that passes is left. Assumes nothing.
-use Prim.Native.Nat.{ℕ}
-use mathlib.Core.Path.{_≡_, sym, _∙_}
-use mathlib.Core.Bool.{Bool, true, false}
-use mathlib.Core.List.{List, [], _∷_, _++_}
-use mathlib.Core.Logic.{_⊎_, inl, inr, ⊎-elim}
-use native.Mathlib.Omega.{arith}
+use Rattle.basics.specs.Words.{ℕ, _≡_, sym, _∙_, Bool, true, false, List, [], _∷_, _++_, _⊎_, inl, inr, ⊎-elim, arith}
 use Rattle.basics.proofs.laws.Says.{apart}
 use Rattle.storage.specs.Meaning.Keyed.{All, filter, under, below, above, onList, last, front, close, takeOut}
 use Rattle.storage.specs.Inner.Keyed.{Sorted}

@@ -1,6 +1,5 @@
 -- The live slots are as many as the entries in use. Assumes nothing.
-use mathlib.Core.Path.{_≡_, _∙_}
-use lib.ListN.{length}
+use Rattle.basics.specs.Words.{_≡_, _∙_, length}
 use Rattle.point_tables.specs.Meaning.Tables.{Tables, usedOf}
 use Rattle.point_tables.specs.Meaning.Holds.{Holds}
 use Rattle.point_tables.proofs.laws.CountLaws.{live-count}

@@ -1,11 +1,6 @@
 -- Taking an object out leaves tables that hold a grid, with one entry less. Assumes nothing.
-use Prim.Native.Nat.{ℕ, _+_, _<_}
-use mathlib.Core.Path.{_≡_, sym, _∙_, ap}
-use mathlib.Core.Bool.{Bool, true, false}
-use mathlib.Core.List.{List, [], _∷_}
-use native.Mathlib.Omega.{arith}
-use lib.ListN.{length, getD, drop, List·getD-append}
-use borrow.Author.Tests.{eqb-true, eqb-false, ne-eqb}
+use Rattle.basics.specs.Words.{ℕ, _+_, _<_, _≡_, sym, _∙_, ap, Bool, true, false, List, [], _∷_, length, getD, drop, List·getD-append, arith, eqb-true}
+use Rattle.basics.specs.Words.{eqb-false, ne-eqb}
 use Rattle.cells.specs.Meaning.Key.{keyOf}
 use Rattle.slots.specs.Meaning.Slot.{live, phaseAt}
 use Rattle.storage.specs.Meaning.Keyed.{All, under, takeOut}
@@ -24,7 +19,8 @@ use Rattle.point_remove.proofs.laws.GoneLaws.{some-takeOut, pairs-takeO
 use Rattle.point_remove.proofs.laws.DropLaws.{all-rowsBy}
 use Rattle.point_tables.proofs.laws.ListedLaws.{Named, Listing, from-listing, listing}
 use Rattle.point_tables.proofs.laws.HoldsLaws.{rows-in-cells, entries-sorted}
-use Rattle.point_remove.proofs.laws.TakenLaws.{one-less, taken-used, taken-rows, taken-size, taken-length, taken-slots, taken-gone, taken-other, taken-record, taken-entries, taken-packed, taken-sized, taken-counted}
+use Rattle.point_remove.proofs.laws.TakenLaws.{one-less, taken-used, taken-rows, taken-size, taken-length, taken-slots, taken-gone, taken-other}
+use Rattle.point_remove.proofs.laws.TakenLaws.{taken-record, taken-entries, taken-packed, taken-sized, taken-counted}
 
 module _ (t : Tables) (h : Holds t) (s : ℕ) (inside : s < slotsOf t) (is-live : phaseAt (t .nums) s ≡ live) where
   abbrev after : Tables

@@ -1,9 +1,6 @@
 -- `remove_maintain`: exactly when each answer is given, what it then leaves, that its handle is good no more, and that tables that hold a
 -- grid still do after it. Assumes nothing.
-use Prim.Native.Nat.{ℕ, _+_, _<_}
-use mathlib.Core.Path.{_≡_, refl, _∙_, ap}
-use mathlib.Core.Bool.{Bool, true, false}
-use lib.Dec.{eqb}
+use Rattle.basics.specs.Words.{ℕ, _+_, _<_, _≡_, refl, _∙_, ap, Bool, true, false, eqb}
 use Rattle.basics.specs.Meaning.Refusals.{pick, orElse}
 use Rattle.slots.specs.declared.Handle.{Handle}
 use Rattle.slots.specs.Meaning.Slot.{live, phaseAt, versionAt, good}

@@ -1,12 +1,6 @@
 -- The tables after an object is taken out, part by part: the head words, the slots, the records, the entries and the rows.
 -- Assumes nothing.
-use Prim.Native.Nat.{ℕ, _+_, _<_, _≤_}
-use mathlib.Core.Path.{_≡_, refl, sym, _∙_, ap, subst}
-use mathlib.Core.Bool.{Bool, true}
-use mathlib.Core.List.{List, [], _∷_, map}
-use native.Mathlib.Omega.{arith}
-use lib.ListN.{length, getD, length-map}
-use borrow.Author.Tests.{eq-eqb}
+use Rattle.basics.specs.Words.{ℕ, _+_, _<_, _≤_, _≡_, refl, sym, _∙_, ap, subst, Bool, true, List, [], _∷_, map, length, getD, length-map, arith, eq-eqb}
 use Rattle.cells.specs.Meaning.Key.{keyOf}
 use Rattle.slots.specs.Meaning.Map.{head}
 use Rattle.slots.specs.Meaning.Slot.{live, phaseAt, versionAt, emptiedNums, emptiedMap, SlotsHold}

@@ -1,9 +1,6 @@
 -- `clear` writes recorded position and data, ascending by slot, then empties the grid: versions rise as with any emptying. Assumes nothing.
-use Prim.Native.Nat.{ℕ, min}
-use mathlib.Core.List.{List, [], _∷_, map}
-use lib.Dec.{eqb, leb}
+use Rattle.basics.specs.Words.{ℕ, min, List, [], _∷_, map, length, eqb, leb}
 use lib.Ieee.{Float}
-use lib.ListN.{length}
 use Rattle.basics.specs.Meaning.Lent.{Lent, was, is}
 use Rattle.basics.specs.Meaning.Refusals.{Refusal, unless, pick, byTests}
 use Rattle.storage.specs.Meaning.Keyed.{written}

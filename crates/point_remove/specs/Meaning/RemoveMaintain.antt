@@ -1,8 +1,5 @@
 -- `remove_maintain` takes the object out now, whatever its state: the last entry of its list moves into the gap. Assumes nothing.
-use Prim.Native.Nat.{ℕ}
-use mathlib.Core.Bool.{Bool, true, false}
-use mathlib.Core.List.{List, [], _∷_, map}
-use lib.ListN.{length}
+use Rattle.basics.specs.Words.{ℕ, Bool, true, false, List, [], _∷_, map, length}
 use Rattle.basics.specs.Meaning.Refusals.{Refusal, unless, pick, byTests}
 use Rattle.cells.specs.Meaning.Key.{keyOf}
 use Rattle.slots.specs.declared.Handle.{Handle}

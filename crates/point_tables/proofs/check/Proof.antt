@@ -1,9 +1,5 @@
 -- `point_tables::check` meets its contract. Past each test stands what it says, and the parts make up the whole. Assumes nothing.
-use Prim.Native.Nat.{ℕ, _≤_}
-use mathlib.Core.Path.{_≡_, refl, sym, _∙_, subst}
-use native.Mathlib.Omega.{arith}
-use lib.ListN.{length}
-use borrow.Author.Tests.{not-true, not-false}
+use Rattle.basics.specs.Words.{_≤_, _≡_, refl, sym, _∙_, subst, length, arith, not-true, not-false, needs}
 use Rattle.basics.proofs.laws.Says.{says-no, apart}
 use Rattle.point_pool.specs.Inner.Pass
 use Rattle.point_pool.specs.Inner.Pass.{Passes}
@@ -11,7 +7,6 @@ use Rattle.point_tables.specs.Meaning.Tables.{Tables, tables, sizeOf, us
 use Rattle.point_tables.specs.Inner.Check.{Counts, Listed}
 use Rattle.point_tables.proofs.laws.CheckLaws.{CountsOf, PassesOf, pool-room, slot-room, listed, whole, counts-of, passes-of, slots-of}
 use Rattle.point_tables.proofs.Shared.{moved, named-all, said-holds}
-use borrow.Author.Needs.{needs}
 use Rattle.point_tables.proofs.check.Statement.{statement}
 use Rattle.point_tables.proofs.check.Tie as tie
 

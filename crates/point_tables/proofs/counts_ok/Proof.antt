@@ -1,9 +1,6 @@
 -- `point_tables::counts_ok` meets its contract. Assumes nothing.
-use mathlib.Core.Path.{sym, _∙_}
-use native.Mathlib.Omega.{arith}
-use borrow.Author.Tests.{leb-true, le-leb, not-true, not-false}
+use Rattle.basics.specs.Words.{sym, _∙_, arith, leb-true, le-leb, not-true, not-false, needs}
 use Rattle.basics.proofs.laws.Says.{says-no, apart}
-use borrow.Author.Needs.{needs}
 use Rattle.point_tables.proofs.counts_ok.Statement.{statement}
 use Rattle.point_tables.proofs.counts_ok.Tie as tie
 

@@ -1,14 +1,8 @@
 -- `point_tables::each_ok` meets its contract: every slot before i holds. The measure is what is left of the slots. Assumes nothing.
-use Prim.Native.Nat.{ℕ, _-_, _≤_, _<_}
-use mathlib.Core.Path.{sym, _∙_}
-use mathlib.Core.Bool.{false}
-use native.Mathlib.Omega.{arith}
-use lib.ListN.{length, getD}
+use Rattle.basics.specs.Words.{ℕ, _-_, _≤_, _<_, sym, _∙_, false, length, getD, arith, not-true, not-false}
 use borrow.Author.Count.{below-none, below-more}
-use borrow.Author.Tests.{not-true, not-false}
 use Rattle.basics.proofs.laws.Says.{says-yes, says-no, apart}
 use Rattle.point_tables.specs.Inner.Check.{SlotOk}
-use borrow.Author.Needs.{needs}
 use Rattle.point_tables.proofs.each_ok.Statement.{statement}
 use Rattle.point_tables.proofs.each_ok.Tie as tie
 

@@ -1,7 +1,5 @@
 -- `point_tables::free_at` meets its contract. Assumes nothing.
-use mathlib.Core.Path.{sym, _∙_}
-use borrow.Author.Tests.{not-true, not-false, eqb-true, eq-eqb}
-use borrow.Author.Needs.{needs}
+use Rattle.basics.specs.Words.{sym, _∙_, not-true, not-false, eqb-true, eq-eqb, needs}
 use Rattle.basics.proofs.laws.Says.{says-yes, says-no, apart}
 use Rattle.point_tables.proofs.free_at.Statement.{statement}
 use Rattle.point_tables.proofs.free_at.Tie as tie

@@ -1,11 +1,5 @@
 -- `point_tables::free_ok` meets its contract: every slot before i that the map has is free. The measure is what is left of the slots. Assumes nothing.
-use Prim.Native.Nat.{ℕ, _-_, _<_}
-use mathlib.Core.Path.{_≡_, sym, _∙_, subst}
-use mathlib.Core.Logic.{⊎-elim}
-use native.Mathlib.Omega.{arith}
-use lib.ListN.{length}
-use borrow.Author.Tests.{not-true, not-false}
-use borrow.Author.Needs.{needs}
+use Rattle.basics.specs.Words.{ℕ, _-_, _<_, sym, _∙_, subst, ⊎-elim, length, arith, not-true, not-false}
 use Rattle.basics.proofs.laws.Says.{says-yes, says-no, apart, d-eq, d-lt}
 use Rattle.point_tables.specs.Inner.Check.{FreeAt}
 use Rattle.point_tables.proofs.free_ok.Statement.{statement}

@@ -1,14 +1,6 @@
 -- The parts of the check make up what it is to hold a grid, and each follows from it. Assumes nothing.
-use Prim.Native.Nat.{ℕ, _+_, _<_, _≤_}
-use mathlib.Core.Path.{_≡_, refl, sym, ap, _∙_, subst}
-use mathlib.Core.Bool.{Bool, true, false}
-use mathlib.Core.List.{List, []}
-use native.Mathlib.Omega.{arith}
-use lib.Dec.{T, eqb}
+use Rattle.basics.specs.Words.{ℕ, _<_, _≡_, refl, sym, ap, _∙_, subst, Bool, true, false, List, getD, T, eqb, arith, eqb-true}
 use lib.Ieee.{Float, nan, inf, fin, isNan}
-use lib.Ieee.Scale.{finite}
-use lib.ListN.{length, getD}
-use borrow.Author.Tests.{eqb-true}
 use Rattle.geometry.specs.declared.Position.{Position}
 use Rattle.geometry.specs.Meaning.Domain.{inDomain}
 use Rattle.geometry.proofs.laws.DomainLaws.{domain-finite, position-parts}
@@ -23,7 +15,7 @@ use Rattle.point_pool.specs.Inner.Pass
 use Rattle.point_records.specs.Inner.Listed.{listedAt}
 use Rattle.point_pool.specs.Inner.Pass.{Fits, Passes, Named}
 use Rattle.point_tables.specs.Meaning.Tables.{Tables, sizeOf, usedOf, rowsOf, slotsOf, recordOn, Sized}
-use Rattle.point_tables.specs.Meaning.Holds.{Counted, RecordHolds, EntryHolds, ListsHold, Pending, Holds}
+use Rattle.point_tables.specs.Meaning.Holds.{RecordHolds, ListsHold, Pending, Holds}
 use Rattle.point_tables.specs.Inner.Check.{Counts, SlotsOk, Room, Listed}
 
 -- ---- a tag of 0 is that of a state that is unchanged, and no other is

@@ -1,7 +1,6 @@
 -- The entries in use are as many as the objects. Assumes nothing.
 -- Here: the laws.
-use mathlib.Core.Path.{_≡_}
-use borrow.Author.Tests.{eq-eqb, eqb-true}
+use Rattle.basics.specs.Words.{_≡_, eq-eqb, eqb-true}
 use Rattle.basics.specs.Inner.Counting.{countBelow}
 use Rattle.basics.proofs.laws.Counting.{named-count}
 use Rattle.storage.specs.Meaning.Packed.{second}

@@ -1,20 +1,13 @@
 -- Where the marked slots and those that the map has are as many as the slots, and none is both, each is one of them. Assumes nothing.
-use Prim.Native.Nat.{ℕ, zero, suc, _+_, _<_, _≤_}
-use mathlib.Core.Path.{_≡_, refl, sym, ap, _∙_}
-use mathlib.Core.Bool.{Bool, true, false}
-use mathlib.Core.List.{List}
-use mathlib.Core.Logic.{_⊎_, inl, inr, ⊎-elim}
-use native.Mathlib.Omega.{arith}
-use lib.Dec.{eqb}
-use lib.ListN.{length, getD}
-use borrow.Author.Tests.{eq-eqb, eqb-true, ne-eqb}
-use Rattle.basics.proofs.laws.Says.{apart, d-eq}
+use Rattle.basics.specs.Words.{ℕ, zero, suc, _+_, _<_, _≤_, _≡_, refl, sym, ap, _∙_, Bool, true, false, List, _⊎_, inl, inr, ⊎-elim, length, getD, eqb, arith}
+use Rattle.basics.specs.Words.{eq-eqb, eqb-true, ne-eqb}
+use Rattle.basics.proofs.laws.Says.{d-eq}
 use Rattle.basics.specs.Meaning.Refusals.{pick}
 use Rattle.basics.specs.Inner.Counting.{one, countBelow}
 use Rattle.slots.specs.Meaning.Map.{usable}
-use Rattle.slots.specs.Inner.Map.{usableBelow, NonePast}
+use Rattle.slots.specs.Inner.Map.{usableBelow}
 use Rattle.slots.proofs.laws.MapLaws.{not-usable}
-use Rattle.slots.specs.Meaning.Slot.{free, live, retired, lastVersion, versionAt, phaseAt, SlotHolds}
+use Rattle.slots.specs.Meaning.Slot.{free, phaseAt}
 use Rattle.point_tables.specs.Inner.Check.{SlotOk, EachOk, FreeAt, Listed}
 
 module _ (f g : ℕ → Bool) where

@@ -1,13 +1,8 @@
 -- The entries in use, by places, and the tables that entries are written to. Assumes nothing.
 -- Here: the laws.
-use Prim.Native.Nat.{ℕ, zero, suc, _<_, _≤_}
-use mathlib.Core.Path.{_≡_, refl, sym, _∙_, ap, ap₂}
-use mathlib.Core.List.{List, [], _∷_, _++_, map}
-use native.Mathlib.Omega.{arith}
-use native.Mathlib.Nat.{not-suc-le-zero, le-of-suc-le-suc}
+use Rattle.basics.specs.Words.{ℕ, zero, suc, _<_, _≤_, _≡_, refl, sym, _∙_, ap, ap₂, List, [], _∷_, _++_, map, length, getD, take, drop, length-map}
+use Rattle.basics.specs.Words.{length-take-le, getD-take, take-append-seam, not-suc-le-zero, le-of-suc-le-suc, arith}
 use lib.Ieee.{Float}
-use lib.ListN.{length, getD, take, drop, length-map}
-use lib.Seq.{length-take-le, getD-take, take-append-seam}
 use Rattle.storage.specs.Meaning.Keyed.{All, written}
 use Rattle.storage.specs.Meaning.Entries.{Entry, entry, rowOf, spotOf, zipped, entriesOf}
 use Rattle.storage.proofs.laws.FilterLaws.{all-at, all-of}

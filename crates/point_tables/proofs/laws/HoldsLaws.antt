@@ -1,10 +1,5 @@
 -- What follows from tables that hold a grid: lengths, and the order of the entries. Assumes nothing.
-use Prim.Native.Nat.{_≤_}
-use mathlib.Core.Path.{_≡_, refl, sym, ap, _∙_}
-use mathlib.Core.List.{map}
-use native.Mathlib.Omega.{arith}
-use lib.ListN.{length, take, length-map}
-use lib.Seq.{length-take-le}
+use Rattle.basics.specs.Words.{_≤_, _≡_, refl, sym, ap, _∙_, map, length, take, length-map, length-take-le, arith}
 use Rattle.storage.specs.Inner.Keyed.{Sorted}
 use Rattle.storage.specs.Meaning.Entries.{rowKey, rowOf, entryKey}
 use Rattle.storage.proofs.laws.ColumnLaws.{zipped-rows}

@@ -1,15 +1,11 @@
 -- The lists of tables that hold a grid, as facts of the list of their entries: each names an object, no two the same one, and every
 -- object is named. Assumes nothing.
-use Prim.Native.Nat.{ℕ, _<_, _≤_}
-use mathlib.Core.Path.{_≡_}
-use mathlib.Core.List.{List}
-use native.Mathlib.Omega.{arith}
+use Rattle.basics.specs.Words.{ℕ, _<_, _≤_, _≡_, List, length, getD, take, arith}
 use lib.Ieee.{nan}
-use lib.ListN.{length, getD, take}
 use Rattle.cells.specs.Meaning.Key.{keyOf}
 use Rattle.slots.specs.Meaning.Slot.{live, phaseAt}
 use Rattle.storage.specs.Meaning.Keyed.{All}
-use Rattle.storage.specs.Meaning.Entries.{Entry, rowKey, rowItem}
+use Rattle.storage.specs.Meaning.Entries.{Entry, rowKey}
 use Rattle.storage.proofs.laws.FilterLaws.{all-map}
 use Rattle.point_tables.specs.Meaning.Tables.{Tables, usedOf, rowsOf, slotsOf, recordOn, entriesIn, cellRows, slotOf}
 use Rattle.point_tables.specs.Meaning.Holds.{ListsHold, Holds}

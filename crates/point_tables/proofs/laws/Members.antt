@@ -1,12 +1,5 @@
 -- Some element, and every pair of elements in order, of a list: by places, of a part of it, and after one element more. Assumes nothing.
-use Prim.Native.Nat.{ℕ, zero, suc, _<_}
-use mathlib.Core.Bool.{Bool}
-use mathlib.Core.List.{List, [], _∷_}
-use mathlib.Core.Logic.{_⊎_, inl, inr, ⊎-elim}
-use native.Mathlib.Omega.{arith}
-use native.Mathlib.Nat.{not-suc-le-zero, le-of-suc-le-suc}
-use lib.Dec.{ltb}
-use lib.ListN.{length, getD}
+use Rattle.basics.specs.Words.{ℕ, zero, suc, _<_, Bool, List, [], _∷_, _⊎_, inl, inr, ⊎-elim, length, getD, ltb, not-suc-le-zero, le-of-suc-le-suc, arith}
 use Rattle.storage.specs.Meaning.Keyed.{All, filter, append1}
 use Rattle.storage.specs.Inner.Keyed.{Sorted}
 use Rattle.storage.proofs.laws.FilterLaws.{by-test, all-map, all-at, all-of, filter-all}

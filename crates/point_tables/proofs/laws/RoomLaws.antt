@@ -1,10 +1,5 @@
 -- A slot that is not occupied leaves room: the entries in use are as many as the objects, so fewer than the slots. Assumes nothing.
-use Prim.Native.Nat.{ℕ, zero, suc, _≤_, _<_}
-use mathlib.Core.Path.{_≡_, sym, _∙_, ap}
-use mathlib.Core.Bool.{Bool, true, false}
-use mathlib.Core.Logic.{inl, inr}
-use native.Mathlib.Omega.{arith}
-use borrow.Author.Tests.{ne-eqb}
+use Rattle.basics.specs.Words.{ℕ, zero, suc, _≤_, _<_, _≡_, sym, _∙_, ap, Bool, true, false, inl, inr, arith, ne-eqb}
 use Rattle.basics.proofs.laws.Says.{d-eq}
 use Rattle.basics.specs.Inner.Counting.{one, countBelow}
 use Rattle.slots.specs.Meaning.Slot.{live, phaseAt}

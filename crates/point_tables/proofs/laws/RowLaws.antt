@@ -1,11 +1,6 @@
 -- The pool's rows and the cell table's rows in use, as two lists: when they are a storage, read from the tables and written to them.
 -- Assumes nothing.
-use Prim.Native.Nat.{ℕ, _≤_}
-use mathlib.Core.Path.{_≡_}
-use mathlib.Core.List.{List, [], _∷_}
-use native.Mathlib.Omega.{arith}
-use lib.ListN.{length, take, drop, length-append}
-use lib.Seq.{take-append-seam}
+use Rattle.basics.specs.Words.{ℕ, _≤_, _≡_, List, [], _∷_, length, take, drop, length-append, take-append-seam, arith}
 use Rattle.storage.specs.Meaning.Keyed.{All, under, written}
 use Rattle.storage.specs.Inner.Keyed.{Sorted}
 use Rattle.storage.specs.Meaning.Entries.{rowKey, rowItem}

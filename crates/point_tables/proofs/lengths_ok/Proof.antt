@@ -1,8 +1,6 @@
 -- `point_tables::lengths_ok` meets its contract. Assumes nothing.
-use native.Mathlib.Omega.{arith}
-use borrow.Author.Tests.{eqb-true, eq-eqb}
+use Rattle.basics.specs.Words.{arith, eqb-true, eq-eqb, needs}
 use Rattle.basics.proofs.laws.Says.{says-no}
-use borrow.Author.Needs.{needs}
 use Rattle.point_tables.proofs.lengths_ok.Statement.{statement}
 use Rattle.point_tables.proofs.lengths_ok.Tie as tie
 

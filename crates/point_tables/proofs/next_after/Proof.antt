@@ -1,9 +1,5 @@
 -- `point_tables::next_after` meets its contract. Assumes nothing.
-use Prim.Native.Nat.{ℕ, _+_, _/_, _%_}
-use mathlib.Core.Path.{_≡_, ap, _∙_}
-use native.Mathlib.Omega.{arith}
-use lib.ListN.{getD}
-use borrow.Author.Needs.{needs}
+use Rattle.basics.specs.Words.{ℕ, _+_, _/_, _%_, _≡_, ap, _∙_, getD, arith, needs}
 use Rattle.slots.specs.Meaning.Map.{head, bit}
 use Rattle.slots.proofs.laws.BitLaws.{bit-of-zero}
 use Rattle.point_tables.proofs.next_after.Statement.{statement}

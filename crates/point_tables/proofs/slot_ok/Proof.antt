@@ -1,14 +1,10 @@
 -- `point_tables::slot_ok` meets its contract. Assumes nothing.
-use mathlib.Core.Path.{sym, _∙_}
-use mathlib.Core.Bool.{Bool}
-use native.Mathlib.Omega.{arith}
-use borrow.Author.Tests.{not-true, not-false}
+use Rattle.basics.specs.Words.{sym, _∙_, not-true, not-false, needs}
 use Rattle.basics.specs.Meaning.Says.{Says}
 use Rattle.basics.proofs.laws.Says.{says-yes, says-no, apart}
 use Rattle.slots.specs.Meaning.Map.{usable}
 use Rattle.slots.specs.Meaning.Slot.{versionAt, phaseAt, SlotHolds}
 use Rattle.point_tables.proofs.Shared.{said-slot}
-use borrow.Author.Needs.{needs}
 use Rattle.point_tables.proofs.slot_ok.Statement.{statement}
 use Rattle.point_tables.proofs.slot_ok.Tie as tie
 

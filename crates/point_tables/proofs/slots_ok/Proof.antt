@@ -1,10 +1,5 @@
 -- `point_tables::slots_ok` meets its contract. Assumes nothing.
-use mathlib.Core.Path.{sym, ap, _∙_}
-use Prim.Native.Nat.{ℕ, _+_, _*_}
-use lib.ListN.{length}
-use native.Mathlib.Omega.{arith}
-use borrow.Author.Tests.{not-true, not-false}
-use borrow.Author.Needs.{needs}
+use Rattle.basics.specs.Words.{ℕ, _+_, _*_, sym, ap, _∙_, length, arith, not-true, not-false, needs}
 use Rattle.basics.proofs.laws.Says.{says-no, apart}
 use Rattle.slots.specs.Meaning.Map.{wordsFor}
 use Rattle.slots.specs.Inner.Map.{NonePast}

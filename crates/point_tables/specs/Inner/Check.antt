@@ -1,9 +1,5 @@
 -- What the parts of the check ask: the counts, and each slot with the mark that an entry names it. Assumes nothing.
-use Prim.Native.Nat.{ℕ, _+_, _<_, _≤_}
-use mathlib.Core.Path.{_≡_}
-use mathlib.Core.Bool.{Bool, true, false}
-use mathlib.Core.List.{List}
-use lib.ListN.{length, getD}
+use Rattle.basics.specs.Words.{ℕ, _+_, _<_, _≤_, _≡_, Bool, true, false, List, length, getD}
 use Rattle.basics.specs.Meaning.Limits.{mostSlots}
 use Rattle.basics.specs.Inner.Counting.{countBelow}
 use Rattle.cells.specs.Meaning.Size.{SizeInDomain}

@@ -1,8 +1,6 @@
 -- The entries in use are as many as the objects. Assumes nothing.
 -- Here: what only inner contracts cite.
-use Prim.Native.Nat.{ℕ}
-use mathlib.Core.Bool.{Bool}
-use lib.Dec.{eqb}
+use Rattle.basics.specs.Words.{ℕ, Bool, eqb}
 use Rattle.slots.specs.Meaning.Slot.{live, phaseAt}
 use Rattle.point_tables.specs.Meaning.Tables.{Tables}
 

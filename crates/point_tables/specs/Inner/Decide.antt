@@ -1,6 +1,6 @@
 -- Whether tables hold a grid can be decided: `holds`. It is never computed: the check says the same. Assumes nothing.
 -- Here: what only inner contracts cite.
-use Prim.Native.Nat.{ℕ}
+use Rattle.basics.specs.Words.{ℕ}
 use Rattle.basics.specs.Meaning.Says.{Decided}
 use Rattle.basics.proofs.laws.Says.{d-via, d-and, d-imp, d-none, d-eq, d-le, d-lt, d-all, d-any}
 use Rattle.basics.proofs.laws.DecideFloat.{d-float}

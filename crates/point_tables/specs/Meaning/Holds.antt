@@ -1,10 +1,7 @@
 -- Tables hold a grid: the list of document 01, clause by clause. Assumes nothing.
 -- Of rows that are not in use nothing is asked but version, phase and map bit of every slot.
-use Prim.Native.Nat.{ℕ, _<_, _≤_}
-use mathlib.Core.Path.{_≡_}
-use mathlib.Core.List.{[]}
+use Rattle.basics.specs.Words.{ℕ, _<_, _≤_, _≡_, [], getD}
 use lib.Ieee.{nan}
-use lib.ListN.{getD}
 use Rattle.cells.specs.Meaning.Size.{SizeInDomain}
 use Rattle.cells.specs.Meaning.Key.{keyOf}
 use Rattle.slots.specs.Meaning.Slot.{live, phaseAt, SlotsHold}

@@ -1,9 +1,6 @@
 -- The tables behind seven references: as a contract sees them at one moment (`lent`), before and after a call, and what a call makes of them (`Gives`).
 -- Assumes nothing.
-use Prim.Native.Nat.{ℕ}
-use mathlib.Core.Path.{_≡_}
-use mathlib.Core.List.{List}
-use lib.IntN.{ℤ}
+use Rattle.basics.specs.Words.{ℕ, _≡_, List, ℤ}
 use lib.Ieee.{Float}
 use denote.Ref.{RefT, now}
 use Rattle.basics.specs.Meaning.Lent.{Lent}

@@ -1,7 +1,5 @@
 -- The outcome of a call on the tables of a point grid. Assumes nothing.
-use mathlib.Core.List.{List}
-use Prim.Native.Nat.{ℕ}
-use lib.ListN.{set}
+use Rattle.basics.specs.Words.{ℕ, List, set}
 use Rattle.basics.specs.Meaning.Outcome as Any
 use Rattle.point_records.specs.declared.Record.{Record}
 use Rattle.point_records.specs.Meaning.Columns.{numsOf, realsOf, intsOf}

@@ -1,10 +1,6 @@
 -- The tables of a point grid of n slots, as lists, and their lengths. Assumes nothing.
-use Prim.Native.Nat.{ℕ, _+_, _≤_}
-use mathlib.Core.Path.{_≡_}
-use mathlib.Core.List.{List}
-use lib.IntN.{ℤ}
+use Rattle.basics.specs.Words.{ℕ, _+_, _≤_, _≡_, List, length, getD, set, take, ℤ}
 use lib.Ieee.{Float}
-use lib.ListN.{length, getD, set, take}
 use Rattle.basics.specs.Meaning.Limits.{mostSlots}
 use Rattle.point_records.specs.declared.Record.{Record}
 use Rattle.point_records.specs.Meaning.Columns.{recordAt}

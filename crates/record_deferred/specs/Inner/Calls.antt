@@ -1,6 +1,6 @@
 -- `set_position` and `remove` on columns of n rows, and on a table of records. Assumes nothing.
 -- Here: what only inner contracts cite.
-use Prim.Native.Nat.{ℕ}
+use Rattle.basics.specs.Words.{ℕ}
 use Rattle.geometry.specs.declared.Position.{Position}
 use Rattle.slots.specs.declared.Handle.{Handle}
 use Rattle.replies.specs.declared.Reply.{Reply}

@@ -1,5 +1,5 @@
 -- `set_position` and `remove` on columns of n rows, and on a table of records. Assumes nothing.
-use mathlib.Core.List.{List}
+use Rattle.basics.specs.Words.{List}
 use Rattle.geometry.specs.declared.Position.{Position}
 use Rattle.slots.specs.declared.Handle.{Handle}
 use Rattle.replies.specs.declared.Reply.{Reply}

@@ -1,9 +1,7 @@
 -- `record_get::get_for` meets its contract. Assumes nothing.
-use mathlib.Core.Path.{_∙_}
+use Rattle.basics.specs.Words.{_∙_, length, needs}
 use lib.Ieee.{ofBits}
-use lib.ListN.{length}
 use Rattle.records.proofs.laws.SeenLaws.{rows-same, rows-other}
-use borrow.Author.Needs.{needs}
 use Rattle.record_get.proofs.get_for.Statement.{statement}
 use Rattle.record_get.proofs.get_for.Tie as tie
 

@@ -1,8 +1,6 @@
 -- `record_get::len_for` meets its contract. Assumes nothing.
-use mathlib.Core.Path.{_∙_}
-use lib.ListN.{length}
+use Rattle.basics.specs.Words.{_∙_, length, needs}
 use Rattle.records.proofs.laws.SeenLaws.{rows-same, rows-other}
-use borrow.Author.Needs.{needs}
 use Rattle.record_get.proofs.len_for.Statement.{statement}
 use Rattle.record_get.proofs.len_for.Tie as tie
 

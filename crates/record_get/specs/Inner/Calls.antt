@@ -1,6 +1,6 @@
 -- `get` and `len` on columns of n rows, and on a table of records. Assumes nothing.
 -- Here: what only inner contracts cite.
-use Prim.Native.Nat.{ℕ}
+use Rattle.basics.specs.Words.{ℕ}
 use Rattle.slots.specs.declared.Handle.{Handle}
 use Rattle.replies.specs.declared.Count.{Count}
 use Rattle.replies.specs.Meaning.Replies.{count}

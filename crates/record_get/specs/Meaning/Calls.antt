@@ -1,5 +1,5 @@
 -- `get` and `len` on columns of n rows, and on a table of records. Assumes nothing.
-use mathlib.Core.List.{List}
+use Rattle.basics.specs.Words.{List}
 use Rattle.slots.specs.declared.Handle.{Handle}
 use Rattle.replies.specs.declared.Count.{Count}
 use Rattle.replies.specs.Meaning.Replies.{count}

@@ -1,17 +1,13 @@
 -- One call on records that are the grid of some tables, beside the same call on these tables: the same answer, and the records after it are
 -- the grid of the tables after it. Assumes nothing.
-use Prim.Native.Nat.{ℕ}
-use mathlib.Core.Path.{_≡_, refl, sym, ap, subst, _∙_}
-use mathlib.Core.List.{List, [], _∷_}
-use lib.ListN.{length}
+use Rattle.basics.specs.Words.{_≡_, refl, sym, ap, subst, _∙_, List, [], _∷_, length}
 use Rattle.point_records.specs.declared.Record.{Record}
 use Rattle.point_records.specs.Meaning.Columns.{numsOf, realsOf, intsOf}
 use Rattle.point_tables.specs.Meaning.Tables.{Tables, slotsOf}
 use Rattle.point_tables.specs.Meaning.Holds.{Holds}
 use Rattle.point_tables.specs.Meaning.Outcome.{Outcome, outcome}
 use Rattle.records.specs.Meaning.Spread.{laid, besides, recordsIn}
-use Rattle.records.specs.Meaning.Seen.{fitted, onRecords, sized, readRecords}
-use Rattle.records.specs.Inner.Alike.{Alike}
+use Rattle.records.specs.Meaning.Seen.{fitted, onRecords, readRecords}
 use Rattle.records.proofs.laws.Alike.{Respects, Reads}
 use Rattle.records.proofs.laws.SpreadLaws.{laid-length, gathered-length}
 use Rattle.records.proofs.laws.SeenLaws.{rows-same}

@@ -1,9 +1,6 @@
 -- Demand 3 on a table of records: after deferred calls and maintain a circle reports what it reports on columns, so exactly the points that
 -- are due, each once. Assumes nothing.
-use Prim.Native.Nat.{ℕ}
-use mathlib.Core.Path.{_≡_, refl, sym, ap, subst, _∙_}
-use mathlib.Core.List.{List, [], _∷_}
-use lib.Dec.{eqb}
+use Rattle.basics.specs.Words.{ℕ, _≡_, refl, sym, ap, subst, _∙_, List, [], _∷_, eqb}
 use lib.Ieee.{Float}
 use Rattle.geometry.specs.declared.Position.{Position}
 use Rattle.slots.specs.declared.Handle.{Handle}

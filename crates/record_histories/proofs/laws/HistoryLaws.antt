@@ -1,9 +1,5 @@
 -- A history on records is a history on columns: the same answers, and at the end the records are the grid of the columns. Assumes nothing.
-use Prim.Native.Nat.{ℕ}
-use mathlib.Core.Path.{_≡_, refl, sym, ap, _∙_}
-use mathlib.Core.List.{List, [], _∷_}
-use lib.Dec.{eqb}
-use lib.ListN.{length, length-set}
+use Rattle.basics.specs.Words.{ℕ, _≡_, refl, sym, ap, _∙_, List, [], _∷_, length, length-set, eqb}
 use Rattle.geometry.specs.declared.Position.{Position}
 use Rattle.slots.specs.declared.Handle.{Handle}
 use Rattle.storage.proofs.laws.FilterLaws.{by-test}

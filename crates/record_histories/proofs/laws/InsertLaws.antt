@@ -1,9 +1,5 @@
 -- `insert` on columns with the same records: the same slot, and the same records after. Assumes nothing.
-use Prim.Native.Nat.{ℕ}
-use mathlib.Core.Path.{_≡_, refl, ap, subst}
-use mathlib.Core.List.{List, map}
-use lib.Dec.{eqb}
-use lib.ListN.{length, set}
+use Rattle.basics.specs.Words.{ℕ, _≡_, refl, ap, subst, map, length, set, eqb}
 use Rattle.geometry.specs.declared.Position.{Position}
 use Rattle.cells.specs.Meaning.CellRule.{cellAt}
 use Rattle.slots.specs.declared.Usable.{Usable}

@@ -1,12 +1,5 @@
 -- `maintain` on columns with the same records: the same counts, lists and marks, and the same records after. Assumes nothing.
-use Prim.Native.Nat.{ℕ, zero, suc, _+_, _≤_, _<_}
-use mathlib.Core.Path.{_≡_, refl, sym, ap, ap₂, subst, _∙_}
-use mathlib.Core.Bool.{Bool}
-use mathlib.Core.List.{List, [], _++_}
-use mathlib.Core.Logic.{inl, inr}
-use native.Mathlib.Omega.{arith}
-use lib.Dec.{eqb}
-use lib.Seq.{set-out}
+use Rattle.basics.specs.Words.{ℕ, zero, suc, _+_, _≤_, _<_, _≡_, refl, sym, ap, ap₂, subst, _∙_, Bool, List, [], _++_, inl, inr, set-out, eqb, arith}
 use Rattle.basics.specs.Meaning.Refusals.{orElse, pick}
 use Rattle.basics.specs.Meaning.Says.{Decided}
 use Rattle.basics.proofs.laws.Says.{d-eq, d-lt}
@@ -28,7 +21,8 @@ use Rattle.point_maintain.specs.Inner.Settle.{settledIn, settledAll}
 use Rattle.point_maintain.specs.Inner.Closed.{joined, keptUnder, keptEntries, relocatedBy, relocatedBelow, relisted, settledEntries, settledTables}
 use Rattle.point_maintain.specs.Inner.Settle.{Shaped}
 use Rattle.point_maintain.proofs.laws.SettleForm.{rowsAt, rowsAfter, backBy, comesBack, settledRecord, settled-form}
-use Rattle.point_maintain.proofs.laws.SettleLaws.{sized-shaped, settled-slots, settled-reals, settled-ints, settled-pool, settled-spots, settled-cells, settled-other, settled-same}
+use Rattle.point_maintain.proofs.laws.SettleLaws.{sized-shaped, settled-slots, settled-reals, settled-ints, settled-pool, settled-spots, settled-cells}
+use Rattle.point_maintain.proofs.laws.SettleLaws.{settled-other, settled-same}
 use Rattle.point_maintain.proofs.laws.SettleAllLaws.{in-shaped}
 use Rattle.point_maintain.proofs.laws.SettledForm.{maintained-is}
 use Rattle.records.specs.Inner.Alike.{Alike, withColumns}

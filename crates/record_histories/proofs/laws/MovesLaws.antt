@@ -1,8 +1,5 @@
 -- `set_position` and `remove` on columns with the same records: the same answer, and the same records after. Assumes nothing.
-use Prim.Native.Nat.{ℕ}
-use mathlib.Core.Path.{_≡_, refl, ap, subst}
-use mathlib.Core.Bool.{Bool}
-use lib.Dec.{eqb}
+use Rattle.basics.specs.Words.{ℕ, _≡_, refl, ap, subst, eqb}
 use Rattle.geometry.specs.declared.Position.{Position}
 use Rattle.cells.specs.Meaning.Key.{keyOf}
 use Rattle.slots.specs.declared.Handle.{Handle}
@@ -14,7 +11,7 @@ use Rattle.point_records.specs.declared.Record.{Record}
 use Rattle.point_records.specs.Meaning.States.{aimed, withState}
 use Rattle.point_tables.specs.Meaning.Tables.{Tables, sizeOf, recordOn, cellRows}
 use Rattle.point_tables.specs.Meaning.Holds.{Holds}
-use Rattle.point_tables.specs.Meaning.Outcome.{outcome, stored}
+use Rattle.point_tables.specs.Meaning.Outcome.{stored}
 use Rattle.replies.specs.Meaning.Replies.{reply}
 use Rattle.point_deferred.specs.Meaning.Moves.{pended, setPositionAnswer, setPositionOf, removeAnswer, removeOf}
 use Rattle.records.specs.Inner.Alike.{Alike, withColumns}

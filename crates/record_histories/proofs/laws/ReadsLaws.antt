@@ -1,12 +1,6 @@
 -- `get`, `len` and `query_around` on columns with the same records answer the same. Assumes nothing.
-use Prim.Native.Nat.{ℕ, suc}
-use native.Mathlib.Omega.{arith}
-use native.Mathlib.Nat.{suc-inj}
-use mathlib.Core.Path.{_≡_, refl, ap, _∙_}
-use mathlib.Core.List.{List, [], _∷_, map}
-use lib.Dec.{eqb}
+use Rattle.basics.specs.Words.{ℕ, suc, _≡_, refl, ap, _∙_, List, [], _∷_, map, length, getD, eqb, suc-inj, arith}
 use lib.Ieee.{Float}
-use lib.ListN.{length, getD}
 use Rattle.basics.specs.Meaning.Refusals.{pick}
 use Rattle.geometry.specs.declared.Position.{Position}
 use Rattle.slots.specs.declared.Handle.{Handle}

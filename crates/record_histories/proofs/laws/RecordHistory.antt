@@ -1,7 +1,7 @@
 -- A history: calls one after the other, on the tables of a point grid, and on a table of records beside tables whose columns are scratch.
 -- Assumes nothing.
 -- Here: the laws.
-use mathlib.Core.List.{List, [], _∷_}
+use Rattle.basics.specs.Words.{List, [], _∷_}
 use Rattle.point_tables.specs.Meaning.Tables.{Tables}
 use Rattle.record_histories.specs.Inner.RecordHistory.{RecordCall, Given, onColumns}
 

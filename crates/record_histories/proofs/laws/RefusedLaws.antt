@@ -1,15 +1,9 @@
 -- Bad input: a record table of another length, and records that are no grid (a target that disagrees with the cell rule, a NaN, a version 0),
 -- get 3, and the records are as they were; the columns have them. Assumes nothing.
-use Prim.Native.Nat.{ℕ}
-use mathlib.Core.Path.{_≡_, refl, sym, ap, _∙_}
-use mathlib.Core.Bool.{Bool, true, false}
-use mathlib.Core.List.{List}
-use mathlib.Core.Logic.{⊎-elim}
-use lib.ListN.{length}
+use Rattle.basics.specs.Words.{ℕ, _≡_, refl, sym, ap, _∙_, false, List, ⊎-elim, length}
 use Rattle.basics.proofs.laws.Says.{d-eq}
 use Rattle.geometry.specs.declared.Position.{Position}
 use Rattle.slots.specs.declared.Handle.{Handle}
-use Rattle.replies.specs.declared.Reply.{Reply}
 use Rattle.replies.specs.Meaning.Replies.{reply, inserted}
 use Rattle.storage.proofs.laws.FilterLaws.{by-test}
 use Rattle.point_records.specs.declared.Record.{Record}

@@ -1,13 +1,10 @@
 -- Outcomes that say the same and leave tables that are alike. Assumes nothing.
-use mathlib.Core.Path.{_≡_, refl, ap, subst}
-use mathlib.Core.Bool.{Bool, true, false}
-use mathlib.Core.List.{List}
-use Prim.Native.Nat.{ℕ}
+use Rattle.basics.specs.Words.{ℕ, _≡_, refl, subst, Bool, true, false, List}
 use lib.Ieee.{Float}
 use Rattle.basics.specs.Meaning.Refusals.{pick}
 use Rattle.point_tables.specs.Meaning.Tables.{Tables, tables}
 use Rattle.point_tables.specs.Meaning.Holds.{Holds}
-use Rattle.point_tables.specs.Meaning.Outcome.{Outcome, outcome}
+use Rattle.point_tables.specs.Meaning.Outcome.{Outcome}
 use Rattle.records.specs.Inner.Alike.{Alike, withColumns}
 use Rattle.records.proofs.laws.Alike.{Respects, Reads}
 use Rattle.records.proofs.laws.AlikeLaws.{by-columns}

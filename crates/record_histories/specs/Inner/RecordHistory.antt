@@ -1,11 +1,8 @@
 -- A history: calls one after the other, on the tables of a point grid, and on a table of records beside tables whose columns are scratch.
 -- Assumes nothing.
 -- Here: what only inner contracts cite.
-use Prim.Native.Nat.{ℕ}
-use mathlib.Core.Path.{_≡_}
-use mathlib.Core.List.{List, [], _∷_}
+use Rattle.basics.specs.Words.{ℕ, _≡_, List, [], _∷_, length}
 use lib.Ieee.{Float}
-use lib.ListN.{length}
 use Rattle.geometry.specs.declared.Position.{Position}
 use Rattle.slots.specs.declared.Handle.{Handle}
 use Rattle.replies.specs.declared.Reply.{Reply}

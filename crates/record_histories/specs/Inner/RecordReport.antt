@@ -1,7 +1,5 @@
 -- What a circle reports on a table of records after deferred calls and maintain. Assumes nothing.
-use Prim.Native.Nat.{ℕ}
-use mathlib.Core.List.{List, [], _∷_, _++_, map}
-use lib.Dec.{eqb}
+use Rattle.basics.specs.Words.{ℕ, List, [], _∷_, _++_, map, eqb}
 use lib.Ieee.{Float}
 use Rattle.basics.specs.Meaning.Refusals.{pick}
 use Rattle.geometry.specs.declared.Position.{Position}

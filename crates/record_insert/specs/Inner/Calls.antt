@@ -1,6 +1,6 @@
 -- `insert` on columns of n rows, and on a table of records. Assumes nothing.
 -- Here: what only inner contracts cite.
-use Prim.Native.Nat.{ℕ}
+use Rattle.basics.specs.Words.{ℕ}
 use Rattle.geometry.specs.declared.Position.{Position}
 use Rattle.replies.specs.declared.Inserted.{Inserted}
 use Rattle.replies.specs.Meaning.Replies.{inserted}

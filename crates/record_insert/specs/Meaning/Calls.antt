@@ -1,6 +1,5 @@
 -- `insert` on columns of n rows, and on a table of records. Assumes nothing.
-use Prim.Native.Nat.{ℕ}
-use mathlib.Core.List.{List}
+use Rattle.basics.specs.Words.{ℕ, List}
 use Rattle.geometry.specs.declared.Position.{Position}
 use Rattle.replies.specs.declared.Inserted.{Inserted}
 use Rattle.replies.specs.Meaning.Replies.{inserted}

@@ -1,6 +1,6 @@
 -- `maintain` on columns of n rows, and on a table of records. Assumes nothing.
 -- Here: what only inner contracts cite.
-use Prim.Native.Nat.{ℕ}
+use Rattle.basics.specs.Words.{ℕ}
 use Rattle.point_tables.specs.Meaning.Tables.{Tables}
 use Rattle.point_tables.specs.Meaning.Outcome.{Outcome}
 use Rattle.point_maintain.specs.declared.Maintained.{Maintained}

@@ -1,5 +1,5 @@
 -- `maintain` on columns of n rows, and on a table of records. Assumes nothing.
-use mathlib.Core.List.{List}
+use Rattle.basics.specs.Words.{List}
 use Rattle.point_records.specs.declared.Record.{Record}
 use Rattle.point_tables.specs.Meaning.Tables.{Tables}
 use Rattle.point_maintain.specs.declared.Maintained.{Maintained}

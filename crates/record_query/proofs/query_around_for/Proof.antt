@@ -1,8 +1,6 @@
 -- `record_query::query_around_for` meets its contract. Assumes nothing.
-use mathlib.Core.Path.{_∙_}
-use lib.ListN.{length}
+use Rattle.basics.specs.Words.{_∙_, length, needs}
 use Rattle.records.proofs.laws.SeenLaws.{rows-same, rows-other}
-use borrow.Author.Needs.{needs}
 use Rattle.record_query.proofs.query_around_for.Statement.{statement}
 use Rattle.record_query.proofs.query_around_for.Tie as tie
 

@@ -1,7 +1,6 @@
 -- `query_around` on columns of n rows, and on a table of records. Assumes nothing.
 -- Here: what only inner contracts cite.
-use Prim.Native.Nat.{ℕ}
-use mathlib.Core.List.{List}
+use Rattle.basics.specs.Words.{ℕ, List}
 use lib.Ieee.{Float}
 use Rattle.geometry.specs.declared.Position.{Position}
 use Rattle.replies.specs.Meaning.Replies.{count}

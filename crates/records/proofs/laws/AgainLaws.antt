@@ -1,10 +1,5 @@
 -- Tables that hold a grid, gathered and spread again: every slot has the same record, and they hold the same grid. Assumes nothing.
-use Prim.Native.Nat.{ℕ, zero, suc, _≤_, zero-le}
-use native.Mathlib.Nat.{not-suc-le-zero, suc-inj}
-use native.Mathlib.Omega.{arith}
-use mathlib.Core.Path.{_≡_, refl, sym, subst, _∙_}
-use mathlib.Core.List.{List, [], _∷_}
-use lib.ListN.{length}
+use Rattle.basics.specs.Words.{ℕ, zero, suc, _≤_, zero-le, _≡_, refl, sym, subst, _∙_, List, [], _∷_, length, not-suc-le-zero, suc-inj, arith}
 use Rattle.point_records.specs.declared.State.{State}
 use Rattle.point_records.specs.declared.State.the-variants.{Unchanged, NewPos, Relocate, Removed}
 use Rattle.point_records.specs.declared.Record.{Record}

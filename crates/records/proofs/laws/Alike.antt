@@ -1,9 +1,6 @@
 -- Columns with the same records: what the unused places of a row hold does not matter. Assumes nothing.
 -- Here: the laws.
-use Prim.Native.Nat.{ℕ, _≤_}
-use mathlib.Core.Path.{_≡_}
-use mathlib.Core.List.{List, []}
-use lib.ListN.{getD}
+use Rattle.basics.specs.Words.{ℕ, _≤_, _≡_, List}
 use Rattle.point_tables.specs.Meaning.Tables.{Tables}
 use Rattle.point_tables.specs.Meaning.Holds.{Holds}
 use Rattle.point_tables.specs.Meaning.Outcome.{Outcome}

@@ -1,7 +1,5 @@
 -- Columns with the same records hold the same grid. Assumes nothing.
-use Prim.Native.Nat.{ℕ, _+_, _*_, _≤_, _<_}
-use mathlib.Core.Path.{_≡_, refl, sym, ap, subst, _∙_}
-use lib.ListN.{length, getD}
+use Rattle.basics.specs.Words.{ℕ, _+_, _*_, _≤_, _<_, _≡_, refl, sym, ap, subst, _∙_, getD}
 use Rattle.cells.specs.Meaning.Key.{keyOf}
 use Rattle.slots.specs.Meaning.Map.{head, wordsFor, usable}
 use Rattle.slots.specs.Meaning.Slot.{phaseAt, good, SlotHolds}
@@ -9,8 +7,8 @@ use Rattle.storage.specs.Meaning.Packed.{second}
 use Rattle.point_records.specs.declared.Record.{Record}
 use Rattle.point_records.specs.Meaning.Columns.{tagOf}
 use Rattle.point_records.specs.Meaning.Occupied.{Occupied}
-use Rattle.point_tables.specs.Meaning.Tables.{Tables, sizeOf, slotsOf, recordOn}
-use Rattle.point_tables.specs.Meaning.Holds.{Holds, RecordHolds, EntryHolds, Pending}
+use Rattle.point_tables.specs.Meaning.Tables.{Tables, sizeOf, slotsOf}
+use Rattle.point_tables.specs.Meaning.Holds.{Holds, EntryHolds, Pending}
 use Rattle.point_tables.specs.Meaning.Decide.{holds, holds-says}
 use Rattle.records.specs.Inner.Alike.{Alike, withColumns}
 use Rattle.records.proofs.laws.Alike.{Tagged}

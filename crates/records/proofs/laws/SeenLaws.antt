@@ -1,9 +1,5 @@
 -- What is said of columns of n rows, where they have m. Assumes nothing.
-use Prim.Native.Nat.{ℕ}
-use mathlib.Core.Path.{_≡_, sym, ap}
-use mathlib.Core.Bool.{Bool}
-use lib.Dec.{eqb}
-use borrow.Author.Tests.{eq-eqb, ne-eqb}
+use Rattle.basics.specs.Words.{ℕ, _≡_, sym, ap, Bool, eqb, eq-eqb, ne-eqb}
 use Rattle.basics.specs.Meaning.Refusals.{pick}
 
 module _ {X : Type 0} (n m : ℕ) (x refused : X) where

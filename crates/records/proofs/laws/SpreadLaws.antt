@@ -1,11 +1,6 @@
 -- Gathered after spread: the records again. Spread after gathered: columns with the same records. Assumes nothing.
-use Prim.Native.Nat.{ℕ, zero, suc, _≤_, zero-le}
-use native.Mathlib.Nat.{not-suc-le-zero, suc-inj}
-use mathlib.Core.Path.{_≡_, refl, sym, ap, subst, _∙_}
-use mathlib.Core.List.{List, [], _∷_}
-use lib.IntN.{ℤ}
+use Rattle.basics.specs.Words.{ℕ, zero, suc, _≤_, zero-le, _≡_, refl, sym, ap, subst, List, [], _∷_, length, ℤ, not-suc-le-zero, suc-inj}
 use lib.Ieee.{Float}
-use lib.ListN.{length, getD}
 use Rattle.point_records.specs.declared.Record.{Record}
 use Rattle.point_records.specs.Meaning.Columns.{recordAt, recordOf, numsOf, realsOf, intsOf}
 use Rattle.point_records.proofs.laws.ColumnLaws.{record-back}

@@ -1,10 +1,6 @@
 -- The same record stored in the same slot of columns that are alike leaves columns that are alike. Assumes nothing.
-use Prim.Native.Nat.{ℕ, zero, suc, _≤_, zero-le}
-use native.Mathlib.Nat.{not-suc-le-zero, suc-inj}
-use mathlib.Core.Path.{_≡_, refl, sym, subst, _∙_}
-use mathlib.Core.Logic.{inl, inr}
-use mathlib.Core.List.{List, [], _∷_}
-use lib.ListN.{length, getD, set, length-set}
+use Rattle.basics.specs.Words.{ℕ, zero, suc, _≤_, zero-le, _≡_, refl, sym, subst, _∙_, List, [], _∷_, inl, inr, length, getD, set, length-set, not-suc-le-zero}
+use Rattle.basics.specs.Words.{suc-inj}
 use Rattle.basics.specs.Meaning.Says.{Decided}
 use Rattle.basics.proofs.laws.Says.{d-eq}
 use Rattle.point_records.specs.declared.Record.{Record}

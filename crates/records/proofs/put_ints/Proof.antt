@@ -1,15 +1,9 @@
 -- `records::put_ints` meets its contract. Assumes nothing.
-use lib.IntN.{ℤ}
+use Rattle.basics.specs.Words.{ℕ, _≡_, sym, List, [], _∷_, set, set-out, ℤ, needs}
 use Rattle.cells.specs.declared.Cell.{Cell}
 use Rattle.point_records.specs.declared.Record.{Record}
 use Rattle.point_records.specs.Meaning.Columns.{targetOf, intsOf}
 use Rattle.point_records.proofs.Shared.{back}
-use mathlib.Core.Path.{_≡_, sym}
-use mathlib.Core.List.{List, [], _∷_}
-use Prim.Native.Nat.{ℕ}
-use lib.ListN.{set}
-use lib.Seq.{set-out}
-use borrow.Author.Needs.{needs}
 use Rattle.records.proofs.put_ints.Statement.{statement}
 use Rattle.records.proofs.put_ints.Tie as tie
 

@@ -1,10 +1,5 @@
 -- `records::put_nums` meets its contract. Assumes nothing.
-use mathlib.Core.Path.{sym, ap}
-use mathlib.Core.List.{[], _∷_}
-use Prim.Native.Nat.{ℕ}
-use lib.ListN.{set}
-use lib.Seq.{set-out}
-use borrow.Author.Needs.{needs}
+use Rattle.basics.specs.Words.{ℕ, sym, ap, [], _∷_, set, set-out, needs}
 use Rattle.records.proofs.put_nums.Statement.{statement}
 use Rattle.records.proofs.put_nums.Tie as tie
 

@@ -1,10 +1,6 @@
 -- `records::put_reals` meets its contract. Assumes nothing.
 use Rattle.geometry.specs.declared.Position.{Position}
-use mathlib.Core.Path.{sym, ap}
-use mathlib.Core.List.{[], _∷_}
-use lib.ListN.{set}
-use lib.Seq.{set-out}
-use borrow.Author.Needs.{needs}
+use Rattle.basics.specs.Words.{sym, ap, [], _∷_, set, set-out, needs}
 use Rattle.records.proofs.put_reals.Statement.{statement}
 use Rattle.records.proofs.put_reals.Tie as tie
 

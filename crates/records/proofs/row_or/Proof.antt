@@ -1,7 +1,6 @@
 -- `records::row_or` meets its contract. Assumes nothing.
-use mathlib.Core.Path.{_∙_}
+use Rattle.basics.specs.Words.{_∙_, needs}
 use Rattle.records.proofs.LoopLaws.{row-there, row-none-n, row-none-q, row-none-z}
-use borrow.Author.Needs.{needs}
 use Rattle.records.proofs.row_or.Statement.{statement}
 use Rattle.records.proofs.row_or.Tie as tie
 

@@ -1,8 +1,6 @@
 -- Columns with the same records: what the unused places of a row hold does not matter. Assumes nothing.
 -- Here: what only inner contracts cite.
-use Prim.Native.Nat.{ℕ}
-use mathlib.Core.Path.{_≡_}
-use lib.ListN.{length}
+use Rattle.basics.specs.Words.{ℕ, _≡_, length}
 use Rattle.point_tables.specs.Meaning.Tables.{Tables, tables, slotsOf, recordOn}
 
 -- the tables t with the columns of u

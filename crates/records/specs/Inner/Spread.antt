@@ -1,11 +1,7 @@
 -- The records laid into columns, and gathered out of them. Both are total: what has no place on the other side stays. Assumes nothing.
 -- Here: what only inner contracts cite.
-use Prim.Native.Nat.{ℕ}
-use mathlib.Core.List.{List}
-use lib.IntN.{ℤ, pos}
+use Rattle.basics.specs.Words.{ℕ, List, length, ltb, ℤ, pos}
 use lib.Ieee.{Float, nan}
-use lib.Dec.{ltb}
-use lib.ListN.{length}
 use Rattle.basics.specs.Meaning.Refusals.{pick}
 use Rattle.point_records.specs.declared.State.the-variants.{Unchanged}
 use Rattle.point_records.specs.declared.Record.{Record}

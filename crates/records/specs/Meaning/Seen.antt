@@ -1,11 +1,6 @@
 -- What is seen of a call on a table of records: the records spread, the core's outcome, the records gathered again. Assumes nothing.
-use Prim.Native.Nat.{ℕ}
-use mathlib.Core.Path.{_≡_}
-use mathlib.Core.List.{List}
-use lib.IntN.{ℤ}
+use Rattle.basics.specs.Words.{ℕ, _≡_, List, length, eqb, ℤ}
 use lib.Ieee.{Float}
-use lib.Dec.{eqb}
-use lib.ListN.{length}
 use Rattle.basics.specs.Meaning.Lent.{Lent, was, is}
 use Rattle.basics.specs.Meaning.Refusals.{pick}
 use Rattle.point_records.specs.declared.Record.{Record}

@@ -1,7 +1,5 @@
 -- The records laid into columns, and gathered out of them. Both are total: what has no place on the other side stays. Assumes nothing.
-use Prim.Native.Nat.{ℕ}
-use mathlib.Core.List.{List, [], _∷_}
-use lib.IntN.{ℤ}
+use Rattle.basics.specs.Words.{ℕ, List, [], _∷_, ℤ}
 use lib.Ieee.{Float}
 use Rattle.point_records.specs.declared.Record.{Record}
 use Rattle.point_records.specs.Meaning.Columns.{recordOf, numsOf, realsOf, intsOf}

@@ -1,5 +1,5 @@
 -- What calls return, made of its numbers. Assumes nothing.
-use Prim.Native.Nat.{ℕ}
+use Rattle.basics.specs.Words.{ℕ}
 use Rattle.replies.specs.declared.Reply.{Reply}
 use Rattle.replies.specs.declared.Count.{Count}
 use Rattle.replies.specs.declared.Inserted.{Inserted}

@@ -1,11 +1,5 @@
 -- `slot_walks::count_live` meets its contract: the live slots among those passed are counted. Assumes nothing.
-use Prim.Native.Nat.{_≤_, _-_, _+_}
-use mathlib.Core.Path.{_≡_, refl, sym, ap, _∙_}
-use mathlib.Core.Logic.{⊎-elim}
-use native.Mathlib.Omega.{arith}
-use lib.ListN.{length}
-use lib.Seq.{take-all}
-use borrow.Author.Needs.{needs}
+use Rattle.basics.specs.Words.{_≤_, _-_, _+_, _≡_, refl, sym, ap, _∙_, ⊎-elim, length, take-all, arith, needs}
 use Rattle.slot_walks.specs.Meaning.Live.{liveFrom}
 use Rattle.slot_walks.proofs.laws.LiveLaws.{liveTo, live-most, live-within}
 use Rattle.slot_walks.proofs.laws.FillLaws.{one-more, as-many}

@@ -1,10 +1,5 @@
 -- `slot_walks::empty_slots` meets its contract: the slots passed are cleared, and the map has their bits. Assumes nothing.
-use Prim.Native.Nat.{_≤_, _<_, _-_}
-use mathlib.Core.Path.{_≡_, refl, sym, ap, _∙_}
-use mathlib.Core.Logic.{⊎-elim}
-use native.Mathlib.Omega.{arith}
-use lib.ListN.{length, take}
-use borrow.Author.Needs.{needs}
+use Rattle.basics.specs.Words.{_≤_, _<_, _-_, _≡_, refl, sym, ap, _∙_, ⊎-elim, length, take, arith, needs}
 use Rattle.slot_walks.proofs.laws.ClearedLaws.{numsTo, mapTo, nums-length, nums-whole, map-whole, cleared-map-length, empty-asks, turn-live, turn-idle}
 use Rattle.slot_walks.proofs.empty_slots.Statement.{statement}
 use Rattle.slot_walks.proofs.empty_slots.Tie as tie

@@ -1,15 +1,7 @@
 -- Clearing slot by slot: the rows of which the first are cleared, and the map with their bits; and each slot after it. Assumes nothing.
-use Prim.Native.Nat.{ℕ, zero, suc, _+_, _/_, _<_, _≤_}
-use mathlib.Core.Path.{_≡_, refl, sym, ap, _∙_, subst}
-use mathlib.Core.Bool.{Bool, true, false}
-use mathlib.Core.List.{List, [], _∷_, _++_, map, map-append, append-nil, append-assoc}
-use native.Mathlib.Omega.{arith}
-use native.Mathlib.Numerals.{add-one}
-use lib.Dec.{eqb}
-use mathlib.Core.Logic.{⊎-elim}
-use lib.ListN.{length, getD, take, drop, length-append, length-map, List·getD-map, take-append-drop}
-use lib.Seq.{take-suc, take-length, drop-length, drop-cons, length-take-le, getD-at, set-at}
-use borrow.Author.Tests.{eqb-true, eq-eqb, ne-eqb}
+use Rattle.basics.specs.Words.{ℕ, zero, suc, _+_, _/_, _<_, _≤_, _≡_, refl, sym, ap, _∙_, subst, Bool, true, false, List, [], _∷_, _++_, map, map-append}
+use Rattle.basics.specs.Words.{append-nil, append-assoc, ⊎-elim, length, getD, take, drop, length-append, length-map, List·getD-map, take-append-drop, take-suc}
+use Rattle.basics.specs.Words.{take-length, drop-length, drop-cons, length-take-le, getD-at, set-at, eqb, add-one, arith, eqb-true, eq-eqb, ne-eqb}
 use Rattle.basics.specs.Meaning.Refusals.{pick}
 use Rattle.basics.proofs.laws.Says.{d-eq}
 use Rattle.slots.specs.Meaning.Map.{head, wordsFor, givenBack}

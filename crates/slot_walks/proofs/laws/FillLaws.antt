@@ -1,10 +1,6 @@
 -- Outputs that have a row for each live slot: a slot more is written out. Assumes nothing.
-use Prim.Native.Nat.{ℕ, _+_, _<_, _≤_}
-use mathlib.Core.Path.{_≡_, sym, ap, _∙_}
-use mathlib.Core.Bool.{true, false}
-use mathlib.Core.List.{List, [], _∷_, map, map-append}
-use native.Mathlib.Omega.{arith}
-use lib.ListN.{length, getD, set, length-map, length-append}
+use Rattle.basics.specs.Words.{ℕ, _+_, _<_, _≤_, _≡_, sym, ap, _∙_, true, false, List, [], _∷_, map, map-append, length, getD, set, length-map, length-append}
+use Rattle.basics.specs.Words.{arith}
 use Rattle.storage.specs.Meaning.Keyed.{written}
 use Rattle.storage.proofs.laws.WrittenLaws.{length-written, written-next}
 use Rattle.slot_walks.specs.Meaning.Live.{rowLive, liveFrom}

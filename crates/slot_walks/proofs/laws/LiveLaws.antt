@@ -1,12 +1,6 @@
 -- The live slots, slot by slot; they are as many as the slots that pass the test. Assumes nothing.
-use Prim.Native.Nat.{ℕ, zero, suc, _+_, _<_, _≤_}
-use mathlib.Core.Path.{_≡_, refl, sym, ap, _∙_}
-use mathlib.Core.Bool.{Bool, true, false}
-use mathlib.Core.List.{List, [], _∷_, _++_, append-nil}
-use native.Mathlib.Omega.{arith}
-use native.Mathlib.Numerals.{add-one}
-use lib.ListN.{length, getD, take, drop, length-append, take-append-drop}
-use lib.Seq.{take-suc, take-all, length-take-le}
+use Rattle.basics.specs.Words.{ℕ, zero, suc, _+_, _<_, _≤_, _≡_, refl, sym, ap, _∙_, Bool, true, false, List, [], _∷_, _++_, append-nil, length, getD, take}
+use Rattle.basics.specs.Words.{drop, length-append, take-append-drop, take-suc, take-all, length-take-le, add-one, arith}
 use Rattle.basics.specs.Meaning.Refusals.{pick}
 use Rattle.basics.specs.Inner.Counting.{one, countBelow}
 use Rattle.slot_walks.specs.Meaning.Live.{rowLive, liveFrom}

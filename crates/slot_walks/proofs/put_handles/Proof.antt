@@ -1,12 +1,5 @@
 -- `slot_walks::put_handles` meets its contract: the handles of the slots passed stand in the first places. Assumes nothing.
-use Prim.Native.Nat.{_≤_, _<_, _-_, _+_}
-use mathlib.Core.Path.{_≡_, refl, sym, ap, _∙_}
-use mathlib.Core.Logic.{⊎-elim}
-use native.Mathlib.Omega.{arith}
-use mathlib.Core.List.{[], map}
-use lib.ListN.{length, set}
-use lib.Seq.{take-all}
-use borrow.Author.Needs.{needs}
+use Rattle.basics.specs.Words.{_≤_, _<_, _-_, _+_, _≡_, refl, sym, ap, _∙_, [], map, ⊎-elim, length, set, take-all, arith, needs}
 use Rattle.storage.specs.Meaning.Keyed.{written}
 use Rattle.slot_walks.specs.Meaning.Live.{liveFrom, handleAt}
 use Rattle.slot_walks.proofs.laws.LiveLaws.{liveTo, live-most, live-within}

@@ -1,8 +1,5 @@
 -- Every live slot is emptied: versions rise as with any emptying, and a slot at its last version is retired. Assumes nothing.
-use Prim.Native.Nat.{ℕ, suc}
-use mathlib.Core.List.{List, [], _∷_, map}
-use lib.Dec.{eqb}
-use lib.ListN.{getD}
+use Rattle.basics.specs.Words.{ℕ, suc, List, [], _∷_, map, getD, eqb}
 use Rattle.basics.specs.Meaning.Refusals.{pick}
 use Rattle.slots.specs.Meaning.Map.{givenBack}
 use Rattle.slots.specs.Meaning.Slot.{live, lastVersion, emptiedRow}

@@ -1,9 +1,5 @@
 -- The live slots, ascending, and their handles. Assumes nothing.
-use Prim.Native.Nat.{ℕ, suc}
-use mathlib.Core.Bool.{Bool}
-use mathlib.Core.List.{List, [], _∷_, map}
-use lib.Dec.{eqb}
-use lib.ListN.{getD}
+use Rattle.basics.specs.Words.{ℕ, suc, Bool, List, [], _∷_, map, getD, eqb}
 use Rattle.basics.specs.Meaning.Refusals.{pick}
 use Rattle.slots.specs.Meaning.Slot.{live, versionAt}
 

@@ -1,11 +1,6 @@
 -- `slots::bit_of` meets its contract: a shift of 1 by less than 64 loses no bit. Assumes nothing.
-use Prim.Native.Nat.{_%_}
-use lib.Dec.{lit<}
+use Rattle.basics.specs.Words.{_%_, _∙_, lit<, one-mul, arith, needs}
 use lib.Pow.{shl-exact}
-use mathlib.Core.Path.{_∙_}
-use native.Mathlib.Omega.{arith}
-use native.Mathlib.Nat.{one-mul}
-use borrow.Author.Needs.{needs}
 use Rattle.slots.proofs.bit_of.Statement.{statement}
 use Rattle.slots.proofs.bit_of.Tie as tie
 

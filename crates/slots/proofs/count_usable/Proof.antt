@@ -1,9 +1,6 @@
 -- `slots::count_usable` meets its contract: the words before w are counted. The measure is what is left of the words. Assumes nothing.
-use Prim.Native.Nat.{suc, _+_, _-_, _*_, _≤_}
-use mathlib.Core.Path.{_≡_, refl, ap, _∙_}
-use native.Mathlib.Omega.{arith}
+use Rattle.basics.specs.Words.{suc, _+_, _-_, _*_, _≤_, _≡_, refl, ap, _∙_, getD, arith}
 use lib.Count.{ones-le}
-use lib.ListN.{getD}
 use Rattle.slots.specs.Meaning.Map.{head, wordsFor}
 use Rattle.slots.specs.Inner.Map.{usableBelow}
 use Rattle.slots.proofs.laws.CountLaws.{usable-most, word-more}

@@ -1,7 +1,5 @@
 -- `slots::emptied_row` meets its contract: a row has four numbers. Assumes nothing.
-use mathlib.Core.Path.{_≡_}
-use lib.ListN.{length}
-use borrow.Author.Needs.{needs}
+use Rattle.basics.specs.Words.{_≡_, length, needs}
 use Rattle.slots.proofs.Shared.{row-emptied}
 use Rattle.slots.proofs.emptied_row.Statement.{statement}
 use Rattle.slots.proofs.emptied_row.Tie as tie

@@ -1,9 +1,5 @@
 -- `slots::empty` meets its contract. Assumes nothing.
-use mathlib.Core.Path.{ap}
-use mathlib.Core.List.{List}
-use lib.ListN.{set}
-use Prim.Native.Nat.{ℕ}
-use borrow.Author.Needs.{needs}
+use Rattle.basics.specs.Words.{ℕ, ap, List, set, needs}
 use Rattle.slots.specs.Meaning.Slot.{emptiedNums, emptiedMap}
 use Rattle.slots.proofs.empty.Statement.{statement}
 use Rattle.slots.proofs.empty.Tie as tie

@@ -1,5 +1,5 @@
 -- `slots::give_back` meets its contract. Assumes nothing.
-use borrow.Author.Needs.{needs}
+use Rattle.basics.specs.Words.{needs}
 use Rattle.slots.proofs.give_back.Statement.{statement}
 use Rattle.slots.proofs.give_back.Tie as tie
 

@@ -1,5 +1,5 @@
 -- `slots::is_good` meets its contract, test by test. Assumes nothing.
-use borrow.Author.Needs.{needs}
+use Rattle.basics.specs.Words.{needs}
 use Rattle.slots.proofs.Shared.{past-table, not-live, by-version}
 use Rattle.slots.proofs.is_good.Statement.{statement}
 use Rattle.slots.proofs.is_good.Tie as tie

@@ -1,5 +1,5 @@
 -- `slots::is_usable` meets its contract. Assumes nothing.
-use borrow.Author.Needs.{needs}
+use Rattle.basics.specs.Words.{needs}
 use Rattle.basics.proofs.laws.Says.{says-no}
 use Rattle.slots.proofs.is_usable.Statement.{statement}
 use Rattle.slots.proofs.is_usable.Tie as tie

@@ -1,8 +1,7 @@
 -- Laws of the bits of a number: under `bitOr`, `bitAnd` and `bitXor`, of a power of two, and below the lowest bit that is set. Assumes nothing.
-use Prim.Native.Nat.{ℕ, zero, suc, _+_, _/_, _%_, _^_, _<_, min, max, zero-le, suc-le-suc}
-use mathlib.Core.Path.{_≡_, refl, _∙_, ap}
-use native.Mathlib.Omega.{arith}
-use native.Mathlib.Nat.{not-suc-le-zero, le-of-suc-le-suc, div-one, div-self, div-div-eq-div-mul, pow-succ', zero-div, zero-mod, mul-div-cancel-left, max-le, max-zero, min-zero, min-le-left}
+use Rattle.basics.specs.Words.{ℕ, zero, suc, _+_, _/_, _%_, _^_, _<_, min, max, zero-le, suc-le-suc, _≡_, refl, _∙_, ap, not-suc-le-zero, le-of-suc-le-suc}
+use Rattle.basics.specs.Words.{div-one, div-self, div-div-eq-div-mul, pow-succ', zero-div, zero-mod, mul-div-cancel-left, max-le, max-zero, min-zero}
+use Rattle.basics.specs.Words.{min-le-left, arith}
 use lib.Arith.{digits-mod}
 use lib.Pow.{pow-pos, shr-shr}
 use lib.Bits.{bitAnd, bitOr, bitXor, differ, and-step, or-step, xor-step, and-shr, or-shr, xor-shr}

@@ -1,16 +1,10 @@
 -- Counting: the ones of the map's words are as many as its usable slots, and those as many as the free rows. Assumes nothing.
-use Prim.Native.Nat.{ℕ, zero, suc, _+_, _-_, _*_, _%_, _^_, _≤_, _<_}
-use mathlib.Core.Path.{_≡_, refl, sym, ap, ap₂, _∙_, subst}
-use mathlib.Core.List.{List, []}
-use mathlib.Core.Logic.{⊎-elim}
-use native.Mathlib.Omega.{arith}
-use native.Mathlib.Nat.{le-refl, le-of-suc-le-suc, eq-or-lt-of-le, add-zero, add-suc, add-comm, mod-one, mod-lt, mod-eq-of-lt}
+use Rattle.basics.specs.Words.{ℕ, zero, suc, _+_, _-_, _*_, _%_, _^_, _≤_, _<_, _≡_, refl, sym, ap, ap₂, _∙_, subst, List, [], ⊎-elim, length, getD, set}
+use Rattle.basics.specs.Words.{getD-set-same, getD-set-other, eqb, le-refl, le-of-suc-le-suc, eq-or-lt-of-le, add-zero, add-suc, add-comm, mod-one, mod-lt}
+use Rattle.basics.specs.Words.{mod-eq-of-lt, arith}
 use lib.Arith.{digits-mod, digits-div}
 use lib.Count.{ones, ones-cat}
 use lib.Pow.{pow-pos, mod-pow-add}
-use lib.Dec.{eqb}
-use lib.ListN.{length, getD, set}
-use lib.Seq.{getD-set-same, getD-set-other}
 use Rattle.basics.specs.Meaning.Refusals.{pick}
 use Rattle.slots.specs.Meaning.Map.{head, wordsFor, bit, usable}
 use Rattle.slots.specs.Inner.Map.{usableBelow, NonePast}

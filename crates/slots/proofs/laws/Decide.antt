@@ -1,8 +1,5 @@
 -- Whether a slot, and the slots, hold can be decided. Assumes nothing.
-use Prim.Native.Nat.{ℕ, _*_}
-use mathlib.Core.List.{List}
-use lib.Dec.{eqb}
-use lib.ListN.{length}
+use Rattle.basics.specs.Words.{ℕ, _*_, List, length, eqb}
 use Rattle.basics.specs.Meaning.Says.{Decided}
 use Rattle.basics.proofs.laws.Says.{d-via, d-and, d-imp, d-none, d-eq, d-le, d-all}
 use Rattle.basics.specs.Meaning.Refusals.{pick}

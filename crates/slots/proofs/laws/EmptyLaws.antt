@@ -1,11 +1,5 @@
 -- What emptying a slot leaves as it was: lengths, the head words and every other row. Assumes nothing.
-use Prim.Native.Nat.{ℕ, _<_}
-use mathlib.Core.Path.{_≡_, refl}
-use mathlib.Core.Bool.{Bool, true, false}
-use mathlib.Core.List.{List, []}
-use lib.Dec.{eqb}
-use lib.ListN.{length, getD, length-set}
-use lib.Seq.{getD-set-same, getD-set-other}
+use Rattle.basics.specs.Words.{ℕ, _<_, _≡_, refl, Bool, true, false, List, [], length, getD, length-set, getD-set-same, getD-set-other, eqb}
 use Rattle.basics.specs.Meaning.Refusals.{pick}
 use Rattle.slots.specs.Meaning.Map.{head, givenBack}
 use Rattle.slots.specs.Meaning.Slot.{lastVersion, versionAt, emptiedRow, emptiedNums, emptiedMap}

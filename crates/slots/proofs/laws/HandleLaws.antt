@@ -1,13 +1,6 @@
 -- Handles: when one is good, and that none is good once its slot is emptied. Assumes nothing.
-use Prim.Native.Nat.{ℕ, _+_, _<_}
-use mathlib.Core.Path.{_≡_, refl}
-use mathlib.Core.Bool.{Bool, true, false, _&&_}
-use mathlib.Core.List.{List, []}
-use native.Mathlib.Omega.{arith}
-use lib.Dec.{eqb, ltb}
-use lib.ListN.{length, getD, set, length-set}
-use lib.Seq.{getD-set-same}
-use borrow.Author.Tests.{ltb-true, eqb-true, lt-ltb, eq-eqb}
+use Rattle.basics.specs.Words.{ℕ, _+_, _<_, _≡_, refl, Bool, true, false, _&&_, List, [], length, getD, set, length-set, getD-set-same, eqb, ltb, arith}
+use Rattle.basics.specs.Words.{ltb-true, eqb-true, lt-ltb, eq-eqb}
 use Rattle.basics.specs.Meaning.Says.{Says}
 use Rattle.basics.proofs.laws.Says.{both-true}
 use Rattle.basics.specs.Meaning.Refusals.{orElse, pick}

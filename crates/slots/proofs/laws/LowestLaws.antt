@@ -1,20 +1,12 @@
 -- The lowest usable slot or none, exactly: what it is told by its definition, and that these facts determine it. Assumes nothing.
-use Prim.Native.Nat.{ℕ, zero, suc, _+_, _*_, _/_, _%_, _^_, _≤_, _<_}
-use mathlib.Core.Path.{_≡_, refl, ap, subst}
-use mathlib.Core.Bool.{Bool, true, false}
-use mathlib.Core.List.{List}
-use mathlib.Core.Logic.{⊎-elim}
-use native.Mathlib.Omega.{arith}
-use native.Mathlib.Nat.{le-refl, eq-or-lt-of-le}
+use Rattle.basics.specs.Words.{ℕ, zero, suc, _+_, _*_, _/_, _%_, _^_, _≤_, _<_, _≡_, refl, ap, subst, Bool, true, false, List, ⊎-elim, getD, eqb, ltb, le-refl}
+use Rattle.basics.specs.Words.{eq-or-lt-of-le, arith, eqb-true, eqb-false, ltb-true, ltb-false}
 use lib.Arith.{digits-mod, digits-div}
 use lib.Count.{trailingZeros}
-use lib.Dec.{eqb, ltb}
-use lib.ListN.{getD}
-use borrow.Author.Tests.{eqb-true, eqb-false, ltb-true, ltb-false}
 use Rattle.basics.specs.Meaning.Refusals.{pick}
 use Rattle.slots.specs.declared.Usable.{Usable}
 use Rattle.slots.specs.declared.Usable.the-variants.{At, Nothing}
-use Rattle.slots.specs.Meaning.Map.{head, wordsFor, bit, usable, lowestFrom, lowestUsable}
+use Rattle.slots.specs.Meaning.Map.{head, wordsFor, usable, lowestFrom, lowestUsable}
 use Rattle.slots.specs.Inner.Map.{NonePast}
 use Rattle.slots.proofs.laws.BitLaws.{bit-of-zero, trailing-low, trailing-set}
 use Rattle.slots.proofs.laws.MapLaws.{not-usable}

@@ -1,10 +1,8 @@
 -- The slot map: 64 slots to a word, a bit set for each usable slot. Three head words, the grid's own, stand before the bits.
 -- Assumes nothing.
 -- Here: the laws.
-use Prim.Native.Nat.{ℕ, zero, suc, _+_}
-use mathlib.Core.List.{List}
+use Rattle.basics.specs.Words.{ℕ, zero, suc, _+_, List, getD}
 use lib.Count.{ones}
-use lib.ListN.{getD}
 use Rattle.slots.specs.Meaning.Map.{head}
 
 -- how many bits of the first w words are set

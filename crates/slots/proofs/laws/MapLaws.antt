@@ -1,16 +1,9 @@
 -- Laws of the slot map: a slot that is taken, or given back, is as it should be, and every other slot and the head words as they were;
 -- and how to see that no bit past the last slot is set. Assumes nothing.
-use Prim.Native.Nat.{ℕ, _+_, _-_, _/_, _%_, _^_, _<_}
-use mathlib.Core.Path.{_≡_, refl, sym, _∙_, subst}
-use mathlib.Core.Bool.{Bool, true, false}
-use mathlib.Core.List.{List}
-use native.Mathlib.Omega.{arith}
+use Rattle.basics.specs.Words.{ℕ, _+_, _-_, _/_, _%_, _^_, _<_, _≡_, refl, sym, _∙_, subst, Bool, true, false, List, length, getD, set, length-set}
+use Rattle.basics.specs.Words.{getD-set-same, getD-set-other, eqb, arith, eqb-true, eqb-false}
 use lib.Bits.{bitAnd, bitOr, bitXor}
-use lib.Dec.{eqb}
-use lib.ListN.{length, getD, set, length-set}
 use lib.Pow.{shr-lt}
-use lib.Seq.{getD-set-same, getD-set-other}
-use borrow.Author.Tests.{eqb-true, eqb-false}
 use Rattle.slots.specs.Meaning.Map.{head, bit, usable, taken, givenBack}
 use Rattle.slots.specs.Inner.Map.{NonePast}
 use Rattle.slots.proofs.laws.BitLaws.{bit-of-zero, bit-not-one, bit-shifted, no-bits, on-same, on-other, off-same, off-other}

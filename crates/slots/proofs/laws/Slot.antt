@@ -1,8 +1,6 @@
 -- A slot's version and phase, which stand first in its row of numbers, and when a handle is good. Assumes nothing.
 -- Here: the laws.
-use Prim.Native.Nat.{ℕ, zero, suc, _+_}
-use mathlib.Core.List.{List}
-use lib.Dec.{eqb}
+use Rattle.basics.specs.Words.{ℕ, zero, suc, _+_, List, eqb}
 use Rattle.basics.specs.Meaning.Refusals.{pick}
 use Rattle.slots.specs.Meaning.Slot.{phaseAt}
 

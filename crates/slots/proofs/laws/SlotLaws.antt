@@ -1,13 +1,6 @@
 -- Taking and emptying a slot keep the slots as they must be, and only a free slot is ever the lowest usable one. Assumes nothing.
-use Prim.Native.Nat.{ℕ, _+_, _*_, _/_, _≤_, _<_}
-use mathlib.Core.Path.{_≡_, refl, sym, _∙_}
-use mathlib.Core.Bool.{Bool, true, false}
-use mathlib.Core.List.{List, [], _∷_}
-use native.Mathlib.Omega.{arith}
-use lib.Dec.{eqb}
-use lib.ListN.{length, getD, set, drop, length-set}
-use lib.Seq.{getD-set-same, getD-set-other}
-use borrow.Author.Tests.{eqb-true, eqb-false, eq-eqb, ne-eqb}
+use Rattle.basics.specs.Words.{ℕ, _+_, _*_, _/_, _≤_, _<_, _≡_, refl, sym, _∙_, Bool, true, false, List, [], _∷_, length, getD, set, drop, length-set}
+use Rattle.basics.specs.Words.{getD-set-same, getD-set-other, eqb, arith, eqb-true, eqb-false, eq-eqb, ne-eqb}
 use Rattle.basics.specs.Meaning.Refusals.{pick}
 use Rattle.slots.specs.declared.Usable.the-variants.{At, Nothing}
 use Rattle.slots.specs.Meaning.Map.{head, wordsFor, usable, taken, givenBack, lowestUsable}

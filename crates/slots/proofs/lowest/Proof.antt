@@ -1,10 +1,7 @@
 -- `slots::lowest` meets its contract: every word before w is 0. The measure is what is left of the words. Assumes nothing.
-use Prim.Native.Nat.{ℕ, _+_, _-_, _≤_, _<_}
-use mathlib.Core.Path.{_≡_, sym}
-use native.Mathlib.Omega.{arith}
+use Rattle.basics.specs.Words.{ℕ, _+_, _-_, _≤_, _<_, _≡_, sym, getD, arith}
 use borrow.Author.Count.{below-none, below-more}
 use lib.Count.{trailing-le}
-use lib.ListN.{getD}
 use Rattle.slots.specs.Meaning.Map.{head, wordsFor}
 use Rattle.slots.proofs.laws.LowestLaws.{lowest-in-word, lowest-past-words}
 use Rattle.slots.proofs.lowest.Statement.{statement}

@@ -1,5 +1,5 @@
 -- `slots::next_phase` meets its contract. Assumes nothing.
-use borrow.Author.Tests.{eq-eqb, ne-eqb}
+use Rattle.basics.specs.Words.{eq-eqb, ne-eqb}
 use Rattle.slots.proofs.next_phase.Statement.{statement}
 use Rattle.slots.proofs.next_phase.Tie as tie
 

@@ -1,6 +1,5 @@
 -- `slots::next_version` meets its contract. Assumes nothing.
-use borrow.Author.Needs.{needs}
-use borrow.Author.Tests.{eq-eqb, ne-eqb}
+use Rattle.basics.specs.Words.{eq-eqb, ne-eqb, needs}
 use Rattle.slots.proofs.next_version.Statement.{statement}
 use Rattle.slots.proofs.next_version.Tie as tie
 

@@ -1,7 +1,5 @@
 -- `slots::past_ok` meets its contract. Assumes nothing.
-use Prim.Native.Nat.{_+_, _/_}
-use native.Mathlib.Omega.{arith}
-use borrow.Author.Needs.{needs}
+use Rattle.basics.specs.Words.{_+_, _/_, arith, needs}
 use Rattle.basics.proofs.laws.Says.{says-yes, says-no}
 use Rattle.slots.specs.Meaning.Map.{head}
 use Rattle.slots.proofs.laws.MapLaws.{past-none, past-all}

@@ -1,6 +1,5 @@
 -- `slots::refusal_of` meets its contract. Assumes nothing.
-use mathlib.Core.Path.{sym, _∙_}
-use borrow.Author.Needs.{needs}
+use Rattle.basics.specs.Words.{sym, _∙_, needs}
 use Rattle.slots.proofs.refusal_of.Statement.{statement}
 use Rattle.slots.proofs.refusal_of.Tie as tie
 

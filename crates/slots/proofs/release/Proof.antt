@@ -1,6 +1,5 @@
 -- `slots::release` meets its contract. Assumes nothing.
-use borrow.Author.Needs.{needs}
-use borrow.Author.Tests.{eq-eqb, ne-eqb}
+use Rattle.basics.specs.Words.{eq-eqb, ne-eqb, needs}
 use Rattle.slots.proofs.release.Statement.{statement}
 use Rattle.slots.proofs.release.Tie as tie
 

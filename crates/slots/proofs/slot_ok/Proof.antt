@@ -1,5 +1,5 @@
 -- `slots::slot_ok` meets its contract, test by test. Assumes nothing.
-use native.Mathlib.Omega.{arith}
+use Rattle.basics.specs.Words.{arith}
 use Rattle.basics.proofs.laws.Says.{says-yes, says-no}
 use Rattle.slots.proofs.Shared.{free-slot, mapped-slot, kept-slot, no-phase}
 use Rattle.slots.proofs.slot_ok.Statement.{statement}

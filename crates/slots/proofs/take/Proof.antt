@@ -1,5 +1,5 @@
 -- `slots::take` meets its contract. Assumes nothing.
-use borrow.Author.Needs.{needs}
+use Rattle.basics.specs.Words.{needs}
 use Rattle.slots.proofs.take.Statement.{statement}
 use Rattle.slots.proofs.take.Tie as tie
 

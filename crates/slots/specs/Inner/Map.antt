@@ -1,9 +1,7 @@
 -- The slot map: 64 slots to a word, a bit set for each usable slot. Three head words, the grid's own, stand before the bits.
 -- Assumes nothing.
 -- Here: what only inner contracts cite.
-use Prim.Native.Nat.{ℕ, zero, suc, _+_, _*_, _≤_, _<_}
-use mathlib.Core.Path.{_≡_}
-use mathlib.Core.List.{List}
+use Rattle.basics.specs.Words.{ℕ, zero, suc, _+_, _*_, _≤_, _<_, _≡_, List}
 use Rattle.slots.specs.Meaning.Map.{wordsFor, usable}
 
 -- how many of the first k slots are usable

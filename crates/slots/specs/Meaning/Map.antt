@@ -1,11 +1,7 @@
 -- The slot map: 64 slots to a word, a bit set for each usable slot. Three head words, the grid's own, stand before the bits.
 -- Assumes nothing.
-use Prim.Native.Nat.{ℕ, zero, suc, _+_, _/_, _%_, _^_}
-use mathlib.Core.Bool.{Bool, true, false}
-use mathlib.Core.List.{List}
+use Rattle.basics.specs.Words.{ℕ, zero, suc, _+_, _/_, _%_, _^_, Bool, true, false, List, getD, set, eqb}
 use lib.Bits.{bitAnd, bitOr, bitXor}
-use lib.Dec.{eqb}
-use lib.ListN.{getD, set}
 use Rattle.basics.specs.Meaning.Refusals.{pick}
 use Rattle.slots.specs.declared.Usable.{Usable}
 use Rattle.slots.specs.declared.Usable.the-variants.{At, Nothing}

@@ -1,10 +1,5 @@
 -- A slot's version and phase, which stand first in its row of numbers, and when a handle is good. Assumes nothing.
-use Prim.Native.Nat.{ℕ, _+_, _*_, _≤_, _<_}
-use mathlib.Core.Path.{_≡_}
-use mathlib.Core.Bool.{Bool, _&&_}
-use mathlib.Core.List.{List, [], _∷_}
-use lib.Dec.{eqb, ltb}
-use lib.ListN.{length, getD, set, drop}
+use Rattle.basics.specs.Words.{ℕ, _+_, _*_, _≤_, _<_, _≡_, Bool, _&&_, List, [], _∷_, length, getD, set, drop, eqb, ltb}
 use Rattle.basics.specs.Meaning.Refusals.{Refusal, unless, firstOf, pick}
 use Rattle.slots.specs.declared.Handle.{Handle}
 use Rattle.slots.specs.Meaning.Map.{wordsFor, usable, givenBack}

@@ -1,13 +1,8 @@
 -- Laws of `append1` and `appendAll`: each comes at the end of the list of its key, which in a sorted list is before the first greater
 -- key. Assumes nothing.
 -- Here: the laws.
-use Prim.Native.Nat.{ℕ, _+_, _<_, _≤_}
-use mathlib.Core.Path.{_≡_, refl, sym, _∙_, ap}
-use mathlib.Core.List.{List, [], _∷_, _++_, append-nil, append-assoc}
-use native.Mathlib.Omega.{arith}
-use lib.Dec.{ltb, eqb}
-use lib.ListN.{length, length-append}
-use borrow.Author.Tests.{ltb-true, ltb-false, eqb-true, eqb-false, lt-ltb, le-ltb, ne-eqb}
+use Rattle.basics.specs.Words.{ℕ, _+_, _<_, _≤_, _≡_, refl, sym, _∙_, ap, List, [], _∷_, _++_, append-nil, append-assoc, length, length-append, ltb, eqb, arith}
+use Rattle.basics.specs.Words.{ltb-true, ltb-false, eqb-true, eqb-false, lt-ltb, le-ltb, ne-eqb}
 use Rattle.storage.specs.Meaning.Keyed.{All, under, below, above, onList, append1, appendAll}
 use Rattle.storage.specs.Inner.Keyed.{Sorted}
 use Rattle.storage.proofs.laws.FilterLaws.{by-test, all-map, all-append, filter-append, filter-all}

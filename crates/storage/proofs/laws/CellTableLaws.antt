@@ -1,9 +1,5 @@
 -- Marking in the table of rows at a place: where the row of a cell stands. Assumes nothing.
-use Prim.Native.Nat.{ℕ, suc, _<_}
-use mathlib.Core.Path.{_≡_, refl, sym, _∙_, ap}
-use mathlib.Core.List.{List, [], _∷_, _++_, map}
-use lib.ListN.{length, getD, set, take, drop}
-use lib.Seq.{split-at, set-split}
+use Rattle.basics.specs.Words.{ℕ, suc, _<_, _≡_, refl, sym, _∙_, ap, List, [], _∷_, _++_, map, length, getD, set, take, drop, split-at, set-split}
 use Rattle.storage.specs.Meaning.Keyed.{All, onList}
 use Rattle.storage.specs.Meaning.Entries.{rowKey}
 use Rattle.storage.specs.Meaning.CellTable.{marked}

@@ -1,13 +1,8 @@
 -- What a projection makes of a list that is kept by keys: if it keeps the keys, it goes through `onList`, `append1` and `takeOut`, so
 -- that columns that are changed alike stay one list. Assumes nothing.
-use Prim.Native.Nat.{ℕ, _≤_}
-use mathlib.Core.Path.{_≡_, refl, sym, _∙_, ap, ap₂}
-use mathlib.Core.Bool.{Bool}
-use mathlib.Core.List.{List, [], _∷_, _++_, map, map-append}
-use native.Mathlib.Nat.{not-suc-le-zero, le-of-suc-le-suc}
-use lib.Dec.{ltb, eqb}
+use Rattle.basics.specs.Words.{ℕ, _≤_, _≡_, refl, sym, _∙_, ap, ap₂, Bool, List, [], _∷_, _++_, map, map-append, length, ltb, eqb, not-suc-le-zero}
+use Rattle.basics.specs.Words.{le-of-suc-le-suc}
 use lib.Ieee.{Float}
-use lib.ListN.{length}
 use Rattle.storage.specs.Meaning.Keyed.{filter, under, below, above, onList, append1, last, front, close, takeOut}
 use Rattle.storage.specs.Meaning.Entries.{Entry, rowKey, entryKey, rowOf, spotOf, zipped}
 use Rattle.storage.proofs.laws.FilterLaws.{by-test, all-any, filter-same, filter-map}

@@ -1,13 +1,6 @@
 -- A key cuts a sorted list by place: below the key's first place the keys are less, and from it on they are not. Assumes nothing.
-use Prim.Native.Nat.{ℕ, zero, suc, _<_, _≤_}
-use mathlib.Core.Path.{_≡_, refl, sym, _∙_, ap}
-use mathlib.Core.List.{List, [], _∷_, _++_, append-assoc, append-nil}
-use native.Mathlib.Omega.{arith}
-use native.Mathlib.Nat.{not-suc-le-zero, le-of-suc-le-suc}
-use lib.Dec.{ltb}
-use lib.ListN.{length, getD, take, drop}
-use lib.Seq.{take-at, drop-at, length-take-le, getD-take}
-use borrow.Author.Tests.{lt-ltb, le-ltb}
+use Rattle.basics.specs.Words.{ℕ, zero, suc, _<_, _≤_, _≡_, refl, sym, _∙_, ap, List, [], _∷_, _++_, append-assoc, append-nil, length, getD, take, drop}
+use Rattle.basics.specs.Words.{take-at, drop-at, length-take-le, getD-take, ltb, not-suc-le-zero, le-of-suc-le-suc, arith, lt-ltb, le-ltb}
 use Rattle.storage.specs.Inner.Keyed.{Sorted}
 use Rattle.storage.specs.Meaning.Keyed.{below, under, above}
 use Rattle.storage.specs.Inner.Places.{endOf}

@@ -1,13 +1,6 @@
 -- Laws of `All` and of `filter`, and cases by a test and by an order. Assumes nothing.
-use Prim.Native.Nat.{ℕ, zero, suc, _<_, _≤_}
-use mathlib.Core.Path.{_≡_, refl, sym, _∙_, ap}
-use mathlib.Core.Bool.{Bool, true, false, _&&_}
-use mathlib.Core.List.{List, [], _∷_, _++_, map}
-use native.Mathlib.Omega.{arith}
-use native.Mathlib.Nat.{not-suc-le-zero, le-of-suc-le-suc}
-use lib.Dec.{ltb, eqb}
-use lib.ListN.{length, getD}
-use borrow.Author.Tests.{ltb-true, ltb-false, eqb-true, eqb-false}
+use Rattle.basics.specs.Words.{ℕ, zero, suc, _<_, _≤_, _≡_, refl, sym, _∙_, ap, Bool, true, false, _&&_, List, [], _∷_, _++_, map, length, getD, ltb, eqb}
+use Rattle.basics.specs.Words.{not-suc-le-zero, le-of-suc-le-suc, arith, ltb-true, ltb-false, eqb-true, eqb-false}
 use Rattle.basics.proofs.laws.Says.{apart}
 use Rattle.storage.specs.Meaning.Keyed.{All, filter}
 

@@ -1,7 +1,5 @@
 -- A map with no mark: its table is made from the pool alone, and every sorted pool has one. Assumes nothing.
-use Prim.Native.Nat.{ℕ, _<_}
-use mathlib.Core.Path.{_≡_, refl, _∙_, ap}
-use mathlib.Core.List.{List, [], _∷_, _++_, map}
+use Rattle.basics.specs.Words.{ℕ, _<_, _≡_, refl, _∙_, ap, List, [], _∷_, _++_, map}
 use Rattle.storage.specs.Meaning.Keyed.{All, appendAll}
 use Rattle.storage.specs.Inner.Keyed.{Sorted}
 use Rattle.storage.specs.Meaning.Entries.{rowKey}

@@ -1,13 +1,9 @@
 -- How a loop that moves one element a turn opens a gap, and closes one: the laws that the loop's invariant goes by, for any type of
 -- elements. Assumes nothing.
-use Prim.Native.Nat.{ℕ, zero, suc, _+_, _-_, _<_, _≤_}
-use mathlib.Core.Path.{_≡_, refl, sym, _∙_, ap}
-use mathlib.Core.List.{List, _∷_, _++_, append-assoc}
-use native.Mathlib.Omega.{arith}
-use native.Mathlib.Numerals.{add-one, sub-one}
-use native.Mathlib.Nat.{not-suc-le-zero}
-use lib.ListN.{length, getD, set, take, drop, length-set, length-append, List·getD-append, take-append-drop}
-use lib.Seq.{slice, slice-empty, slice-cons, length-slice, set-at, take-suc, drop-cons, split-at, getD-take, getD-append-add, getD-drop, append-snoc, length-take-le}
+use Rattle.basics.specs.Words.{ℕ, zero, suc, _+_, _-_, _<_, _≤_, _≡_, refl, sym, _∙_, ap, List, _∷_, _++_, append-assoc, length, getD, set, take, drop}
+use Rattle.basics.specs.Words.{length-set, length-append, List·getD-append, take-append-drop, slice, slice-empty, slice-cons, length-slice, set-at, take-suc}
+use Rattle.basics.specs.Words.{drop-cons, split-at, getD-take, getD-append-add, getD-drop, append-snoc, length-take-le, not-suc-le-zero, add-one, sub-one}
+use Rattle.basics.specs.Words.{arith}
 use Rattle.storage.specs.Inner.Places.{opened, closed}
 use Rattle.storage.proofs.laws.TailLaws.{slice-snoc}
 

@@ -1,11 +1,6 @@
 -- Tables written back over the old ones are a storage again, with no more rows than entries; and a column that has the keys is sorted as
 -- they are. Assumes nothing.
-use Prim.Native.Nat.{ℕ, _≤_}
-use mathlib.Core.Path.{_≡_}
-use mathlib.Core.List.{List, [], _∷_, map}
-use native.Mathlib.Omega.{arith}
-use lib.ListN.{length, take, drop, length-append}
-use lib.Seq.{take-append-seam}
+use Rattle.basics.specs.Words.{ℕ, _≤_, _≡_, List, [], _∷_, map, length, take, drop, length-append, take-append-seam, arith}
 use Rattle.storage.specs.Meaning.Keyed.{All, written}
 use Rattle.storage.specs.Inner.Keyed.{Sorted}
 use Rattle.storage.specs.Meaning.Entries.{rowKey}

@@ -1,13 +1,8 @@
 -- Laws of sorted lists and of `onList`: a sorted list is what stands below a key, the key's own list, and what stands above; `onList`
 -- changes that one list. Assumes nothing.
-use Prim.Native.Nat.{ℕ, _+_, _<_, _≤_}
-use mathlib.Core.Path.{_≡_, refl, sym, _∙_, ap, ap₂}
-use mathlib.Core.Bool.{Bool, true, false}
-use mathlib.Core.List.{List, [], _∷_, _++_, append-nil, nil≢cons, cons≢nil, head-eq-of-cons-eq, tail-eq-of-cons-eq}
-use native.Mathlib.Omega.{arith}
-use lib.Dec.{ltb, eqb}
-use lib.ListN.{length, length-append}
-use borrow.Author.Tests.{ltb-true, eqb-true, lt-ltb, le-ltb, eq-eqb, ne-eqb}
+use Rattle.basics.specs.Words.{ℕ, _+_, _<_, _≤_, _≡_, refl, sym, _∙_, ap, ap₂, Bool, true, false, List, [], _∷_, _++_, append-nil, nil≢cons, cons≢nil}
+use Rattle.basics.specs.Words.{head-eq-of-cons-eq, tail-eq-of-cons-eq, length, length-append, ltb, eqb, arith, ltb-true, eqb-true, lt-ltb, le-ltb, eq-eqb}
+use Rattle.basics.specs.Words.{ne-eqb}
 use Rattle.storage.specs.Meaning.Keyed.{All, filter, under, below, above, onList}
 use Rattle.storage.specs.Inner.Keyed.{Sorted}
 use Rattle.storage.proofs.laws.FilterLaws.{by-test, by-order, all-map, all-any, all-append, filter-append, filter-all, filter-gives}

@@ -1,12 +1,8 @@
 -- Appending and taking out, as moves of places; and what they do to each column of a table whose used part is a sorted list.
 -- Assumes nothing.
-use Prim.Native.Nat.{ℕ, suc, _+_, _-_, _<_, _≤_}
-use mathlib.Core.Path.{_≡_, refl, sym, _∙_, ap}
-use mathlib.Core.Bool.{Bool, true, false}
-use mathlib.Core.List.{List, [], _∷_, _++_, append-assoc}
-use native.Mathlib.Omega.{arith}
-use lib.ListN.{length, getD, take, drop, length-append, take-append-drop}
-use lib.Seq.{slice, take-at, drop-at, drop-append-le, take-take, set-at, getD-at, set-getD, split-at, length-take-le, length-slice, getD-take, getD-drop}
+use Rattle.basics.specs.Words.{ℕ, suc, _+_, _-_, _<_, _≤_, _≡_, refl, sym, _∙_, ap, Bool, true, false, List, [], _∷_, _++_, append-assoc, length, getD, take}
+use Rattle.basics.specs.Words.{drop, length-append, take-append-drop, slice, take-at, drop-at, drop-append-le, take-take, set-at, getD-at, set-getD, split-at}
+use Rattle.basics.specs.Words.{length-take-le, length-slice, getD-take, getD-drop, arith}
 use Rattle.storage.specs.Meaning.Keyed.{All, below, under, above, onList, append1, takeOut, close, front, last}
 use Rattle.storage.specs.Inner.Keyed.{Sorted}
 use Rattle.storage.specs.Inner.Places.{endOf}

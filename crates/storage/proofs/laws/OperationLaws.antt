@@ -1,8 +1,5 @@
 -- The row of a cell with another list, or marked; and appending keeps the map well-formed and each list under its key. Assumes nothing.
-use Prim.Native.Nat.{ℕ}
-use mathlib.Core.Path.{_≡_}
-use mathlib.Core.Bool.{true}
-use mathlib.Core.List.{List, [], _∷_, _++_}
+use Rattle.basics.specs.Words.{ℕ, _≡_, true, List, [], _∷_, _++_}
 use Rattle.storage.specs.Inner.Store.{Row, Listed, WellFormed, rowAt, append}
 use Rattle.storage.proofs.laws.Tables.{Keyed}
 use Rattle.storage.proofs.laws.FilterLaws.{all-append}

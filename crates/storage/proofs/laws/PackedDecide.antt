@@ -1,8 +1,5 @@
 -- Whether the pool and the cell table are a storage can be decided. Assumes nothing.
-use Prim.Native.Nat.{ℕ, _+_, _<_, _≤_}
-use mathlib.Core.Path.{_≡_}
-use mathlib.Core.List.{List}
-use native.Mathlib.Omega.{arith}
+use Rattle.basics.specs.Words.{ℕ, _+_, List, arith}
 use Rattle.basics.specs.Meaning.Says.{Decided}
 use Rattle.basics.proofs.laws.Says.{d-via, d-and, d-eq, d-le, d-lt, d-all, d-any}
 use Rattle.storage.specs.Meaning.Packed.{first, second, Packed}

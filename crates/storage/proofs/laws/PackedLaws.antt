@@ -1,14 +1,7 @@
 -- `Packed` says that the tables are those of a well-formed map, so that no cell has two lists and each entry in use is in one.
 -- Assumes nothing.
-use Prim.Native.Nat.{ℕ, zero, suc, _≤_, _<_}
-use mathlib.Core.Path.{_≡_, sym, subst}
-use mathlib.Core.List.{List, [], _∷_}
-use native.Mathlib.Omega.{arith}
-use native.Mathlib.Nat.{not-suc-le-zero, le-of-suc-le-suc}
-use lib.Dec.{eqb}
-use lib.ListN.{length, getD, take, drop, take-append-drop}
-use lib.Seq.{getD-take, length-take-le}
-use borrow.Author.Tests.{eqb-true}
+use Rattle.basics.specs.Words.{ℕ, zero, suc, _≤_, _<_, _≡_, sym, subst, List, [], _∷_, length, getD, take, drop, take-append-drop, getD-take, length-take-le}
+use Rattle.basics.specs.Words.{eqb, not-suc-le-zero, le-of-suc-le-suc, arith, eqb-true}
 use Rattle.storage.specs.Meaning.Keyed.{All, under}
 use Rattle.storage.specs.Inner.Keyed.{Sorted}
 use Rattle.storage.specs.Meaning.Entries.{rowKey, rowItem}

@@ -1,12 +1,8 @@
 -- Elements that come in, go, or change places, by place and for any type of elements; and one column of a table of which this is a
 -- part. Assumes nothing.
-use Prim.Native.Nat.{ℕ, zero, suc, _+_, _-_, _<_, _≤_}
-use mathlib.Core.Path.{_≡_, refl, sym, _∙_, ap}
-use mathlib.Core.List.{List, [], _∷_, _++_, map, map-append, append-assoc}
-use native.Mathlib.Omega.{arith}
-use native.Mathlib.Numerals.{add-one}
-use lib.ListN.{length, getD, set, take, drop, length-append, length-set, length-drop, take-append-drop, List·getD-map}
-use lib.Seq.{slice, take-take, length-take-le, length-slice, getD-take, take-set-lt, drop-set-lt, set-getD}
+use Rattle.basics.specs.Words.{ℕ, zero, suc, _+_, _-_, _<_, _≤_, _≡_, refl, sym, _∙_, ap, List, [], _∷_, _++_, map, map-append, append-assoc, length, getD, set}
+use Rattle.basics.specs.Words.{take, drop, length-append, length-set, length-drop, take-append-drop, List·getD-map, slice, take-take, length-take-le}
+use Rattle.basics.specs.Words.{length-slice, getD-take, take-set-lt, drop-set-lt, set-getD, add-one, arith}
 use Rattle.storage.specs.Meaning.Keyed.{written}
 use Rattle.storage.proofs.laws.FilterLaws.{by-order}
 use Rattle.storage.specs.Inner.Places.{opened, closed}

@@ -1,7 +1,5 @@
 -- Places of a whole list, and what moves when an element comes in or goes. Assumes nothing.
-use Prim.Native.Nat.{ℕ, suc}
-use mathlib.Core.List.{List, _∷_, _++_}
-use lib.ListN.{getD, set, take, drop}
+use Rattle.basics.specs.Words.{ℕ, suc, List, _∷_, _++_, getD, set, take, drop}
 
 abbrev pub inserted : {A : Type 0} → List A → ℕ → A → List A
 inserted l p v = take p l ++ v ∷ drop p l

@@ -1,11 +1,6 @@
 -- The columns of a pool whose used part is a sorted list: what an append and a taking out do to each. Assumes nothing.
-use Prim.Native.Nat.{ℕ, _<_, _≤_}
-use mathlib.Core.Path.{_≡_, refl, sym, _∙_, ap}
-use mathlib.Core.List.{List, map}
-use native.Mathlib.Omega.{arith}
+use Rattle.basics.specs.Words.{ℕ, _<_, _≤_, _≡_, refl, sym, _∙_, ap, List, map, length, getD, set, take, length-append, length-map, length-take-le, arith}
 use lib.Ieee.{Float}
-use lib.ListN.{length, getD, set, take, length-append, length-map}
-use lib.Seq.{length-take-le}
 use Rattle.storage.specs.Inner.Keyed.{Sorted}
 use Rattle.storage.specs.Meaning.Keyed.{below, under, written, append1}
 use Rattle.storage.specs.Meaning.Entries.{rowKey, rowOf, spotOf, entryKey, entriesOf}

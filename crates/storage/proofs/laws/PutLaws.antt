@@ -1,11 +1,6 @@
 -- Rows written one after the other into a table, from place 0 on, each made of a number. Assumes nothing.
-use Prim.Native.Nat.{ℕ, _+_, _<_, _≤_}
-use mathlib.Core.Path.{_≡_, refl, sym, ap, _∙_}
-use mathlib.Core.List.{List, [], _∷_, _++_, map, map-append}
-use native.Mathlib.Omega.{arith}
-use native.Mathlib.Numerals.{add-one}
-use lib.ListN.{length, getD, set, take, length-append, length-map}
-use lib.Seq.{take-suc}
+use Rattle.basics.specs.Words.{ℕ, _+_, _<_, _≤_, _≡_, refl, sym, ap, _∙_, List, [], _∷_, _++_, map, map-append, length, getD, set, take, length-append}
+use Rattle.basics.specs.Words.{length-map, take-suc, add-one, arith}
 use Rattle.storage.specs.Meaning.Keyed.{written}
 use Rattle.storage.proofs.laws.WrittenLaws.{written-next, length-written}
 

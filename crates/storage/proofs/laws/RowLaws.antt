@@ -1,11 +1,7 @@
 -- The row of a key in a table, by place: whether it has one, and what the table is with it, without it, and with its mark set.
 -- Assumes nothing.
-use Prim.Native.Nat.{ℕ, suc, _+_, _<_, _≤_}
-use mathlib.Core.Path.{_≡_, refl, sym, ap}
-use mathlib.Core.List.{List, [], _∷_, map, append-nil}
-use native.Mathlib.Omega.{arith}
-use lib.ListN.{length, getD, set, take, length-append}
-use lib.Seq.{set-split, length-take-le, getD-take}
+use Rattle.basics.specs.Words.{ℕ, suc, _+_, _<_, _≤_, _≡_, refl, sym, ap, List, [], _∷_, map, append-nil, length, getD, set, take, length-append, set-split}
+use Rattle.basics.specs.Words.{length-take-le, getD-take, arith}
 use Rattle.storage.specs.Inner.Keyed.{Sorted}
 use Rattle.storage.specs.Meaning.Keyed.{below, under, onList}
 use Rattle.storage.specs.Meaning.Entries.{rowKey}

@@ -1,10 +1,5 @@
 -- Keys in and out of a window, and how the walk of a sorted pool skips those that are out. Assumes nothing.
-use Prim.Native.Nat.{ℕ, _+_, _*_, _<_, _≤_}
-use mathlib.Core.Path.{_≡_}
-use mathlib.Core.Bool.{true, false}
-use mathlib.Core.List.{List, []}
-use native.Mathlib.Omega.{arith}
-use lib.ListN.{length, take}
+use Rattle.basics.specs.Words.{ℕ, _+_, _*_, _<_, _≤_, _≡_, true, false, List, [], ⊎-elim, length, take, arith}
 use Rattle.basics.proofs.laws.Says.{not-said, says-and, d-lt}
 use Rattle.cells.specs.Inner.Key.{columnOf, lineOf}
 use Rattle.cells.proofs.laws.RangeKeyLaws.{leb-says}
@@ -18,7 +13,6 @@ use Rattle.storage.proofs.laws.CutLaws.{high-of, most-of}
 use Rattle.basics.specs.Meaning.Says.{Says}
 use Rattle.storage.specs.Inner.Window.{inWindow}
 use Rattle.storage.specs.Inner.Run.{NextKey, NextRun}
-use mathlib.Core.Logic.{⊎-elim}
 use Rattle.storage.specs.declared.Run.{Run}
 
 module _ (x0 y0 x1 y1 k : ℕ) where

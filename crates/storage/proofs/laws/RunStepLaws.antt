@@ -1,12 +1,7 @@
 -- What a stretch of the walk is of the whole: the entries of the window from a place on are those of the next stretch, and then those
 -- of the window from its end on. Assumes nothing.
-use Prim.Native.Nat.{ℕ, _+_, _-_, _<_, _≤_}
-use mathlib.Core.Path.{_≡_, sym, _∙_, ap}
-use mathlib.Core.Bool.{Bool, true, false}
-use mathlib.Core.List.{List, [], _++_, map}
-use native.Mathlib.Omega.{arith}
-use lib.ListN.{length, getD, take, drop, length-map, List·getD-map, take-append-drop}
-use lib.Seq.{slice, length-slice, length-take-le, getD-drop, getD-take, drop-append-le}
+use Rattle.basics.specs.Words.{ℕ, _+_, _-_, _<_, _≤_, _≡_, sym, _∙_, ap, Bool, true, false, List, [], _++_, map, length, getD, take, drop, length-map}
+use Rattle.basics.specs.Words.{List·getD-map, take-append-drop, slice, length-slice, length-take-le, getD-drop, getD-take, drop-append-le, arith}
 use Rattle.cells.specs.declared.Cell.{Cell}
 use Rattle.cells.proofs.laws.Numbers.{Fits}
 use Rattle.cells.specs.Meaning.Key.{keyOf}

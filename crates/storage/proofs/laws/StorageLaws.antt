@@ -1,12 +1,5 @@
 -- The tables of a well-formed map are packed, and packed tables are those of one map. Assumes nothing.
-use Prim.Native.Nat.{ℕ, zero, suc, _≤_, _<_}
-use mathlib.Core.Path.{_≡_, refl, sym, _∙_, ap, subst}
-use mathlib.Core.Bool.{Bool, true, false}
-use mathlib.Core.List.{List, [], _∷_}
-use native.Mathlib.Omega.{arith}
-use lib.Dec.{eqb}
-use lib.ListN.{length}
-use borrow.Author.Tests.{eqb-true, eq-eqb}
+use Rattle.basics.specs.Words.{ℕ, zero, suc, _≤_, _<_, _≡_, refl, sym, _∙_, ap, subst, Bool, true, false, List, [], _∷_, length, eqb, arith, eqb-true, eq-eqb}
 use Rattle.storage.specs.Meaning.Keyed.{All, under}
 use Rattle.storage.specs.Meaning.Entries.{rowKey, rowItem}
 use Rattle.storage.specs.Inner.Store.{Filled, Row, Listed, emptyRow, WellFormed, rowAt}

@@ -1,9 +1,7 @@
 -- The storage as a reader expects it: a finite map from cells to non-empty lists, each with a dirty mark. A cell is named by its key, and
 -- the map is the list of its rows in the order of the keys. Assumes nothing.
 -- Here: the laws.
-use Prim.Native.Nat.{ℕ}
-use mathlib.Core.Bool.{Bool, true, false}
-use mathlib.Core.List.{List, [], _∷_, _++_}
+use Rattle.basics.specs.Words.{ℕ, Bool, true, false, List, [], _∷_, _++_}
 use Rattle.storage.specs.Inner.Store.{Listed}
 
 abbrev pub markOf : Bool → ℕ

@@ -1,12 +1,6 @@
 -- Laws of the finite map: looking up after each operation, what stays well-formed, and that a map is determined by its rows.
 -- Assumes nothing.
-use Prim.Native.Nat.{ℕ, _≤_, _<_}
-use mathlib.Core.Path.{_≡_, refl, sym, _∙_, ap, ap₂, subst}
-use mathlib.Core.List.{List, [], _∷_}
-use native.Mathlib.Omega.{arith}
-use lib.Dec.{eqb}
-use mathlib.Core.Logic.{⊎-elim}
-use borrow.Author.Tests.{lt-ltb, le-ltb, eq-eqb, ne-eqb, eqb-true}
+use Rattle.basics.specs.Words.{ℕ, _≤_, _<_, _≡_, refl, sym, _∙_, ap, ap₂, subst, List, [], _∷_, ⊎-elim, eqb, arith, lt-ltb, le-ltb, eq-eqb, ne-eqb, eqb-true}
 use Rattle.basics.proofs.laws.Says.{d-eq}
 use Rattle.storage.specs.Meaning.Keyed.{All}
 use Rattle.storage.specs.Inner.Store.{Filled, Row, Listed, emptyRow, WellFormed, rowAt, inFront, putRow}

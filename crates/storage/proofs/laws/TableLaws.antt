@@ -1,12 +1,7 @@
 -- The two tables of a well-formed map: the pool is sorted and holds each cell's list, the rows are those of the cells in use, and each
 -- operation on the map is the operation on the tables. Assumes nothing.
-use Prim.Native.Nat.{ℕ, _≤_, _<_}
-use mathlib.Core.Path.{_≡_, refl, sym, _∙_, ap}
-use mathlib.Core.Bool.{Bool, true, false}
-use mathlib.Core.List.{List, [], _∷_, _++_, append-nil, map}
-use native.Mathlib.Omega.{arith}
-use lib.Dec.{eqb}
-use borrow.Author.Tests.{eqb-true, eqb-false, eq-eqb, ne-eqb}
+use Rattle.basics.specs.Words.{ℕ, _≤_, _<_, _≡_, refl, sym, _∙_, ap, Bool, true, false, List, [], _∷_, _++_, append-nil, map, eqb, arith, eqb-true, eqb-false}
+use Rattle.basics.specs.Words.{eq-eqb, ne-eqb}
 use Rattle.storage.specs.Meaning.Keyed.{All, under, onList}
 use Rattle.storage.specs.Inner.Keyed.{Sorted}
 use Rattle.storage.specs.Meaning.Entries.{rowKey}

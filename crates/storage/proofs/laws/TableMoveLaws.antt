@@ -1,10 +1,5 @@
 -- The table of cells, by place: what a store, an opened place and a closed one make of it. Assumes nothing.
-use Prim.Native.Nat.{ℕ, suc, _+_, _-_, _<_, _≤_}
-use mathlib.Core.Path.{_≡_, sym, _∙_, ap}
-use mathlib.Core.List.{List, [], _∷_}
-use native.Mathlib.Omega.{arith}
-use lib.ListN.{length, set, take}
-use lib.Seq.{length-take-le}
+use Rattle.basics.specs.Words.{ℕ, suc, _+_, _-_, _<_, _≤_, _≡_, sym, _∙_, ap, List, [], _∷_, length, set, take, length-take-le, arith}
 use Rattle.storage.specs.Inner.Keyed.{Sorted}
 use Rattle.storage.specs.Meaning.Keyed.{below, under, written}
 use Rattle.storage.specs.Meaning.Entries.{rowKey}
@@ -19,7 +14,8 @@ use Rattle.storage.proofs.laws.TableLaws.{rising-sorted}
 use Rattle.storage.proofs.laws.PackedLaws.{place-filled}
 use Rattle.storage.proofs.laws.MoveLaws.{start-most}
 use Rattle.storage.proofs.laws.PoolLaws.{end-within}
-use Rattle.storage.proofs.laws.RowLaws.{one-row, row-here, row-nowhere, no-list, entered-new, entered-same, dropped-same, dropped-row, marked-same, marked-row}
+use Rattle.storage.proofs.laws.RowLaws.{one-row, row-here, row-nowhere, no-list, entered-new, entered-same, dropped-same, dropped-row, marked-same}
+use Rattle.storage.proofs.laws.RowLaws.{marked-row}
 
 -- the table is as it was
 same : (cells new : List (List ℕ)) (n : ℕ) → n ≤ length cells → new ≡ take n cells → (n ≡ length new) × (cells ≡ written new cells)

@@ -1,8 +1,5 @@
 -- Each operation on the map is the operation on its two tables. Assumes nothing.
-use Prim.Native.Nat.{ℕ}
-use mathlib.Core.Path.{_≡_, refl, sym, _∙_, ap}
-use mathlib.Core.Bool.{Bool, true}
-use mathlib.Core.List.{List, [], _∷_, _++_, map, nil≢cons}
+use Rattle.basics.specs.Words.{ℕ, _≡_, refl, sym, _∙_, ap, Bool, true, List, [], _∷_, _++_, map, nil≢cons}
 use Rattle.basics.specs.Meaning.Refusals.{pick}
 use Rattle.storage.specs.Meaning.Keyed.{under, onList, append1, takeOut}
 use Rattle.storage.specs.Meaning.Entries.{rowKey}

@@ -1,11 +1,6 @@
 -- The map that two tables stand for, and when a table of rows and a pool are the tables of a map. Assumes nothing.
 -- Here: the laws.
-use Prim.Native.Nat.{ℕ, _≤_}
-use mathlib.Core.Path.{_≡_}
-use mathlib.Core.Bool.{false}
-use mathlib.Core.List.{List, [], _∷_, map}
-use lib.Dec.{eqb}
-use lib.ListN.{length}
+use Rattle.basics.specs.Words.{ℕ, _≤_, _≡_, false, List, [], _∷_, map, length, eqb}
 use Rattle.storage.specs.Meaning.Keyed.{All, under}
 use Rattle.storage.specs.Inner.Keyed.{Sorted}
 use Rattle.storage.specs.Meaning.Entries.{rowKey, rowItem}

@@ -1,11 +1,6 @@
 -- Laws of taking out: the first element that passes goes, and the last one moves into its gap. Assumes nothing.
-use Prim.Native.Nat.{ℕ, zero, suc, _+_, _<_}
-use mathlib.Core.Path.{_≡_, refl, sym, ap}
-use mathlib.Core.Bool.{Bool, true, false}
-use mathlib.Core.List.{List, [], _∷_, _++_}
-use native.Mathlib.Omega.{arith}
-use native.Mathlib.Nat.{not-suc-le-zero, le-of-suc-le-suc}
-use lib.ListN.{length, getD}
+use Rattle.basics.specs.Words.{ℕ, zero, suc, _+_, _<_, _≡_, refl, sym, ap, Bool, true, false, List, [], _∷_, _++_, length, getD, not-suc-le-zero}
+use Rattle.basics.specs.Words.{le-of-suc-le-suc, arith}
 use Rattle.basics.specs.Meaning.Refusals.{pick}
 use Rattle.basics.proofs.laws.Says.{apart}
 use Rattle.storage.specs.Meaning.Keyed.{All, under, onList, last, front, close, takeOut}

@@ -1,15 +1,8 @@
 -- A key is that of a cell of a range exactly if it lies in the range's window. Assumes nothing.
 -- Here: the laws.
-use Prim.Native.Nat.{ℕ, _<_}
-use mathlib.Core.Path.{_≡_, refl, sym, _∙_, ap}
-use mathlib.Core.Logic.{⊎-elim}
-use mathlib.Core.Bool.{Bool, true, _&&_}
-use mathlib.Core.List.{List, [], _∷_, List·Memᴰ, List·Memᴰ·head, List·Memᴰ·tail, List·Memᴰ·cases-cons, List·Memᴰ·not-nil}
-use native.Mathlib.Omega.{arith}
-use lib.Dec.{eqb}
-use lib.IntN.{ℤ, pos, negsuc}
+use Rattle.basics.specs.Words.{ℕ, _<_, _≡_, refl, sym, _∙_, ap, Bool, true, _&&_, List, [], _∷_, List·Memᴰ, List·Memᴰ·head, List·Memᴰ·tail}
+use Rattle.basics.specs.Words.{List·Memᴰ·cases-cons, List·Memᴰ·not-nil, ⊎-elim, eqb, ℤ, pos, negsuc, arith, leb-true, eqb-true, eq-eqb}
 use lib.Signed.{mag, leZ}
-use borrow.Author.Tests.{leb-true, eqb-true, eq-eqb}
 use Rattle.basics.specs.Meaning.Says.{Says}
 use Rattle.basics.proofs.laws.Says.{says-same, apart, both-true}
 use Rattle.cells.specs.declared.Cell.{Cell}

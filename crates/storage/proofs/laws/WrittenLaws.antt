@@ -1,10 +1,6 @@
 -- A table whose first places are written one after the other. Assumes nothing.
-use Prim.Native.Nat.{suc, _<_, _≤_}
-use mathlib.Core.Path.{_≡_, sym, _∙_}
-use mathlib.Core.List.{List, [], _∷_, _++_, append-assoc}
-use native.Mathlib.Omega.{arith}
-use lib.ListN.{length, getD, set, drop, length-append, length-drop}
-use lib.Seq.{set-append-seam, drop-cons}
+use Rattle.basics.specs.Words.{suc, _<_, _≤_, _≡_, sym, _∙_, List, [], _∷_, _++_, append-assoc, length, getD, set, drop, length-append, length-drop}
+use Rattle.basics.specs.Words.{set-append-seam, drop-cons, arith}
 use Rattle.storage.specs.Meaning.Keyed.{written}
 
 module _ {A : Type 0} where

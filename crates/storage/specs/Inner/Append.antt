@@ -1,9 +1,7 @@
 -- Laws of `append1` and `appendAll`: each comes at the end of the list of its key, which in a sorted list is before the first greater
 -- key. Assumes nothing.
 -- Here: what only inner contracts cite.
-use Prim.Native.Nat.{ℕ}
-use mathlib.Core.List.{List, [], _∷_}
-use lib.Dec.{ltb}
+use Rattle.basics.specs.Words.{ℕ, List, [], _∷_, ltb}
 use Rattle.basics.specs.Meaning.Refusals.{pick}
 
 module _ {A : Type 0} (key : A → ℕ) where

@@ -1,7 +1,5 @@
 -- Where the list of a cell begins in the pool. Assumes nothing.
-use Prim.Native.Nat.{ℕ, _-_, _<_}
-use mathlib.Core.Path.{_≡_}
-use mathlib.Core.List.{List}
+use Rattle.basics.specs.Words.{ℕ, _-_, _<_, _≡_, List}
 use Rattle.storage.specs.Meaning.Packed.{first}
 
 -- entry j begins a list

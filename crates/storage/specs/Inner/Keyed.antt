@@ -1,7 +1,6 @@
 -- Lists of elements that have a key: those of one key are a cell's list. Assumes nothing.
 -- Here: what only inner contracts cite.
-use Prim.Native.Nat.{ℕ, _≤_}
-use mathlib.Core.List.{List, [], _∷_}
+use Rattle.basics.specs.Words.{ℕ, _≤_, List, [], _∷_}
 use Rattle.storage.specs.Meaning.Keyed.{All}
 
 module _ {A : Type 0} (key : A → ℕ) where

@@ -2,10 +2,7 @@
 --     opened s p k v     v comes in at p, and the elements from p up to k move one place up. What stands past k stays
 --     closed s p k       the element at p goes, and those after it up to k move one place down. What stands from k - 1 on stays
 -- Here: what only inner contracts cite.
-use Prim.Native.Nat.{ℕ, _+_, _-_}
-use mathlib.Core.List.{List, _∷_, _++_}
-use lib.ListN.{length, take, drop}
-use lib.Seq.{slice}
+use Rattle.basics.specs.Words.{ℕ, _+_, _-_, List, _∷_, _++_, length, take, drop, slice}
 use Rattle.storage.specs.Meaning.Keyed.{below, under}
 
 -- the end of the list of key k

@@ -1,9 +1,6 @@
 -- What a pool's used part is after an entry came in or went, and what each column then is. Assumes nothing.
-use Prim.Native.Nat.{ℕ}
-use mathlib.Core.Path.{_≡_}
-use mathlib.Core.List.{List, map}
+use Rattle.basics.specs.Words.{ℕ, _≡_, List, map, length}
 use lib.Ieee.{Float}
-use lib.ListN.{length}
 use Rattle.storage.specs.Meaning.Keyed.{written, onList, append1, takeOut}
 use Rattle.storage.specs.Meaning.Entries.{Entry, entry, isItem, rowOf, spotOf, entryKey, entriesOf}
 

@@ -1,8 +1,5 @@
 -- What the range walk asks of the pool: the next stretch of entries whose cells lie in a window. Assumes nothing.
-use Prim.Native.Nat.{ℕ, _<_, _≤_}
-use mathlib.Core.Path.{_≡_}
-use mathlib.Core.Bool.{true, false}
-use mathlib.Core.List.{List}
+use Rattle.basics.specs.Words.{ℕ, _<_, _≤_, _≡_, true, false, List}
 use Rattle.storage.specs.Inner.Window.{inWindow}
 use Rattle.storage.specs.Meaning.Packed.{first}
 use Rattle.storage.specs.declared.Run.{Run}

@@ -1,10 +1,7 @@
 -- The storage as a reader expects it: a finite map from cells to non-empty lists, each with a dirty mark. A cell is named by its key, and
 -- the map is the list of its rows in the order of the keys. Assumes nothing.
 -- Here: what only inner contracts cite.
-use Prim.Native.Nat.{ℕ, _<_}
-use mathlib.Core.Bool.{Bool, true, false}
-use mathlib.Core.List.{List, [], _∷_, _++_}
-use lib.Dec.{eqb, ltb}
+use Rattle.basics.specs.Words.{ℕ, _<_, Bool, true, false, List, [], _∷_, _++_, eqb, ltb}
 use Rattle.basics.specs.Meaning.Refusals.{pick}
 use Rattle.storage.specs.Meaning.Keyed.{All, takeOut}
 

@@ -1,7 +1,6 @@
 -- The map that two tables stand for, and when a table of rows and a pool are the tables of a map. Assumes nothing.
 -- Here: what only inner contracts cite.
-use Prim.Native.Nat.{ℕ, _<_}
-use mathlib.Core.List.{List, [], _∷_}
+use Rattle.basics.specs.Words.{ℕ, _<_, List, [], _∷_}
 use Rattle.storage.specs.Meaning.Keyed.{All}
 
 -- in the order of the keys, and no key twice

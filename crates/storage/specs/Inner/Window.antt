@@ -1,8 +1,6 @@
 -- A range of cells as four numbers, each counted upward from the least: lowest column, lowest row, highest column, highest row.
 -- A key is a row and a column, and it lies in the window if both do. Assumes nothing.
-use Prim.Native.Nat.{ℕ}
-use mathlib.Core.Bool.{Bool, _&&_}
-use lib.Dec.{leb}
+use Rattle.basics.specs.Words.{ℕ, Bool, _&&_, leb}
 use Rattle.cells.specs.Inner.Key.{columnOf, lineOf}
 use Rattle.cells.specs.declared.Cell.{Cell}
 use Rattle.cells.specs.Meaning.Key.{upward}

@@ -1,7 +1,5 @@
 -- The table of the cells in use: a row (key, mark) for each, in the order of the keys; the mark is 1 for a dirty cell. Assumes nothing.
-use Prim.Native.Nat.{ℕ}
-use mathlib.Core.List.{List, [], _∷_, map}
-use lib.Dec.{eqb}
+use Rattle.basics.specs.Words.{ℕ, List, [], _∷_, map, eqb}
 use Rattle.basics.specs.Meaning.Refusals.{pick}
 use Rattle.storage.specs.Meaning.Keyed.{onList}
 use Rattle.storage.specs.Meaning.Entries.{rowKey}

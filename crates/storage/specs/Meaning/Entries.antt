@@ -1,11 +1,7 @@
 -- What the pool holds. A row is a cell key and a number that says which object; a point's entry has a position beside its row.
 -- Assumes nothing.
-use Prim.Native.Nat.{ℕ}
-use mathlib.Core.Bool.{Bool}
-use mathlib.Core.List.{List, [], _∷_}
-use lib.Dec.{eqb}
+use Rattle.basics.specs.Words.{ℕ, Bool, List, [], _∷_, getD, take, eqb}
 use lib.Ieee.{Float}
-use lib.ListN.{getD, take}
 
 abbrev pub rowKey : List ℕ → ℕ
 rowKey r = getD r 0 0

@@ -1,9 +1,5 @@
 -- Lists of elements that have a key: those of one key are a cell's list. Assumes nothing.
-use Prim.Native.Nat.{ℕ}
-use mathlib.Core.Bool.{Bool}
-use mathlib.Core.List.{List, [], _∷_, _++_}
-use lib.Dec.{ltb, eqb}
-use lib.ListN.{length, drop}
+use Rattle.basics.specs.Words.{ℕ, Bool, List, [], _∷_, _++_, length, drop, ltb, eqb}
 use Rattle.basics.specs.Meaning.Refusals.{pick}
 
 abbrev pub All : {A : Type 0} → (A → Type 0) → List A → Type 0

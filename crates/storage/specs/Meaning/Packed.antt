@@ -1,9 +1,6 @@
 -- When the first `used` rows of the pool and the first `rows` rows of the cell table are a storage: no cell has two lists, each pool
 -- entry is in one list or free, and each list has its row. Assumes nothing.
-use Prim.Native.Nat.{ℕ, _<_, _≤_}
-use mathlib.Core.Path.{_≡_}
-use mathlib.Core.List.{List, []}
-use lib.ListN.{getD}
+use Rattle.basics.specs.Words.{ℕ, _<_, _≤_, _≡_, List, [], getD}
 
 -- the first and the second number of a row of two
 abbrev pub first : List (List ℕ) → ℕ → ℕ

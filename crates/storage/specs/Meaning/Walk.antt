@@ -1,6 +1,5 @@
 -- The walk of a range: the lists of its cells, in range order and then in list order. Assumes nothing.
-use Prim.Native.Nat.{ℕ}
-use mathlib.Core.List.{List, [], _∷_, _++_}
+use Rattle.basics.specs.Words.{ℕ, List, [], _∷_, _++_}
 use Rattle.cells.specs.declared.Cell.{Cell}
 use Rattle.cells.specs.Meaning.Range.{rangeCells}
 use Rattle.cells.specs.Meaning.Key.{keyOf}

@@ -1,6 +1,5 @@
 -- `trace::advance` meets its contract: it is ready at every turn. The measure is the number of turns that are left. Assumes nothing.
-use native.Mathlib.Omega.{arith}
-use borrow.Author.Needs.{needs}
+use Rattle.basics.specs.Words.{arith, needs}
 use Rattle.trace.specs.Inner.Ready.{Ready}
 use Rattle.trace.proofs.advance.Statement.{statement}
 use Rattle.trace.proofs.advance.Tie as tie

@@ -1,8 +1,5 @@
 -- `trace::flush` meets its contract: the answers are that many of the output's first bytes. Assumes nothing.
-use mathlib.Core.Path.{sym}
-use native.Mathlib.Omega.{arith}
-use lib.Seq.{length-take-le}
-use borrow.Author.Needs.{needs}
+use Rattle.basics.specs.Words.{sym, length-take-le, arith, needs}
 use Rattle.trace.proofs.flush.Statement.{statement}
 use Rattle.trace.proofs.flush.Tie as tie
 

@@ -1,5 +1,5 @@
 -- `trace::is_next` meets its contract. Assumes nothing.
-use borrow.Author.Needs.{needs}
+use Rattle.basics.specs.Words.{needs}
 use Rattle.basics.proofs.laws.Says.{apart}
 use Rattle.trace.proofs.is_next.Statement.{statement}
 use Rattle.trace.proofs.is_next.Tie as tie

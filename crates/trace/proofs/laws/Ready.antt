@@ -1,6 +1,6 @@
 -- How far the program is: the bytes that it has are in the block, and the answers fit the output. Assumes nothing.
 -- Here: the laws.
-use native.Mathlib.Omega.{arith}
+use Rattle.basics.specs.Words.{arith}
 use Rattle.trace.specs.declared.Progress.{Progress}
 use Rattle.trace.specs.Inner.Ready.{Fits, Ready}
 

@@ -1,5 +1,5 @@
 -- `trace::run` meets its contract: the tables keep their lengths. Assumes nothing.
-use mathlib.Core.Path.{_∙_}
+use Rattle.basics.specs.Words.{_∙_}
 use Rattle.trace.proofs.run.Statement.{statement}
 use Rattle.trace.proofs.run.Tie as tie
 

@@ -1,8 +1,5 @@
 -- `trace::seek` meets its contract: the bytes that there are, are that many of the block's first ones. Assumes nothing.
-use mathlib.Core.Path.{sym}
-use native.Mathlib.Omega.{arith}
-use lib.Seq.{length-take-le}
-use borrow.Author.Needs.{needs}
+use Rattle.basics.specs.Words.{sym, length-take-le, arith, needs}
 use Rattle.trace.proofs.seek.Statement.{statement}
 use Rattle.trace.proofs.seek.Tie as tie
 

@@ -1,8 +1,6 @@
 -- `trace::serve` meets its contract: it is ready at every turn, and the tables keep their lengths. The measure is the number of turns that are
 -- left. Assumes nothing.
-use mathlib.Core.Path.{_≡_, refl, _∙_}
-use native.Mathlib.Omega.{arith}
-use lib.ListN.{length}
+use Rattle.basics.specs.Words.{_≡_, refl, _∙_, length, arith}
 use Rattle.trace.specs.Inner.Ready.{Ready}
 use Rattle.trace.proofs.laws.Ready.{ready-fits}
 use Rattle.trace.proofs.serve.Statement.{statement}

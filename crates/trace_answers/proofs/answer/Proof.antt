@@ -1,7 +1,5 @@
 -- `trace_answers::answer` meets its contract, line by line. Assumes nothing.
-use Prim.Native.Nat.{ℕ}
-use mathlib.Core.Path.{_≡_, ap}
-use mathlib.Core.List.{List}
+use Rattle.basics.specs.Words.{ℕ, _≡_, ap, List, needs}
 use lib.Ieee.{Float}
 use Rattle.point_tables.specs.Meaning.Tables as points
 use Rattle.box_tables.specs.Meaning.Tables as boxes
@@ -12,7 +10,6 @@ use Rattle.trace_points.specs.Meaning.Searches as point
 use Rattle.trace_boxes.specs.Meaning.Searches as box
 use Rattle.trace_answers.specs.Meaning.State.{state, answered}
 use Rattle.trace_answers.specs.Meaning.Answer.{byLine}
-use borrow.Author.Needs.{needs}
 use Rattle.trace_answers.proofs.answer.Statement.{statement}
 use Rattle.trace_answers.proofs.answer.Tie as tie
 

@@ -1,6 +1,6 @@
 -- `trace_answers::cell` meets its contract. Assumes nothing.
 use Rattle.trace_answers.specs.Meaning.Cell.{buildBoth}
-use borrow.Author.Needs.{needs}
+use Rattle.basics.specs.Words.{needs}
 use Rattle.trace_answers.proofs.cell.Statement.{statement}
 use Rattle.trace_answers.proofs.cell.Tie as tie
 

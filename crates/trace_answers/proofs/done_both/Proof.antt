@@ -1,8 +1,7 @@
 -- `trace_answers::done_both` meets its contract. Assumes nothing.
-use mathlib.Core.Path.{_∙_}
+use Rattle.basics.specs.Words.{_∙_, needs}
 use Rattle.trace_telling.specs.Meaning.Tells.{doneOr}
 use Rattle.trace_telling.proofs.laws.Tells.{told-done, told-refused}
-use borrow.Author.Needs.{needs}
 use Rattle.trace_answers.proofs.done_both.Statement.{statement}
 use Rattle.trace_answers.proofs.done_both.Tie as tie
 

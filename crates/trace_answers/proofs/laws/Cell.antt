@@ -1,8 +1,6 @@
 -- `cell` builds both grids anew. Assumes nothing.
 -- Here: the laws.
-use Prim.Native.Nat.{ℕ}
-use mathlib.Core.Path.{_≡_}
-use mathlib.Core.Bool.{true, false}
+use Rattle.basics.specs.Words.{ℕ, _≡_, true, false}
 use Rattle.blank.specs.Meaning.Blank.{sizeOk}
 use Rattle.point_tables.specs.Meaning.Tables as point
 use Rattle.point_tables.specs.Meaning.Decide as point-decide

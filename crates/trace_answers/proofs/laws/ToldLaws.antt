@@ -1,6 +1,5 @@
 -- Whatever is answered can be told: findings are in the outputs, and no more than the trace's grids can give. Assumes nothing.
-use Prim.Native.Nat.{_≤_}
-use lib.ListN.{length}
+use Rattle.basics.specs.Words.{_≤_, length}
 use Rattle.point_insert.specs.Meaning.New as point-new
 use Rattle.box_insert.specs.Meaning.New as box-new
 use Rattle.trace_printing.specs.declared.Said.the-variants.{Done}

@@ -1,5 +1,5 @@
 -- The answer to a request: of the points, of the boxes, of both for `cell`, and 10 to what is unreadable. Assumes nothing.
-use Prim.Native.Nat.{ℕ}
+use Rattle.basics.specs.Words.{ℕ}
 use Rattle.trace_printing.specs.declared.Said.the-variants.{Refused}
 use Rattle.trace_lines.specs.declared.PointChange as line-of-points
 use Rattle.trace_lines.specs.declared.PointSearch as search-of-points

@@ -1,8 +1,5 @@
 -- `cell` builds both grids anew. Assumes nothing.
-use Prim.Native.Nat.{ℕ}
-use mathlib.Core.Path.{_≡_}
-use mathlib.Core.List.{List}
-use lib.IntN.{ℤ}
+use Rattle.basics.specs.Words.{ℕ, _≡_, List, ℤ}
 use lib.Ieee.{Float}
 use Rattle.basics.specs.Meaning.Lent.{Lent}
 use Rattle.point_tables.specs.Meaning.Tables as point

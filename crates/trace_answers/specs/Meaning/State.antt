@@ -1,6 +1,5 @@
 -- The two grids of the trace and the outputs of their queries; an answer is what is said and these after it. Assumes nothing.
-use Prim.Native.Nat.{ℕ}
-use mathlib.Core.List.{List}
+use Rattle.basics.specs.Words.{ℕ, List}
 use lib.Ieee.{Float}
 use Rattle.point_tables.specs.Meaning.Tables as point
 use Rattle.box_tables.specs.Meaning.Tables as box

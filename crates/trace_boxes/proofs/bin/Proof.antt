@@ -1,5 +1,5 @@
 -- `trace_boxes::bin` meets its contract. Assumes nothing.
-use borrow.Author.Needs.{needs}
+use Rattle.basics.specs.Words.{needs}
 use Rattle.trace_boxes.proofs.bin.Statement.{statement}
 use Rattle.trace_boxes.proofs.bin.Tie as tie
 

@@ -1,5 +1,5 @@
 -- `trace_boxes::bset` meets its contract. Assumes nothing.
-use borrow.Author.Needs.{needs}
+use Rattle.basics.specs.Words.{needs}
 use Rattle.trace_boxes.proofs.bset.Statement.{statement}
 use Rattle.trace_boxes.proofs.bset.Tie as tie
 

@@ -1,6 +1,6 @@
 -- `trace_boxes::change_boxes` meets its contract, line by line. Assumes nothing.
 use Rattle.trace_boxes.specs.Meaning.Changes.{changeOf}
-use borrow.Author.Needs.{needs}
+use Rattle.basics.specs.Words.{needs}
 use Rattle.trace_boxes.proofs.change_boxes.Statement.{statement}
 use Rattle.trace_boxes.proofs.change_boxes.Tie as tie
 

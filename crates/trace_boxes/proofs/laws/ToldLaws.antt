@@ -1,14 +1,7 @@
 -- The findings that a search says are in its outputs. Assumes nothing.
-use Prim.Native.Nat.{ℕ, min, _≤_}
-use mathlib.Core.Path.{_≡_, refl, sym, subst}
-use mathlib.Core.Bool.{Bool, true, false}
-use mathlib.Core.List.{List, map}
-use native.Mathlib.Omega.{arith}
-use native.Mathlib.Nat.{min-le-left, min-le-right}
-use lib.Dec.{eqb, leb}
+use Rattle.basics.specs.Words.{ℕ, min, _≤_, _≡_, refl, sym, subst, Bool, true, false, List, map, length, length-map, eqb, leb, min-le-left, min-le-right, arith}
+use Rattle.basics.specs.Words.{eqb-true, leb-true}
 use lib.Ieee.{Float}
-use lib.ListN.{length, length-map}
-use borrow.Author.Tests.{eqb-true, leb-true}
 use Rattle.basics.specs.Meaning.Limits.{mostCells}
 use Rattle.basics.specs.Meaning.Refusals.{pick}
 use Rattle.geometry.specs.declared.Aabb.{Aabb}

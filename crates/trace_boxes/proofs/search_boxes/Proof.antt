@@ -1,5 +1,5 @@
 -- `trace_boxes::search_boxes` meets its contract. Assumes nothing.
-use borrow.Author.Needs.{needs}
+use Rattle.basics.specs.Words.{needs}
 use Rattle.trace_boxes.proofs.search_boxes.Statement.{statement}
 use Rattle.trace_boxes.proofs.search_boxes.Tie as tie
 

@@ -1,6 +1,5 @@
 -- The line that searches the boxes: a query of the grid, which says its count; the findings are in the outputs. Assumes nothing.
-use Prim.Native.Nat.{ℕ}
-use mathlib.Core.List.{List}
+use Rattle.basics.specs.Words.{ℕ, List}
 use lib.Ieee.{Float}
 use Rattle.box_tables.specs.Meaning.Tables.{Tables}
 use Rattle.box_query.specs.Meaning.Queries.{Findings, queryOf}

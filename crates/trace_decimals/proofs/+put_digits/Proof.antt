@@ -1,10 +1,5 @@
 -- The proof of the cycle of calls {put_digits}: the digits but the last are put by the inner call. The measure is n. Assumes nothing.
-use Prim.Native.Nat.{ℕ, _+_, _/_, _%_, _≤_, _<_}
-use mathlib.Core.Path.{_≡_, sym, ap, _∙_}
-use mathlib.Core.List.{[], _∷_}
-use native.Mathlib.Omega.{arith}
-use lib.ListN.{length}
-use borrow.Author.Needs.{needs}
+use Rattle.basics.specs.Words.{ℕ, _+_, _/_, _%_, _≤_, _<_, _≡_, sym, ap, _∙_, [], _∷_, length, arith, needs}
 use Rattle.trace_decimals.specs.Meaning.Text.{decimal}
 use Rattle.trace_decimals.proofs.laws.TextLaws.{one-digit, last-digit, longer}
 use Rattle.trace_decimals.specs.Meaning.Written.{buffer, putText}

@@ -1,14 +1,6 @@
 -- A field reads as the count k exactly when it is the text of k, and k is not too far from 0. Assumes nothing.
-use Prim.Native.Nat.{ℕ, zero, suc, _≤_}
-use mathlib.Core.Path.{_≡_, refl, sym, ap, _∙_}
-use mathlib.Core.Bool.{Bool, true, false}
-use mathlib.Core.List.{List, [], _∷_}
-use mathlib.Core.Logic.{⊎-elim}
-use native.Mathlib.Omega.{arith}
-use lib.Dec.{eqb}
-use lib.IntN.{ℤ, pos, negsuc, natAbs}
-use lib.ListN.{getD}
-use borrow.Author.Tests.{eqb-true, ne-eqb}
+use Rattle.basics.specs.Words.{ℕ, zero, suc, _≤_, _≡_, refl, sym, ap, _∙_, Bool, true, false, List, [], _∷_, ⊎-elim, getD, eqb, ℤ, pos, negsuc, natAbs, arith}
+use Rattle.basics.specs.Words.{eqb-true, ne-eqb}
 use Rattle.basics.specs.Meaning.Refusals.{pick}
 use Rattle.basics.proofs.laws.Says.{d-lt}
 use Rattle.trace_decimals.specs.declared.Number.{Number}

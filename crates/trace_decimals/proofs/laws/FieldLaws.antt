@@ -1,13 +1,6 @@
 -- A field reads as n exactly when it is the text of n, and n is not too large. Assumes nothing.
-use Prim.Native.Nat.{ℕ, _+_, _-_, _*_, _/_, _%_, _≤_, _<_}
-use mathlib.Core.Path.{_≡_, refl, sym, ap, _∙_}
-use mathlib.Core.Bool.{Bool, true, false, _&&_}
-use mathlib.Core.List.{List, [], _∷_, _++_, append-assoc, append-nil}
-use mathlib.Core.Logic.{⊎-elim}
-use native.Mathlib.Omega.{arith}
-use lib.Dec.{leb, eqb}
-use lib.ListN.{getD}
-use borrow.Author.Tests.{leb-true, eqb-false, le-leb, ne-eqb}
+use Rattle.basics.specs.Words.{ℕ, _+_, _-_, _*_, _/_, _%_, _≤_, _<_, _≡_, refl, sym, ap, _∙_, Bool, true, false, _&&_, List, [], _∷_, _++_, append-assoc}
+use Rattle.basics.specs.Words.{append-nil, ⊎-elim, getD, leb, eqb, arith, leb-true, eqb-false, le-leb, ne-eqb}
 use Rattle.basics.specs.Meaning.Refusals.{pick}
 use Rattle.basics.proofs.laws.Says.{d-lt}
 use Rattle.trace_decimals.specs.declared.Number.the-variants.{Read, Unreadable}

@@ -1,7 +1,5 @@
 -- Worked rows: texts, and fields that read and that do not. Assumes nothing.
-use mathlib.Core.Path.{_≡_, refl}
-use mathlib.Core.List.{[], _∷_, map}
-use lib.IntN.{pos, negsuc}
+use Rattle.basics.specs.Words.{_≡_, refl, [], _∷_, map, pos, negsuc}
 use Rattle.trace_decimals.specs.declared.Number.the-variants.{Read, Unreadable}
 use Rattle.trace_decimals.specs.declared.Count.the-variants.{Counted, NoCount}
 use Rattle.trace_decimals.specs.Meaning.Text.{signedText}

@@ -1,12 +1,6 @@
 -- Reading a part of a list byte by byte: what the code does at each place. Assumes nothing.
-use Prim.Native.Nat.{ℕ, _+_, _≤_, _<_}
-use mathlib.Core.Path.{_≡_, sym, ap, _∙_}
-use mathlib.Core.List.{List, [], _∷_}
-use native.Mathlib.Numerals.{add-one}
-use native.Mathlib.Omega.{arith}
-use lib.ListN.{length, getD}
-use lib.Seq.{slice, slice-empty, slice-cons}
-use borrow.Author.Tests.{ne-eqb, eq-eqb, le-leb, lt-leb}
+use Rattle.basics.specs.Words.{ℕ, _+_, _≤_, _<_, _≡_, sym, ap, _∙_, List, [], _∷_, length, getD, slice, slice-empty, slice-cons, add-one, arith, ne-eqb, eq-eqb}
+use Rattle.basics.specs.Words.{le-leb, lt-leb}
 use Rattle.trace_decimals.specs.declared.Number.the-variants.{Unreadable}
 use Rattle.trace_decimals.specs.Meaning.Fields.{more, digitsFrom, upTo, farthest, plain, negative, countOf}
 use Rattle.trace_decimals.proofs.laws.FieldLaws.{takes}

@@ -1,11 +1,6 @@
 -- The text of a number by its last digit, and how long it is. Assumes nothing.
-use Prim.Native.Nat.{ℕ, zero, suc, _+_, _*_, _/_, _%_, _^_, _≤_, _<_}
-use mathlib.Core.Path.{_≡_, refl, ap, _∙_}
-use mathlib.Core.List.{List, [], _∷_, _++_}
-use mathlib.Core.Logic.{⊎-elim}
-use native.Mathlib.Nat.{pow-suc}
-use native.Mathlib.Omega.{arith}
-use lib.ListN.{length, length-append, getD}
+use Rattle.basics.specs.Words.{ℕ, zero, suc, _+_, _*_, _/_, _%_, _^_, _≤_, _<_, _≡_, refl, ap, _∙_, List, [], _∷_, _++_, ⊎-elim, length, length-append, getD}
+use Rattle.basics.specs.Words.{pow-suc, arith}
 use Rattle.basics.proofs.laws.Says.{d-lt}
 use Rattle.trace_decimals.specs.Meaning.Text.{leading, decimal}
 

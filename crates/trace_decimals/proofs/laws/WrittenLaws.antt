@@ -1,11 +1,6 @@
 -- Texts that are put one behind the other are one text; a text that is put is there, and the buffer stays as long. Assumes nothing.
-use Prim.Native.Nat.{ℕ, _+_, _≤_, _<_}
-use mathlib.Core.Path.{_≡_, sym, ap, _∙_}
-use mathlib.Core.List.{List, [], _∷_, _++_, append-assoc}
-use native.Mathlib.Numerals.{add-one}
-use native.Mathlib.Omega.{arith}
-use lib.ListN.{length, take, drop, set, length-append, length-drop}
-use lib.Seq.{length-take-le, take-at, drop-append-add, drop-drop, set-split}
+use Rattle.basics.specs.Words.{ℕ, _+_, _≤_, _<_, _≡_, sym, ap, _∙_, List, [], _∷_, _++_, append-assoc, length, take, drop, set, length-append, length-drop}
+use Rattle.basics.specs.Words.{length-take-le, take-at, drop-append-add, drop-drop, set-split, add-one, arith}
 use Rattle.trace_decimals.specs.Meaning.Written.{Buffer, buffer, putText, putTextAt}
 
 pub one-byte : (l : List ℕ) (at c : ℕ) → at < length l → buffer (set l at c) (at + 1) ≡ putText (buffer l at) (c ∷ [])

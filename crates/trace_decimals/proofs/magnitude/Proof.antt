@@ -1,5 +1,5 @@
 -- `trace_decimals::magnitude` meets its contract. Assumes nothing.
-use borrow.Author.Needs.{needs}
+use Rattle.basics.specs.Words.{needs}
 use Rattle.trace_decimals.proofs.Signs.{turned-fits, turned-cast, raised-fits, raised, above-cast}
 use Rattle.trace_decimals.proofs.magnitude.Statement.{statement}
 use Rattle.trace_decimals.proofs.magnitude.Tie as tie

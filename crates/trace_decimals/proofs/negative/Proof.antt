@@ -1,8 +1,5 @@
 -- `trace_decimals::negative` meets its contract. Assumes nothing.
-use Prim.Native.Nat.{ℕ, _≤_}
-use mathlib.Core.Path.{sym, ap, _∙_, subst}
-use native.Mathlib.Omega.{arith}
-use borrow.Author.Needs.{needs}
+use Rattle.basics.specs.Words.{ℕ, _≤_, sym, ap, _∙_, subst, arith, needs}
 use Rattle.trace_decimals.specs.Inner.Fields.{Short}
 use Rattle.trace_decimals.specs.Meaning.Fields.{farthest, negative}
 use Rattle.trace_decimals.proofs.Signs.{minus-fits, minus-read}

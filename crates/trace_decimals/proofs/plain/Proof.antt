@@ -1,10 +1,7 @@
 -- `trace_decimals::plain` meets its contract. Assumes nothing.
-use Prim.Native.Nat.{_≤_}
-use mathlib.Core.Path.{sym, ap, _∙_, subst}
-use native.Mathlib.Omega.{arith}
+use Rattle.basics.specs.Words.{_≤_, sym, ap, _∙_, subst, arith, needs}
 use mir.Syntax.{w32}
 use mir.ValLaws.{toZ-pos}
-use borrow.Author.Needs.{needs}
 use Rattle.trace_decimals.specs.declared.Count.the-variants.{Counted}
 use Rattle.trace_decimals.specs.Inner.Fields.{Short}
 use Rattle.trace_decimals.specs.Meaning.Fields.{farthest, plain}

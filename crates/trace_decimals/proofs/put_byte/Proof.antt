@@ -1,5 +1,5 @@
 -- `trace_decimals::put_byte` meets its contract. Assumes nothing.
-use borrow.Author.Needs.{needs}
+use Rattle.basics.specs.Words.{needs}
 use Rattle.trace_decimals.proofs.laws.WrittenLaws.{one-byte}
 use Rattle.trace_decimals.proofs.put_byte.Statement.{statement}
 use Rattle.trace_decimals.proofs.put_byte.Tie as tie

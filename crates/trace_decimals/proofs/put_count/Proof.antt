@@ -1,16 +1,9 @@
 -- `trace_decimals::put_count` meets its contract. Assumes nothing.
-use Prim.Native.Nat.{ℕ}
-use mathlib.Core.Path.{_≡_, refl, sym, ap, _∙_, subst}
-use mathlib.Core.Bool.{true, false}
-use mathlib.Core.List.{[], _∷_}
-use native.Mathlib.Omega.{arith}
-use lib.IntN.{ℤ, pos, negsuc, natAbs}
+use Rattle.basics.specs.Words.{ℕ, _≡_, refl, sym, ap, _∙_, subst, true, false, [], _∷_, ℤ, pos, negsuc, natAbs, arith, ltb-true, needs}
 use lib.Signed.{ltZ}
 use mir.Syntax.{w32}
 use mir.Val.{toZ, ofZ}
 use mir.ValLaws.{toZ-ofZ}
-use borrow.Author.Needs.{needs}
-use borrow.Author.Tests.{ltb-true}
 use Rattle.basics.proofs.laws.Says.{apart}
 use Rattle.trace_decimals.specs.Meaning.Text.{decimal, signedText}
 use Rattle.trace_decimals.specs.Meaning.Written.{buffer, putText}

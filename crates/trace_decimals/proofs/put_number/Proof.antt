@@ -1,6 +1,5 @@
 -- `trace_decimals::put_number` meets its contract: the text has at most 10 digits. Assumes nothing.
-use native.Mathlib.Omega.{arith}
-use borrow.Author.Needs.{needs}
+use Rattle.basics.specs.Words.{arith, needs}
 use Rattle.trace_decimals.proofs.laws.TextLaws.{number-length}
 use Rattle.trace_decimals.proofs.put_number.Statement.{statement}
 use Rattle.trace_decimals.proofs.put_number.Tie as tie

@@ -1,7 +1,5 @@
 -- `trace_decimals::read_count` meets its contract. Assumes nothing.
-use mathlib.Core.Path.{sym, ap, _∙_, subst}
-use native.Mathlib.Omega.{arith}
-use borrow.Author.Needs.{needs}
+use Rattle.basics.specs.Words.{sym, ap, _∙_, subst, arith, needs}
 use Rattle.trace_decimals.specs.Inner.Fields.{Short}
 use Rattle.trace_decimals.specs.Meaning.Fields.{plain, negative, countOf}
 use Rattle.trace_decimals.proofs.laws.CountLaws.{short}

@@ -1,8 +1,5 @@
 -- `trace_decimals::read_digits` meets its contract: what is left, read on from v, is what the whole reads as. The measure is what is left. Assumes nothing.
-use Prim.Native.Nat.{_-_, _≤_}
-use mathlib.Core.Path.{_≡_, refl, _∙_}
-use native.Mathlib.Omega.{arith}
-use lib.Seq.{slice}
+use Rattle.basics.specs.Words.{_-_, _≤_, _≡_, refl, _∙_, slice, arith}
 use Rattle.trace_decimals.specs.Meaning.Fields.{digitsFrom}
 use Rattle.trace_decimals.proofs.laws.StepLaws.{nothing-left, low-stops, high-stops, large-stops, step}
 use Rattle.trace_decimals.proofs.read_digits.Statement.{statement}

@@ -1,5 +1,5 @@
 -- `trace_decimals::read_number` meets its contract. Assumes nothing.
-use borrow.Author.Needs.{needs}
+use Rattle.basics.specs.Words.{needs}
 use Rattle.trace_decimals.specs.Meaning.Fields.{numberOf}
 use Rattle.trace_decimals.proofs.read_number.Statement.{statement}
 use Rattle.trace_decimals.proofs.read_number.Tie as tie

@@ -1,9 +1,5 @@
 -- `trace_decimals::read_up_to` meets its contract. Assumes nothing.
-use Prim.Native.Nat.{_<_}
-use mathlib.Core.Path.{_∙_}
-use mathlib.Core.Logic.{⊎-elim}
-use native.Mathlib.Omega.{arith}
-use borrow.Author.Needs.{needs}
+use Rattle.basics.specs.Words.{_<_, _∙_, ⊎-elim, arith, needs}
 use Rattle.trace_decimals.specs.Meaning.Fields.{upTo}
 use Rattle.trace_decimals.proofs.laws.StepLaws.{nothing-left, leading-zero, no-leading-zero, last-byte}
 use Rattle.trace_decimals.proofs.read_up_to.Statement.{statement}

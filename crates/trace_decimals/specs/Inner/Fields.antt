@@ -1,6 +1,6 @@
 -- What the bytes of a field read as, digit by digit. Assumes nothing.
 -- Here: what only inner contracts cite.
-use Prim.Native.Nat.{_≤_}
+use Rattle.basics.specs.Words.{_≤_}
 use Rattle.trace_decimals.specs.declared.Number.{Number}
 use Rattle.trace_decimals.specs.declared.Number.the-variants.{Read, Unreadable}
 use Rattle.trace_decimals.specs.Meaning.Fields.{farthest}

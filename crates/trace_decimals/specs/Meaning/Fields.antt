@@ -1,9 +1,5 @@
 -- What the bytes of a field read as, digit by digit. Assumes nothing.
-use Prim.Native.Nat.{ℕ, zero, suc, _+_, _-_, _*_}
-use mathlib.Core.Bool.{Bool, _&&_}
-use mathlib.Core.List.{List, [], _∷_}
-use lib.Dec.{leb, eqb}
-use lib.IntN.{pos, negsuc}
+use Rattle.basics.specs.Words.{ℕ, zero, suc, _+_, _-_, _*_, Bool, _&&_, List, [], _∷_, leb, eqb, pos, negsuc}
 use Rattle.basics.specs.Meaning.Refusals.{pick}
 use Rattle.trace_decimals.specs.declared.Number.{Number}
 use Rattle.trace_decimals.specs.declared.Number.the-variants.{Read, Unreadable}

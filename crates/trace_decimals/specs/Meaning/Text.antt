@@ -1,7 +1,5 @@
 -- The decimal text of a number: no plus, no leading zero, no -0. Bytes are ASCII: 48 to 57 are the digits, 45 is the minus. Assumes nothing.
-use Prim.Native.Nat.{ℕ, zero, suc, _+_, _/_, _%_}
-use mathlib.Core.List.{List, [], _∷_, _++_}
-use lib.IntN.{ℤ, pos, negsuc}
+use Rattle.basics.specs.Words.{ℕ, zero, suc, _+_, _/_, _%_, List, [], _∷_, _++_, ℤ, pos, negsuc}
 
 -- the digits of n, and none for 0; n has at most `most` of them
 unfoldable pub leading : ℕ → ℕ → List ℕ

@@ -1,7 +1,5 @@
 -- A buffer that is written from the front: its bytes, and where the next one goes. Assumes nothing.
-use Prim.Native.Nat.{ℕ, _+_}
-use mathlib.Core.List.{List, _++_}
-use lib.ListN.{length, take, drop}
+use Rattle.basics.specs.Words.{ℕ, _+_, List, _++_, length, take, drop}
 
 -- `text` stands at `at`, and every other byte is as it was
 abbrev pub putTextAt : List ℕ → ℕ → List ℕ → List ℕ

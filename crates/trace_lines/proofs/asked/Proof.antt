@@ -1,5 +1,5 @@
 -- `trace_lines::asked` meets its contract, part by part of the table. Assumes nothing.
-use borrow.Author.Needs.{needs}
+use Rattle.basics.specs.Words.{needs}
 use Rattle.trace_lines.specs.Meaning.Words.{askedBy}
 use Rattle.trace_lines.proofs.asked.Statement.{statement}
 use Rattle.trace_lines.proofs.asked.Tie as tie

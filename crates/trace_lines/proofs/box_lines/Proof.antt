@@ -1,5 +1,5 @@
 -- `trace_lines::box_lines` meets its contract, row by row. Assumes nothing.
-use borrow.Author.Needs.{needs}
+use Rattle.basics.specs.Words.{needs}
 use Rattle.trace_lines.proofs.box_lines.Statement.{statement}
 use Rattle.trace_lines.proofs.box_lines.Tie as tie
 

@@ -1,7 +1,5 @@
 -- Records and what they read as, row by row.
-use mathlib.Core.Path.{_≡_, refl}
-use mathlib.Core.List.{[], _∷_, map}
-use lib.IntN.{pos, negsuc}
+use Rattle.basics.specs.Words.{_≡_, refl, [], _∷_, map, pos, negsuc}
 use Rattle.trace_decimals.specs.Meaning.Fields.{digitsFrom, upTo, numberOf, countOf}
 use Rattle.trace_lines.specs.declared.Line.the-variants.{Cell, PointChange, PointSearch}
 use Rattle.trace_lines.specs.declared.PointChange.the-variants.{Ins, Rem, Mnt}

@@ -1,15 +1,7 @@
 -- Walking a record field by field meets its fields. Assumes nothing.
-use Prim.Native.Nat.{ℕ, suc, _+_, _≤_, _<_}
-use mathlib.Core.Path.{_≡_, refl, sym, ap, _∙_}
-use mathlib.Core.Bool.{Bool, true, false}
-use mathlib.Core.List.{List, [], _∷_}
-use mathlib.Core.Logic.{⊎-elim}
-use native.Mathlib.Omega.{arith}
-use native.Mathlib.Numerals.{add-one}
-use lib.Dec.{eqb, ltb}
-use lib.ListN.{length, take, drop, getD, length-drop, drop-of-length-le}
-use lib.Seq.{slice, take-add, drop-at, drop-drop, drop-cons, length-take-le}
-use borrow.Author.Tests.{eq-eqb, ne-eqb, lt-ltb, le-ltb, le-leb, lt-leb}
+use Rattle.basics.specs.Words.{ℕ, suc, _+_, _≤_, _<_, _≡_, refl, sym, ap, _∙_, Bool, true, false, List, [], _∷_, ⊎-elim, length, take, drop, getD, length-drop}
+use Rattle.basics.specs.Words.{drop-of-length-le, slice, take-add, drop-at, drop-drop, drop-cons, length-take-le, eqb, ltb, add-one, arith, eq-eqb, ne-eqb}
+use Rattle.basics.specs.Words.{lt-ltb, le-ltb, le-leb, lt-leb}
 use Rattle.basics.specs.Meaning.Refusals.{pick}
 use Rattle.basics.proofs.laws.Says.{d-lt}
 use Rattle.trace_splits.specs.Meaning.Records.{onto}

@@ -1,11 +1,5 @@
 -- A taker takes exactly the texts of the values in range. That holds of a number and of a count, and of what is made of them. Assumes nothing.
-use Prim.Native.Nat.{ℕ}
-use mathlib.Core.Path.{_≡_, refl, sym, ap, subst, _∙_}
-use mathlib.Core.Bool.{Bool, true, false}
-use mathlib.Core.List.{List, [], _∷_, _++_, append-assoc, append-nil}
-use native.Mathlib.Omega.{arith}
-use lib.Dec.{ltb}
-use lib.IntN.{ℤ, pos}
+use Rattle.basics.specs.Words.{ℕ, _≡_, refl, sym, ap, subst, _∙_, Bool, true, false, List, [], _∷_, _++_, append-assoc, append-nil, ltb, ℤ, pos, arith}
 use Rattle.trace_decimals.specs.declared.Number.{Number}
 use Rattle.trace_decimals.specs.declared.Number.the-variants as read
 use Rattle.trace_decimals.specs.declared.Count.{Count}

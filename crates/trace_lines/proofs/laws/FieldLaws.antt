@@ -1,12 +1,6 @@
 -- Fields and the record that they make: each is had from the other, as long as no field has a comma. Assumes nothing.
-use Prim.Native.Nat.{ℕ, suc, _+_}
-use mathlib.Core.Path.{_≡_, refl, sym, ap, _∙_}
-use mathlib.Core.Bool.{Bool, true, false, _&&_, not}
-use mathlib.Core.List.{List, [], _∷_, _++_}
-use native.Mathlib.Omega.{arith}
-use lib.Dec.{eqb}
-use lib.ListN.{length, length-append}
-use borrow.Author.Tests.{eqb-true}
+use Rattle.basics.specs.Words.{ℕ, suc, _+_, _≡_, refl, sym, ap, _∙_, Bool, true, false, _&&_, not, List, [], _∷_, _++_, length, length-append, eqb, arith}
+use Rattle.basics.specs.Words.{eqb-true}
 use Rattle.basics.specs.Meaning.Refusals.{pick}
 use Rattle.basics.proofs.laws.Says.{apart}
 use Rattle.trace_splits.specs.Meaning.Records.{onto}

@@ -1,13 +1,6 @@
 -- A record as the code walks it; and of the records of an input the first 129 bytes are enough. Assumes nothing.
-use Prim.Native.Nat.{ℕ, _+_, _≤_, _<_}
-use mathlib.Core.Path.{_≡_, refl, sym, ap, _∙_}
-use mathlib.Core.Bool.{Bool}
-use mathlib.Core.List.{List, [], _∷_, map}
-use mathlib.Core.Logic.{⊎-elim}
-use native.Mathlib.Omega.{arith}
-use lib.ListN.{length, take, length-take}
-use lib.Seq.{take-all}
-use borrow.Author.Tests.{le-leb, lt-leb}
+use Rattle.basics.specs.Words.{ℕ, _+_, _≤_, _<_, _≡_, refl, sym, ap, _∙_, Bool, List, [], _∷_, map, ⊎-elim, length, take, length-take, take-all, arith, le-leb}
+use Rattle.basics.specs.Words.{lt-leb}
 use Rattle.basics.specs.Meaning.Refusals.{pick}
 use Rattle.basics.proofs.laws.Says.{d-le}
 use Rattle.trace_splits.specs.Inner.Records.{recordsOf}

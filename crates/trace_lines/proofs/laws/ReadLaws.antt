@@ -1,21 +1,13 @@
 -- A record is read as a request exactly when it is a text of that request, with its numbers in range. Assumes nothing.
-use Prim.Native.Nat.{ℕ, _≤_}
-use mathlib.Core.Path.{_≡_, refl, sym, ap, subst, _∙_}
-use mathlib.Core.Bool.{Bool, true, false}
-use mathlib.Core.List.{List, [], _∷_}
-use native.Mathlib.Omega.{arith}
-use lib.Dec.{leb}
-use lib.ListN.{length}
-use borrow.Author.Tests.{le-leb}
+use Rattle.basics.specs.Words.{ℕ, _≤_, _≡_, refl, sym, ap, subst, _∙_, Bool, true, false, List, [], _∷_, length, leb, arith, le-leb}
 use Rattle.basics.specs.Meaning.Refusals.{pick}
-use Rattle.trace_lines.specs.declared.Line.{Line}
 use Rattle.trace_lines.specs.declared.Line.the-variants.{Unreadable}
 use Rattle.trace_lines.specs.declared.Request.{Request}
 use Rattle.trace_lines.specs.Meaning.Fields.{fieldsOf}
 use Rattle.trace_lines.specs.Inner.Fields.{joined}
 use Rattle.trace_lines.specs.Meaning.Words.{askedBy}
 use Rattle.trace_lines.specs.Meaning.Requests.{unreadable, ofFields, requestOf}
-use Rattle.trace_lines.specs.Inner.Texts.{argumentTexts, requestText, ArgumentsInRange, Proper}
+use Rattle.trace_lines.specs.Inner.Texts.{argumentTexts, requestText, Proper}
 use Rattle.trace_lines.proofs.laws.FieldLaws.{joined-fields, fields-joined, joined-length}
 use Rattle.trace_lines.proofs.laws.WordLaws.{is-word}
 use Rattle.trace_lines.proofs.laws.TextLaws.{arguments-clear, arguments-size}

@@ -1,13 +1,5 @@
 -- The text of a request has no comma but between its fields, and is short. Assumes nothing.
-use Prim.Native.Nat.{ℕ, suc, _+_, _≤_, _%_, _/_}
-use mathlib.Core.Path.{_≡_, ap, _∙_}
-use mathlib.Core.Bool.{Bool, true, false}
-use mathlib.Core.List.{List, [], _∷_, _++_}
-use native.Mathlib.Omega.{arith}
-use lib.Dec.{ltb}
-use lib.IntN.{ℤ, pos, negsuc}
-use lib.ListN.{length}
-use borrow.Author.Tests.{ne-eqb}
+use Rattle.basics.specs.Words.{ℕ, suc, _+_, _≤_, _%_, _/_, _≡_, ap, _∙_, Bool, true, false, List, [], _∷_, _++_, length, ltb, ℤ, pos, negsuc, arith, ne-eqb}
 use Rattle.slots.specs.declared.Handle.{Handle}
 use Rattle.trace_decimals.specs.Meaning.Text.{decimal, signedText}
 use Rattle.trace_decimals.proofs.laws.TextLaws.{one-digit, last-digit, by-digits, number-length}

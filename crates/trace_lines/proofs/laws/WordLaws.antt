@@ -1,13 +1,6 @@
 -- A first field is a word exactly when it is its letters. Assumes nothing.
-use Prim.Native.Nat.{ℕ, _≤_, _<_}
-use mathlib.Core.Path.{_≡_, refl, sym, ap, _∙_}
-use mathlib.Core.Bool.{Bool, true, false, _&&_}
-use mathlib.Core.List.{List, [], _∷_}
-use native.Mathlib.Omega.{arith}
-use lib.Dec.{eqb, leb}
-use lib.ListN.{length, getD}
-use lib.Seq.{ext-getD}
-use borrow.Author.Tests.{eqb-true, eq-eqb, leb-true}
+use Rattle.basics.specs.Words.{ℕ, _≤_, _<_, _≡_, refl, ap, _∙_, Bool, true, false, _&&_, List, [], _∷_, length, getD, ext-getD, eqb, leb, eqb-true, eq-eqb}
+use Rattle.basics.specs.Words.{leb-true}
 use Rattle.basics.specs.Meaning.Refusals.{pick}
 use Rattle.basics.proofs.laws.Says.{apart}
 use Rattle.trace_lines.specs.declared.Line.the-variants.{Unreadable}

@@ -1,5 +1,5 @@
 -- `trace_lines::point_searches` meets its contract, row by row. Assumes nothing.
-use borrow.Author.Needs.{needs}
+use Rattle.basics.specs.Words.{needs}
 use Rattle.trace_lines.proofs.point_searches.Statement.{statement}
 use Rattle.trace_lines.proofs.point_searches.Tie as tie
 

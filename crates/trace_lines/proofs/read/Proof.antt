@@ -1,8 +1,5 @@
 -- `trace_lines::read` meets its contract. Assumes nothing.
-use mathlib.Core.Path.{sym, ap, _∙_}
-use native.Mathlib.Omega.{arith}
-use lib.Seq.{take-all, length-take-le}
-use borrow.Author.Needs.{needs}
+use Rattle.basics.specs.Words.{sym, ap, _∙_, take-all, length-take-le, arith, needs}
 use Rattle.trace_lines.specs.Meaning.Requests.{requestOf}
 use Rattle.trace_lines.proofs.read.Statement.{statement}
 use Rattle.trace_lines.proofs.read.Tie as tie

@@ -1,6 +1,5 @@
 -- `trace_lines::read_record` meets its contract. Assumes nothing.
-use mathlib.Core.Path.{sym, _∙_}
-use borrow.Author.Needs.{needs}
+use Rattle.basics.specs.Words.{sym, _∙_, needs}
 use Rattle.trace_lines.proofs.laws.InputLaws.{too-long}
 use Rattle.trace_lines.proofs.read_record.Statement.{statement}
 use Rattle.trace_lines.proofs.read_record.Tie as tie

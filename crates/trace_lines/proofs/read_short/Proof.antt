@@ -1,8 +1,5 @@
 -- `trace_lines::read_short` meets its contract. Assumes nothing.
-use mathlib.Core.Path.{sym}
-use native.Mathlib.Omega.{arith}
-use lib.Seq.{length-take-le}
-use borrow.Author.Needs.{needs}
+use Rattle.basics.specs.Words.{sym, length-take-le, arith, needs}
 use Rattle.trace_lines.proofs.laws.CursorLaws.{end-within}
 use Rattle.trace_lines.proofs.laws.InputLaws.{read-at}
 use Rattle.trace_lines.proofs.read_short.Statement.{statement}

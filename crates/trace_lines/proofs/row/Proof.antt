@@ -1,6 +1,6 @@
 -- `trace_lines::row` meets its contract. Assumes nothing.
 use Rattle.trace_lines.specs.Meaning.Words.{rowSays}
-use borrow.Author.Needs.{needs}
+use Rattle.basics.specs.Words.{needs}
 use Rattle.trace_lines.proofs.row.Statement.{statement}
 use Rattle.trace_lines.proofs.row.Tie as tie
 

@@ -1,9 +1,5 @@
 -- The fields from a place on, for code that walks a record: where a field ends, and what a taker of the code took. Assumes nothing.
-use Prim.Native.Nat.{ℕ, suc, _+_}
-use mathlib.Core.List.{List, [], _∷_}
-use lib.Dec.{eqb, leb}
-use lib.IntN.{ℤ}
-use lib.ListN.{length, drop}
+use Rattle.basics.specs.Words.{ℕ, suc, _+_, List, [], _∷_, length, drop, eqb, leb, ℤ}
 use Rattle.basics.specs.Meaning.Refusals.{pick}
 use Rattle.slots.specs.declared.Handle.{Handle}
 use Rattle.trace_lines.specs.declared.Spot.{Spot}

@@ -1,7 +1,6 @@
 -- The fields of a record: its bytes are cut at each comma. Assumes nothing.
 -- Here: what only inner contracts cite.
-use Prim.Native.Nat.{ℕ}
-use mathlib.Core.List.{List, [], _∷_, _++_}
+use Rattle.basics.specs.Words.{ℕ, List, [], _∷_, _++_}
 use Rattle.trace_lines.specs.Meaning.Fields.{comma}
 
 -- the record of some fields

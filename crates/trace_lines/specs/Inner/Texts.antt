@@ -1,10 +1,5 @@
 -- The text of a request behind its word, and when its numbers are in range. Assumes nothing.
-use Prim.Native.Nat.{ℕ, _≤_}
-use mathlib.Core.Path.{_≡_}
-use mathlib.Core.Bool.{Bool, true, false}
-use mathlib.Core.List.{List, [], _∷_, _++_}
-use lib.Dec.{ltb}
-use lib.IntN.{ℤ, pos, natAbs}
+use Rattle.basics.specs.Words.{ℕ, _≤_, _≡_, Bool, true, false, List, [], _∷_, _++_, ltb, ℤ, pos, natAbs}
 use Rattle.basics.specs.Meaning.Refusals.{pick}
 use Rattle.slots.specs.declared.Handle.{Handle}
 use Rattle.trace_decimals.specs.Meaning.Text.{decimal, signedText}

@@ -1,7 +1,5 @@
 -- The fields of a record: its bytes are cut at each comma. Assumes nothing.
-use Prim.Native.Nat.{ℕ}
-use mathlib.Core.List.{List, [], _∷_}
-use lib.Dec.{eqb}
+use Rattle.basics.specs.Words.{ℕ, List, [], _∷_, eqb}
 use Rattle.basics.specs.Meaning.Refusals.{pick}
 use Rattle.trace_splits.specs.Meaning.Records.{onto}
 

@@ -1,10 +1,6 @@
 -- The request that a record reads as: the first field is its word, and the fields behind it are what the word asks for, no more and no fewer.
 -- Assumes nothing.
-use Prim.Native.Nat.{ℕ}
-use mathlib.Core.List.{List, [], _∷_}
-use lib.Dec.{leb}
-use lib.IntN.{ℤ, pos}
-use lib.ListN.{length}
+use Rattle.basics.specs.Words.{ℕ, List, [], _∷_, length, leb, ℤ, pos}
 use Rattle.basics.specs.Meaning.Refusals.{pick}
 use Rattle.slots.specs.declared.Handle.{Handle}
 use Rattle.trace_lines.specs.declared.Spot.{Spot}

@@ -1,9 +1,5 @@
 -- What is taken off the front of a list of fields: a value and the fields behind it, or nothing, where they do not read so. Assumes nothing.
-use Prim.Native.Nat.{ℕ}
-use mathlib.Core.List.{List, [], _∷_}
-use mathlib.Core.Bool.{Bool}
-use lib.Dec.{ltb}
-use lib.IntN.{ℤ, pos}
+use Rattle.basics.specs.Words.{ℕ, Bool, List, [], _∷_, ltb, ℤ, pos}
 use Rattle.basics.specs.Meaning.Refusals.{pick}
 use Rattle.slots.specs.declared.Handle.{Handle}
 use Rattle.trace_decimals.specs.declared.Number.{Number}

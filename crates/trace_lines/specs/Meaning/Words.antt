@@ -1,8 +1,5 @@
 -- The words that a record may begin with, in ASCII, and what each asks for. Assumes nothing.
-use Prim.Native.Nat.{ℕ}
-use mathlib.Core.Bool.{Bool, true, false, _&&_}
-use mathlib.Core.List.{List, [], _∷_, _++_}
-use lib.Dec.{eqb}
+use Rattle.basics.specs.Words.{ℕ, Bool, true, false, _&&_, List, [], _∷_, _++_, eqb}
 use Rattle.basics.specs.Meaning.Refusals.{pick}
 use Rattle.trace_lines.specs.declared.Line.{Line}
 use Rattle.trace_lines.specs.declared.Line.the-variants.{Cell, PointChange, PointSearch, BoxChange, BoxSearch, Unreadable}

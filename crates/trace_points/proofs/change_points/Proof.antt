@@ -1,6 +1,6 @@
 -- `trace_points::change_points` meets its contract, line by line. Assumes nothing.
 use Rattle.trace_points.specs.Meaning.Changes.{changeOf}
-use borrow.Author.Needs.{needs}
+use Rattle.basics.specs.Words.{needs}
 use Rattle.trace_points.proofs.change_points.Statement.{statement}
 use Rattle.trace_points.proofs.change_points.Tie as tie
 

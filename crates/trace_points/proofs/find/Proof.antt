@@ -1,6 +1,6 @@
 -- `trace_points::find` meets its contract, line by line. Assumes nothing.
 use Rattle.trace_points.specs.Meaning.Searches.{findingsOf}
-use borrow.Author.Needs.{needs}
+use Rattle.basics.specs.Words.{needs}
 use Rattle.trace_points.proofs.find.Statement.{statement}
 use Rattle.trace_points.proofs.find.Tie as tie
 

@@ -1,5 +1,5 @@
 -- `trace_points::ins` meets its contract. Assumes nothing.
-use borrow.Author.Needs.{needs}
+use Rattle.basics.specs.Words.{needs}
 use Rattle.trace_points.proofs.ins.Statement.{statement}
 use Rattle.trace_points.proofs.ins.Tie as tie
 

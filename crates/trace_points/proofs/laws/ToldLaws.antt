@@ -1,15 +1,7 @@
 -- The findings that a search says are in its outputs. Assumes nothing.
-use Prim.Native.Nat.{ℕ, min, _≤_}
-use mathlib.Core.Path.{_≡_, refl, sym, subst}
-use mathlib.Core.Bool.{Bool, true, false, _&&_}
-use mathlib.Core.List.{List, map}
-use native.Mathlib.Omega.{arith}
-use native.Mathlib.Nat.{min-le-left, min-le-right}
-use lib.Dec.{eqb, leb}
+use Rattle.basics.specs.Words.{ℕ, min, _≤_, _≡_, refl, sym, subst, Bool, true, false, _&&_, List, map, length, length-map, eqb, leb, ℤ, min-le-left}
+use Rattle.basics.specs.Words.{min-le-right, arith, eqb-true, leb-true}
 use lib.Ieee.{Float}
-use lib.IntN.{ℤ}
-use lib.ListN.{length, length-map}
-use borrow.Author.Tests.{eqb-true, leb-true}
 use Rattle.basics.specs.Meaning.Limits.{mostCells}
 use Rattle.basics.specs.Meaning.Refusals.{pick}
 use Rattle.geometry.specs.declared.Position.{Position}
@@ -31,7 +23,6 @@ use Rattle.trace_telling.specs.Meaning.Places.{placeOf}
 use Rattle.point_query.specs.declared.Test.{Test}
 use Rattle.point_query.specs.declared.Test.the-variants.{Any, Circle, Rectangle}
 use Rattle.point_query.specs.Meaning.Queries as query
-use Rattle.trace_printing.specs.declared.Said.{Said}
 use Rattle.trace_printing.specs.declared.Said.the-variants.{Refused, Done, One, Two, Points}
 use Rattle.trace_printing.specs.Inner.Said.{Told}
 use Rattle.replies.specs.Meaning.Replies.{count}

@@ -1,5 +1,5 @@
 -- `trace_points::mnt` meets its contract. Assumes nothing.
-use borrow.Author.Needs.{needs}
+use Rattle.basics.specs.Words.{needs}
 use Rattle.trace_points.proofs.mnt.Statement.{statement}
 use Rattle.trace_points.proofs.mnt.Tie as tie
 

@@ -1,5 +1,5 @@
 -- `trace_points::rem` meets its contract. Assumes nothing.
-use borrow.Author.Needs.{needs}
+use Rattle.basics.specs.Words.{needs}
 use Rattle.trace_points.proofs.rem.Statement.{statement}
 use Rattle.trace_points.proofs.rem.Tie as tie
 

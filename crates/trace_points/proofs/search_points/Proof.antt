@@ -1,9 +1,8 @@
 -- `trace_points::search_points` meets its contract. Assumes nothing.
-use mathlib.Core.Path.{ap, _∙_}
+use Rattle.basics.specs.Words.{ap, _∙_, needs}
 use mir.Syntax.{w32}
 use mir.ValLaws.{toZ-ofZ}
 use Rattle.trace_sixteenths.specs.Meaning.Sixteenth.{sixteenth}
-use borrow.Author.Needs.{needs}
 use Rattle.trace_points.proofs.search_points.Statement.{statement}
 use Rattle.trace_points.proofs.search_points.Tie as tie
 

@@ -1,5 +1,5 @@
 -- The lines that change the points: each is a call of the grid, and says its answer and what it returned. Assumes nothing.
-use Prim.Native.Nat.{ℕ}
+use Rattle.basics.specs.Words.{ℕ}
 use Rattle.slots.specs.declared.Handle.{Handle}
 use Rattle.point_tables.specs.Meaning.Tables.{Tables}
 use Rattle.point_tables.specs.Meaning.Outcome.{Outcome, outcome}

@@ -1,8 +1,6 @@
 -- The lines that search the points: each is a query of the grid, and says its count; the findings are in the outputs. Assumes nothing.
-use Prim.Native.Nat.{ℕ}
-use mathlib.Core.List.{List}
+use Rattle.basics.specs.Words.{ℕ, List, ℤ}
 use lib.Ieee.{Float}
-use lib.IntN.{ℤ}
 use Rattle.geometry.specs.declared.Position.{Position}
 use Rattle.point_tables.specs.Meaning.Tables.{Tables}
 use Rattle.point_query.specs.Meaning.Queries.{Findings, queryOf, aroundOf, aabbOf}

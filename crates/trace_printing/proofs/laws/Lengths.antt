@@ -1,10 +1,7 @@
 -- How long the text of a coordinate can be: a minus and 10 digits. Assumes nothing.
-use Prim.Native.Nat.{suc, _≤_}
-use native.Mathlib.Omega.{arith}
-use lib.IntN.{ℤ, pos, negsuc}
+use Rattle.basics.specs.Words.{suc, _≤_, length, ℤ, pos, negsuc, arith}
 use lib.Ieee.{Float}
 use lib.Ieee.Casts.{toSigned-in}
-use lib.ListN.{length}
 use mir.Syntax.{w32}
 use mir.Val.{SFits}
 use Rattle.trace_decimals.specs.Meaning.Text.{signedText}

@@ -1,10 +1,6 @@
 -- What a function that writes says: the text that it put, and at most how long that is. Assumes nothing.
 -- Here: the laws.
-use Prim.Native.Nat.{ℕ, _+_, _≤_}
-use mathlib.Core.Path.{_≡_, sym, ap, _∙_}
-use mathlib.Core.List.{List, [], _++_}
-use native.Mathlib.Omega.{arith}
-use lib.ListN.{length, take, drop, take-append-drop}
+use Rattle.basics.specs.Words.{ℕ, _+_, _≤_, _≡_, sym, ap, _∙_, List, [], _++_, length, take, drop, take-append-drop, arith}
 use Rattle.trace_decimals.specs.Meaning.Written.{Buffer, buffer, putText}
 use Rattle.trace_decimals.proofs.laws.WrittenLaws.{put-put, next-is, length-is}
 use Rattle.trace_printing.specs.Inner.Puts.{Puts}

@@ -1,8 +1,5 @@
 -- Rows of the worked trace, as bytes. Assumes nothing.
-use mathlib.Core.Path.{_≡_, refl}
-use mathlib.Core.List.{[], _∷_}
-use lib.IntN.{pos, negsuc}
-use native.Mathlib.Omega.{arith}
+use Rattle.basics.specs.Words.{_≡_, refl, [], _∷_, pos, negsuc, arith}
 use Rattle.trace_sixteenths.specs.Meaning.Sixteenth.{sixteenth}
 use Rattle.trace_sixteenths.proofs.laws.SixteenthLaws.{count-back}
 use Rattle.trace_decimals.specs.Meaning.Text.{decimal, signedText}

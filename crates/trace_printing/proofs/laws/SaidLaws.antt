@@ -1,7 +1,5 @@
 -- The text of each kind of answer, as it is put; and what Told says of findings. Assumes nothing.
-use Prim.Native.Nat.{ℕ, _≤_}
-use mathlib.Core.Path.{_≡_, sym, ap, _∙_, subst}
-use mathlib.Core.List.{List, _++_, append-assoc}
+use Rattle.basics.specs.Words.{ℕ, _≤_, _≡_, sym, ap, _∙_, subst, List, _++_, append-assoc}
 use lib.Ieee.{Float}
 use Rattle.trace_decimals.specs.Meaning.Text.{decimal}
 use Rattle.trace_printing.specs.declared.Said.{Said}

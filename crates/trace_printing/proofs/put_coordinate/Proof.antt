@@ -1,10 +1,5 @@
 -- `trace_printing::put_coordinate` meets its contract. Assumes nothing.
-use Prim.Native.Nat.{_≤_}
-use mathlib.Core.Path.{_≡_, sym, ap, _∙_, subst}
-use mathlib.Core.List.{[], _∷_}
-use native.Mathlib.Omega.{arith}
-use lib.IntN.{ℤ}
-use lib.ListN.{length}
+use Rattle.basics.specs.Words.{_≤_, _≡_, sym, ap, _∙_, subst, [], _∷_, length, ℤ, arith, needs}
 use mir.Syntax.{w32}
 use mir.Val.{SFits, toZ, ofZ}
 use mir.ValLaws.{toZ-ofZ}
@@ -13,7 +8,6 @@ use Rattle.trace_decimals.specs.Meaning.Text.{signedText}
 use Rattle.trace_sixteenths.specs.Meaning.Sixteenth.{sixteenthsOf}
 use Rattle.trace_printing.proofs.laws.Lengths.{count-fits, coordinate-length}
 use Rattle.trace_printing.proofs.laws.Puts.{puts-is, puts-then, puts-as}
-use borrow.Author.Needs.{needs}
 use Rattle.trace_printing.proofs.put_coordinate.Statement.{statement}
 use Rattle.trace_printing.proofs.put_coordinate.Tie as tie
 

@@ -1,7 +1,6 @@
 -- `trace_printing::put_corner` meets its contract. Assumes nothing.
-use native.Mathlib.Omega.{arith}
+use Rattle.basics.specs.Words.{arith, needs}
 use Rattle.trace_printing.proofs.laws.Puts.{puts-then}
-use borrow.Author.Needs.{needs}
 use Rattle.trace_printing.proofs.put_corner.Statement.{statement}
 use Rattle.trace_printing.proofs.put_corner.Tie as tie
 

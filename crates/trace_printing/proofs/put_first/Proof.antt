@@ -1,8 +1,7 @@
 -- `trace_printing::put_first` meets its contract: the text has at most 10 digits. Assumes nothing.
-use native.Mathlib.Omega.{arith}
+use Rattle.basics.specs.Words.{arith, needs}
 use Rattle.trace_decimals.proofs.laws.TextLaws.{number-length}
 use Rattle.trace_printing.proofs.laws.Puts.{puts-is}
-use borrow.Author.Needs.{needs}
 use Rattle.trace_printing.proofs.put_first.Statement.{statement}
 use Rattle.trace_printing.proofs.put_first.Tie as tie
 

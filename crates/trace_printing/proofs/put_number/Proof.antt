@@ -1,10 +1,8 @@
 -- `trace_printing::put_number` meets its contract. Assumes nothing.
-use mathlib.Core.List.{[], _∷_}
-use native.Mathlib.Omega.{arith}
+use Rattle.basics.specs.Words.{[], _∷_, arith, needs}
 use Rattle.trace_decimals.proofs.laws.TextLaws.{number-length}
 use Rattle.trace_decimals.proofs.laws.WrittenLaws.{next-is}
 use Rattle.trace_printing.proofs.laws.Puts.{puts-is, puts-then}
-use borrow.Author.Needs.{needs}
 use Rattle.trace_printing.proofs.put_number.Statement.{statement}
 use Rattle.trace_printing.proofs.put_number.Tie as tie
 

@@ -1,8 +1,5 @@
 -- `trace_printing::put_points` meets its contract: the findings so far are put. The measure is what is left. Assumes nothing.
-use Prim.Native.Nat.{_*_, _-_, _≤_}
-use mathlib.Core.Path.{_≡_, sym, ap}
-use native.Mathlib.Numerals.{add-one}
-use native.Mathlib.Omega.{arith}
+use Rattle.basics.specs.Words.{_*_, _-_, _≤_, _≡_, sym, ap, add-one, arith}
 use Rattle.trace_printing.specs.Meaning.Said.{pointsText}
 use Rattle.trace_printing.specs.Inner.Puts.{Puts}
 use Rattle.trace_printing.proofs.laws.Puts.{puts-none, puts-length, puts-then, puts-as}

@@ -1,9 +1,7 @@
 -- `trace_printing::put_record` meets its contract. Assumes nothing.
-use mathlib.Core.Path.{refl}
-use native.Mathlib.Omega.{arith}
+use Rattle.basics.specs.Words.{refl, arith, needs}
 use Rattle.trace_printing.specs.Meaning.Said.{recordText}
 use Rattle.trace_printing.proofs.laws.Puts.{puts-is, puts-then, puts-as}
-use borrow.Author.Needs.{needs}
 use Rattle.trace_printing.proofs.put_record.Statement.{statement}
 use Rattle.trace_printing.proofs.put_record.Tie as tie
 

@@ -1,9 +1,7 @@
 -- `trace_printing::put_said` meets its contract. Assumes nothing.
-use native.Mathlib.Omega.{arith}
-use lib.ListN.{length}
+use Rattle.basics.specs.Words.{length, arith, needs}
 use Rattle.trace_printing.proofs.laws.SaidLaws.{refused-text, done-text, one-text, two-text, points-text, boxes-text, points-told, boxes-told}
 use Rattle.trace_printing.proofs.laws.Puts.{puts-then, puts-as}
-use borrow.Author.Needs.{needs}
 use Rattle.trace_printing.proofs.put_said.Statement.{statement}
 use Rattle.trace_printing.proofs.put_said.Tie as tie
 

@@ -1,8 +1,6 @@
 -- What a function that writes says: the text that it put, and at most how long that is. Assumes nothing.
 -- Here: what only inner contracts cite.
-use Prim.Native.Nat.{ℕ, _+_, _≤_}
-use mathlib.Core.Path.{_≡_}
-use mathlib.Core.List.{List}
+use Rattle.basics.specs.Words.{ℕ, _+_, _≤_, _≡_, List}
 use Rattle.trace_decimals.specs.Meaning.Written.{buffer, putText}
 
 -- from place `at` of the bytes a on, up to r, where the bytes are then b

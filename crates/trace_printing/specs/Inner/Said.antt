@@ -1,7 +1,7 @@
 -- The record that tells an answer: a refusal is its number alone; after 0 come the numbers that there are to tell, and for a query its
 -- count and then slot, version and coordinates of each finding. Assumes nothing.
 -- Here: what only inner contracts cite.
-use Prim.Native.Nat.{ℕ, _-_, _≤_}
+use Rattle.basics.specs.Words.{ℕ, _-_, _≤_}
 use Rattle.trace_printing.specs.declared.Said.{Said}
 use Rattle.trace_printing.specs.declared.Said.the-variants.{Refused, Done, One, Two, Points, Boxes}
 use Rattle.trace_printing.specs.Meaning.Said.{longest}

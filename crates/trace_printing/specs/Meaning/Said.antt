@@ -1,9 +1,7 @@
 -- The record that tells an answer: a refusal is its number alone; after 0 come the numbers that there are to tell, and for a query its
 -- count and then slot, version and coordinates of each finding. Assumes nothing.
-use Prim.Native.Nat.{ℕ, zero, suc}
-use mathlib.Core.List.{List, [], _∷_, _++_}
+use Rattle.basics.specs.Words.{ℕ, zero, suc, List, [], _∷_, _++_, getD}
 use lib.Ieee.{Float, nan}
-use lib.ListN.{getD}
 use Rattle.trace_decimals.specs.Meaning.Text.{decimal, signedText}
 use Rattle.trace_sixteenths.specs.Meaning.Sixteenth.{sixteenthsOf}
 use Rattle.trace_printing.specs.declared.Said.{Said}

@@ -1,19 +1,11 @@
 -- The records of an input are those that the walks hand out, one after the other, and then those of what is left. Assumes nothing.
-use Prim.Native.Nat.{ℕ, _+_, _≤_, _<_}
-use mathlib.Core.Path.{_≡_, refl, sym, ap, _∙_, subst}
-use mathlib.Core.Bool.{Bool, true, false}
-use mathlib.Core.List.{List, [], _∷_, _++_}
-use native.Mathlib.Numerals.{add-one}
-use native.Mathlib.Omega.{arith}
-use lib.ListN.{length, take, drop, getD, drop-of-length-le}
-use lib.Seq.{drop-cons, drop-drop}
-use Rattle.basics.specs.Meaning.Refusals.{pick}
+use Rattle.basics.specs.Words.{ℕ, _+_, _≤_, _<_, _≡_, refl, sym, ap, _∙_, true, false, List, [], _∷_, _++_, length, take, drop, getD, drop-of-length-le}
+use Rattle.basics.specs.Words.{drop-cons, drop-drop, add-one, arith}
 use Rattle.trace_splits.specs.declared.Stepped.{Stepped}
 use Rattle.trace_splits.specs.Meaning.Sofar.{Sofar, Fed, feed, sofar}
 use Rattle.trace_splits.specs.Inner.Sofar.{fed}
 use Rattle.trace_splits.proofs.laws.Sofar.{recordsFrom}
-use Rattle.trace_replay.specs.declared.Found.{Found}
-use Rattle.trace_replay.specs.Meaning.Next.{Next, nextOf, nexted, stops, nextFound}
+use Rattle.trace_replay.specs.Meaning.Next.{Next, nextOf, nexted, stops}
 
 -- ---- the code's walk, a byte at a time
 module _ (room : ℕ) (s : Sofar) (l : List ℕ) (at : ℕ) where

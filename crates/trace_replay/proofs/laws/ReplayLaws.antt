@@ -1,8 +1,5 @@
 -- What the code of a record did is what the record asks for. Assumes nothing.
-use mathlib.Core.Path.{_≡_, sym, ap, subst, _∙_}
-use mathlib.Core.List.{List}
-use native.Mathlib.Omega.{arith}
-use Prim.Native.Nat.{ℕ}
+use Rattle.basics.specs.Words.{ℕ, _≡_, sym, ap, subst, _∙_, List, arith}
 use Rattle.trace_decimals.specs.Meaning.Written.{Buffer, putText}
 use Rattle.trace_printing.specs.declared.Said.{Said}
 use Rattle.trace_printing.specs.Meaning.Said.{recordText}

@@ -1,10 +1,6 @@
 -- What the program writes is decided by the records of its input, wherever the blocks end: of a record that is too long its first bytes are
 -- enough, and at each turn of the program an answer and what is left to be written are what was left before it. Assumes nothing.
-use Prim.Native.Nat.{ℕ}
-use mathlib.Core.Path.{_≡_, refl, ap, _∙_}
-use mathlib.Core.List.{List, [], _∷_, _++_, map}
-use native.Mathlib.Omega.{arith}
-use lib.ListN.{take, drop}
+use Rattle.basics.specs.Words.{ℕ, _≡_, refl, ap, _∙_, List, [], _∷_, _++_, map, take, drop, arith}
 use Rattle.trace_splits.specs.Inner.Records.{recordsOf}
 use Rattle.trace_splits.specs.Meaning.Sofar.{Sofar, begun}
 use Rattle.trace_splits.proofs.laws.Sofar.{recordsFrom}

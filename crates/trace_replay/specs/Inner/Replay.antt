@@ -1,8 +1,7 @@
 -- A record replayed: its request performed on the two grids, and its answer put behind what is written. A trace is its records, one after the
 -- other. Assumes nothing.
 -- Here: what only inner contracts cite.
-use Prim.Native.Nat.{ℕ}
-use mathlib.Core.List.{List, [], _∷_, _++_}
+use Rattle.basics.specs.Words.{ℕ, List, [], _∷_, _++_}
 use Rattle.trace_replay.specs.Meaning.Replay.{Grids, answerTo, answerText, gridsOf}
 
 -- ---- all of them: what the program writes

@@ -1,7 +1,5 @@
 -- The next record that ends in some bytes: what is so far after it, the record, if one ends, and the place behind it. Assumes nothing.
-use Prim.Native.Nat.{ℕ, _+_}
-use mathlib.Core.List.{List, [], _∷_}
-use lib.ListN.{take}
+use Rattle.basics.specs.Words.{ℕ, _+_, List, [], _∷_, take}
 use Rattle.basics.specs.Meaning.Refusals.{pick}
 use Rattle.trace_splits.specs.Meaning.Sofar.{Sofar, feed, sofar}
 use Rattle.trace_replay.specs.declared.Found.{Found}

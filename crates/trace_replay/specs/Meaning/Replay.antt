@@ -1,12 +1,7 @@
 -- A record replayed: its request performed on the two grids, and its answer put behind what is written. A trace is its records, one after the
 -- other. Assumes nothing.
-use Prim.Native.Nat.{ℕ}
-use mathlib.Core.Path.{_≡_}
-use mathlib.Core.Bool.{false}
-use mathlib.Core.List.{List}
-use lib.ListN.{replicate}
+use Rattle.basics.specs.Words.{ℕ, _≡_, false, List, replicate, ℤ, pos}
 use lib.Ieee.{Float, fin}
-use lib.IntN.{ℤ, pos}
 use Rattle.basics.specs.Meaning.Lent.{Lent}
 use Rattle.trace_decimals.specs.Meaning.Written.{Buffer, putText}
 use Rattle.point_tables.specs.Meaning.Tables as point

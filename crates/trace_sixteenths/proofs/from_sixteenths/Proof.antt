@@ -1,7 +1,5 @@
 -- `trace_sixteenths::from_sixteenths` meets its contract. Assumes nothing.
-use mathlib.Core.Path.{sym, ap, _∙_, subst}
-use lib.Dec.{T}
-use lib.IntN.{ℤ}
+use Rattle.basics.specs.Words.{sym, ap, _∙_, subst, T, ℤ}
 use lib.Ieee.{binary32, inFloat, ofInt, ofBits, div}
 use mir.Syntax.{w32}
 use mir.ValLaws.{toZ-ofZ}

@@ -1,8 +1,5 @@
 -- A coordinate's field, read, turned into binary32, turned back and written, is the same bytes. Assumes nothing.
-use mathlib.Core.Path.{_≡_, sym, ap, _∙_}
-use mathlib.Core.List.{List}
-use Prim.Native.Nat.{ℕ}
-use lib.IntN.{ℤ}
+use Rattle.basics.specs.Words.{ℕ, _≡_, sym, ap, _∙_, List, ℤ}
 use Rattle.trace_decimals.specs.declared.Count.the-variants.{Counted}
 use Rattle.trace_decimals.specs.Meaning.Text.{signedText}
 use Rattle.trace_decimals.specs.Meaning.Fields.{countOf}

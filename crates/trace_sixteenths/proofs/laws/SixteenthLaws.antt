@@ -1,12 +1,7 @@
 -- A count of sixteenths up to 2 ^ 20 is a binary32 number exactly, and the count comes back from it. Assumes nothing.
-use Prim.Native.Nat.{ℕ, _+_, _*_, _^_, _≤_, _<_}
-use mathlib.Core.Path.{_≡_, refl, sym, ap, _∙_, subst}
-use mathlib.Core.Bool.{Bool, true, false}
-use native.Mathlib.Nat.{mul-assoc, mul-comm, mul-one, lt-of-lt-of-le}
-use native.Mathlib.Omega.{arith}
-use lib.Dec.{T, lt→ltb, lit<, lit≤, le→leb}
+use Rattle.basics.specs.Words.{ℕ, _+_, _*_, _^_, _≤_, _<_, _≡_, refl, sym, ap, _∙_, subst, Bool, true, false, T, lt→ltb, lit<, lit≤, le→leb, ℤ, pos, negsuc}
+use Rattle.basics.specs.Words.{natAbs, mul-assoc, mul-comm, mul-one, lt-of-lt-of-le, arith}
 use lib.Pow.{pow-add, pow-mono, shl-lt}
-use lib.IntN.{ℤ, pos, negsuc, natAbs}
 use lib.Ieee.{Float, nan, inf, fin, binary32, up, down, unlike, round, div, mul, ofInt, inFloat, toSigned}
 use lib.Ieee.Fits.{down-pos}
 use lib.Ieee.Exact.{HasValue, round-exact}

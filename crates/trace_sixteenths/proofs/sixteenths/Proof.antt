@@ -1,12 +1,10 @@
 -- `trace_sixteenths::sixteenths` meets its contract. Assumes nothing.
-use mathlib.Core.Path.{sym, _∙_, subst}
-use lib.IntN.{ℤ}
+use Rattle.basics.specs.Words.{sym, _∙_, subst, ℤ, needs}
 use lib.Ieee.{binary32, ofBits, mul}
 use lib.Ieee.Casts.{toSigned-in}
 use mir.Syntax.{w32}
 use mir.Val.{SFits}
 use mir.ValLaws.{toZ-ofZ}
-use borrow.Author.Needs.{needs}
 use Rattle.trace_sixteenths.specs.Meaning.Sixteenth.{sixteenthsOf}
 use Rattle.trace_sixteenths.proofs.sixteenths.Statement.{statement}
 use Rattle.trace_sixteenths.proofs.sixteenths.Tie as tie

@@ -1,6 +1,5 @@
 -- The binary32 number of a count of sixteenths, and the count of one. Assumes nothing.
-use mathlib.Core.Bool.{Bool, true, false}
-use lib.IntN.{ℤ, pos, negsuc, natAbs}
+use Rattle.basics.specs.Words.{Bool, true, false, ℤ, pos, negsuc, natAbs}
 use lib.Ieee.{Float, fin, binary32, round, mul}
 use Rattle.cells.specs.Meaning.CellRule.{wholeOf}
 

@@ -1,5 +1,5 @@
 -- `trace_splits::ends` meets its contract. Assumes nothing.
-use borrow.Author.Needs.{needs}
+use Rattle.basics.specs.Words.{needs}
 use Rattle.trace_splits.proofs.ends.Statement.{statement}
 use Rattle.trace_splits.proofs.ends.Tie as tie
 

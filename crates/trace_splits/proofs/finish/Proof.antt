@@ -1,11 +1,5 @@
 -- `trace_splits::finish` meets its contract. Assumes nothing.
-use mathlib.Core.Path.{_≡_, refl, sym, ap, _∙_}
-use mathlib.Core.List.{List, [], _∷_}
-use Prim.Native.Nat.{ℕ, _-_, min}
-use mathlib.Core.Bool.{Bool, true, false, not}
-use lib.Dec.{eqb}
-use lib.ListN.{length, take, length-take}
-use borrow.Author.Needs.{needs}
+use Rattle.basics.specs.Words.{ℕ, _-_, min, _≡_, refl, sym, ap, _∙_, Bool, true, false, not, List, [], _∷_, length, take, length-take, eqb, needs}
 use Rattle.basics.specs.Meaning.Refusals.{pick}
 use Rattle.trace_splits.proofs.laws.LineLaws.{cut-last}
 use Rattle.trace_splits.specs.Meaning.Sofar.{Fed, begun}

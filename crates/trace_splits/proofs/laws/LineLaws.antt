@@ -1,12 +1,6 @@
 -- What a line holds after a byte more, and how much of it is handed out. Assumes nothing.
-use Prim.Native.Nat.{ℕ, _+_, _-_, _≤_, _<_, min}
-use mathlib.Core.Path.{_≡_, sym, ap, _∙_}
-use mathlib.Core.Logic.{⊎-elim}
-use mathlib.Core.List.{List, [], _∷_, _++_}
-use native.Mathlib.Omega.{arith}
-use native.Mathlib.Numerals.{add-one}
-use lib.ListN.{length, take, set, length-append, length-take}
-use lib.Seq.{take-all, take-length, take-take, take-suc-set, take-append-seam}
+use Rattle.basics.specs.Words.{ℕ, _+_, _-_, _≤_, _<_, min, _≡_, sym, ap, _∙_, List, [], _∷_, _++_, ⊎-elim, length, take, set, length-append, length-take}
+use Rattle.basics.specs.Words.{take-all, take-length, take-take, take-suc-set, take-append-seam, add-one, arith}
 use Rattle.basics.proofs.laws.Says.{d-le}
 
 pub same-part : (l : List ℕ) (m n : ℕ) → m ≡ n → take m l ≡ take n l

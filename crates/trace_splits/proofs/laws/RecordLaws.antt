@@ -1,10 +1,5 @@
 -- Where bytes without a line end among them stand in the records.
-use Prim.Native.Nat.{ℕ}
-use mathlib.Core.Path.{_≡_, refl, ap}
-use mathlib.Core.Bool.{Bool, true, false, _&&_}
-use mathlib.Core.List.{List, [], _∷_, _++_}
-use lib.Dec.{eqb}
-use borrow.Author.Tests.{eqb-true}
+use Rattle.basics.specs.Words.{ℕ, _≡_, refl, ap, Bool, true, false, _&&_, List, [], _∷_, _++_, eqb, eqb-true}
 use Rattle.basics.proofs.laws.Says.{apart}
 use Rattle.trace_splits.specs.Meaning.Records.{cr, lf, onto}
 use Rattle.trace_splits.specs.Inner.Records.{recordsOf}

@@ -1,8 +1,7 @@
 -- Splitting byte by byte with room for few: the first `room` bytes since the last line end are kept, and whether the last of all is a CR.
 -- Of a record the first room - 1 bytes are handed out, so one that is longer than it may be is still seen to be. Assumes nothing.
 -- Here: the laws.
-use Prim.Native.Nat.{ℕ}
-use mathlib.Core.List.{List, [], _∷_, _++_}
+use Rattle.basics.specs.Words.{ℕ, List, [], _∷_, _++_}
 use Rattle.trace_splits.specs.Meaning.Sofar.{Sofar, feed}
 use Rattle.trace_splits.specs.Inner.Sofar.{finished}
 

@@ -1,14 +1,7 @@
 -- Byte by byte the same records are found, each cut to room - 1 bytes. Assumes nothing.
-use Prim.Native.Nat.{ℕ, _+_, _-_, _≤_, _<_, min}
-use mathlib.Core.Path.{_≡_, refl, sym, ap, subst, _∙_}
-use mathlib.Core.Bool.{Bool, true, false, _&&_}
-use mathlib.Core.Logic.{⊎-elim}
-use mathlib.Core.List.{List, [], _∷_, _++_, map, append-assoc, append-nil}
-use native.Mathlib.Omega.{arith}
-use lib.Dec.{eqb}
-use lib.ListN.{length, take, length-take, length-append}
-use lib.Seq.{take-all, take-nil, take-take, take-append-le}
-use borrow.Author.Tests.{eqb-true, ne-eqb}
+use Rattle.basics.specs.Words.{ℕ, _-_, _≤_, _<_, min, _≡_, refl, sym, ap, subst, _∙_, Bool, true, false, _&&_, List, [], _∷_, _++_, map, append-assoc}
+use Rattle.basics.specs.Words.{append-nil, ⊎-elim, length, take, length-take, length-append, take-all, take-nil, take-take, take-append-le, eqb, arith}
+use Rattle.basics.specs.Words.{eqb-true, ne-eqb}
 use Rattle.basics.proofs.laws.Says.{d-le, both-true}
 use Rattle.trace_splits.specs.Meaning.Records.{cr, lf}
 use Rattle.trace_splits.specs.Inner.Records.{recordsOf}

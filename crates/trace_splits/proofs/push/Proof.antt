@@ -1,5 +1,5 @@
 -- `trace_splits::push` meets its contract. Assumes nothing.
-use borrow.Author.Needs.{needs}
+use Rattle.basics.specs.Words.{needs}
 use Rattle.trace_splits.proofs.laws.LineLaws.{pushed, full}
 use Rattle.trace_splits.proofs.push.Statement.{statement}
 use Rattle.trace_splits.proofs.push.Tie as tie

@@ -1,9 +1,5 @@
 -- `trace_splits::step` meets its contract: the LF of a CR LF, and any other byte. Assumes nothing.
-use mathlib.Core.Path.{sym, ap, _∙_}
-use mathlib.Core.List.{List, [], _∷_}
-use Prim.Native.Nat.{ℕ}
-use lib.Dec.{eqb}
-use borrow.Author.Needs.{needs}
+use Rattle.basics.specs.Words.{ℕ, sym, ap, _∙_, List, [], _∷_, eqb, needs}
 use Rattle.trace_splits.proofs.laws.LineLaws.{without-cr}
 use Rattle.trace_splits.specs.Meaning.Sofar.{Fed, begun}
 use Rattle.trace_splits.proofs.step.Statement.{statement}

@@ -1,10 +1,7 @@
 -- The records of an input: it is cut at each CR LF, from left to right. The last record may lack the ending, and nothing after a last CR LF
 -- is no record. Assumes nothing.
 -- Here: what only inner contracts cite.
-use Prim.Native.Nat.{ℕ}
-use mathlib.Core.Bool.{_&&_}
-use mathlib.Core.List.{List, [], _∷_}
-use lib.Dec.{eqb}
+use Rattle.basics.specs.Words.{ℕ, _&&_, List, [], _∷_, eqb}
 use Rattle.basics.specs.Meaning.Refusals.{pick}
 use Rattle.trace_splits.specs.Meaning.Records.{cr, lf, onto}
 

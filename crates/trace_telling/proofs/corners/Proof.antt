@@ -1,5 +1,5 @@
 -- `trace_telling::corners` meets its contract. Assumes nothing.
-use borrow.Author.Needs.{needs}
+use Rattle.basics.specs.Words.{needs}
 use Rattle.trace_telling.proofs.corners.Statement.{statement}
 use Rattle.trace_telling.proofs.corners.Tie as tie
 

@@ -1,12 +1,6 @@
 -- The places and the radius of a request are in the range of the trace. Assumes nothing.
 -- Here: the laws.
-use Prim.Native.Nat.{ℕ}
-use mathlib.Core.Path.{sym, subst}
-use mathlib.Core.Bool.{Bool, true, false}
-use mathlib.Core.List.{List}
-use native.Mathlib.Omega.{arith}
-use lib.Dec.{ltb}
-use lib.IntN.{ℤ, pos, negsuc}
+use Rattle.basics.specs.Words.{ℕ, sym, subst, Bool, true, false, List, ltb, ℤ, pos, negsuc, arith}
 use mir.Syntax.{w32}
 use mir.Val.{SFits}
 use Rattle.trace_lines.specs.declared.Asks.{Asks}

@@ -1,9 +1,5 @@
 -- A query that was not refused had room for its findings. Assumes nothing.
-use Prim.Native.Nat.{ℕ}
-use mathlib.Core.Path.{_≡_, refl}
-use mathlib.Core.Bool.{Bool, true, false}
-use mathlib.Core.List.{[], _∷_}
-use native.Mathlib.Omega.{arith}
+use Rattle.basics.specs.Words.{_≡_, refl, Bool, true, false, [], _∷_, arith}
 use Rattle.basics.specs.Meaning.Refusals.{unless, firstOf}
 
 pub had-room : (a b c d : Bool) → firstOf (unless a 3 ∷ unless b 6 ∷ unless c 7 ∷ unless d 9 ∷ []) ≡ 0 → d ≡ true

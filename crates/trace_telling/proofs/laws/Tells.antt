@@ -1,10 +1,6 @@
 -- What an answer says: a refusal its number alone, and after 0 what there is to tell. Assumes nothing.
 -- Here: the laws.
-use Prim.Native.Nat.{ℕ}
-use mathlib.Core.Path.{_≡_, sym, ap}
-use mathlib.Core.Bool.{Bool, true, false}
-use lib.Dec.{eqb}
-use borrow.Author.Tests.{eq-eqb, ne-eqb}
+use Rattle.basics.specs.Words.{ℕ, _≡_, sym, ap, Bool, true, false, eqb, eq-eqb, ne-eqb}
 use Rattle.basics.specs.Meaning.Refusals.{pick}
 use Rattle.trace_printing.specs.Inner.Said.{Told}
 use Rattle.trace_printing.specs.declared.Said.{Said}

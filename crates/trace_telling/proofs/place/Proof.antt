@@ -1,8 +1,7 @@
 -- `trace_telling::place` meets its contract. Assumes nothing.
-use mathlib.Core.Path.{ap, _∙_}
+use Rattle.basics.specs.Words.{ap, _∙_, needs}
 use mir.Syntax.{w32}
 use mir.ValLaws.{toZ-ofZ}
-use borrow.Author.Needs.{needs}
 use Rattle.trace_sixteenths.specs.Meaning.Sixteenth.{sixteenth}
 use Rattle.trace_telling.proofs.place.Statement.{statement}
 use Rattle.trace_telling.proofs.place.Tie as tie

@@ -1,6 +1,5 @@
 -- What an answer says: a refusal its number alone, and after 0 what there is to tell. Assumes nothing.
-use Prim.Native.Nat.{ℕ}
-use lib.Dec.{eqb}
+use Rattle.basics.specs.Words.{ℕ, eqb}
 use Rattle.basics.specs.Meaning.Refusals.{pick}
 use Rattle.trace_printing.specs.declared.Said.{Said}
 use Rattle.trace_printing.specs.declared.Said.the-variants.{Refused, Done, One, Two, Points, Boxes}

@@ -1,13 +1,6 @@
 -- A merge in one batch: the batch makes the calls of the merge, and every merge of the same lists gives each tracker the same rows of the
 -- output and leaves the same tables. Assumes nothing.
-use Prim.Native.Nat.{ℕ}
-use mathlib.Core.Path.{_≡_, refl, sym, ap, _∙_}
-use mathlib.Core.Bool.{_&&_}
-use mathlib.Core.List.{List, [], _∷_, _++_}
-use mathlib.Core.Logic.{⊎-elim}
-use native.Mathlib.Omega.{arith}
-use lib.Dec.{eqb, leb}
-use lib.ListN.{length, drop, length-map}
+use Rattle.basics.specs.Words.{ℕ, _≡_, refl, sym, ap, _∙_, _&&_, List, [], _∷_, _++_, ⊎-elim, length, drop, length-map, eqb, leb, arith}
 use Rattle.basics.proofs.laws.Says.{d-eq}
 use Rattle.basics.specs.Meaning.Refusals.{unless, firstOf}
 use Rattle.storage.specs.Meaning.Keyed.{written}

@@ -1,13 +1,6 @@
 -- Two deferred calls with different handles: neither changes what the other replies, and the tables are the same in either order.
 -- Assumes nothing.
-use Prim.Native.Nat.{ℕ, _<_}
-use mathlib.Core.Path.{_≡_, refl, sym, ap, ap₂, _∙_}
-use mathlib.Core.Bool.{Bool, true, false, not}
-use mathlib.Core.List.{List}
-use mathlib.Core.Logic.{⊎-elim}
-use native.Mathlib.Omega.{arith}
-use lib.Dec.{eqb}
-use lib.ListN.{getD}
+use Rattle.basics.specs.Words.{ℕ, _<_, _≡_, refl, sym, ap, ap₂, _∙_, Bool, true, false, not, List, ⊎-elim, getD, eqb, arith}
 use Rattle.basics.proofs.laws.Says.{d-eq}
 use Rattle.basics.specs.Meaning.Refusals.{orElse, pick}
 use Rattle.geometry.specs.Meaning.Domain.{positionInDomain}

@@ -1,8 +1,6 @@
 -- Between two maintains: after an accepted maintain every merge of the trackers' calls is like every other, and the next maintain leaves
 -- the same tables after each of them, in whatever order it visits the cells. Assumes nothing.
-use Prim.Native.Nat.{ℕ}
-use mathlib.Core.Path.{_≡_, sym, ap, _∙_}
-use mathlib.Core.List.{List}
+use Rattle.basics.specs.Words.{ℕ, _≡_, sym, ap, _∙_, List}
 use Rattle.point_tables.specs.Meaning.Tables.{Tables}
 use Rattle.point_tables.specs.Meaning.Holds.{Holds}
 use Rattle.point_tables.specs.Meaning.Outcome.{Outcome}

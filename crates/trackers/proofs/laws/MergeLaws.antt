@@ -1,11 +1,7 @@
 -- If no handle is used by two trackers, every merge that keeps each tracker's own order gives each call the same reply and leaves the same
 -- tables. Assumes nothing.
-use Prim.Native.Nat.{ℕ, suc}
-use mathlib.Core.Path.{_≡_, refl, sym, ap, _∙_, subst}
-use mathlib.Core.Bool.{Bool, true, false}
-use mathlib.Core.List.{List, [], _∷_, _++_, nil≢cons, List·Memᴰ, List·Memᴰ·head, Memᴰ·append-left, Memᴰ·append-right}
-use lib.Dec.{eqb}
-use borrow.Author.Tests.{eqb-true}
+use Rattle.basics.specs.Words.{ℕ, suc, _≡_, refl, sym, ap, _∙_, subst, Bool, true, false, List, [], _∷_, _++_, nil≢cons, List·Memᴰ, List·Memᴰ·head}
+use Rattle.basics.specs.Words.{Memᴰ·append-left, Memᴰ·append-right, eqb, eqb-true}
 use Rattle.basics.specs.Meaning.Refusals.{pick}
 use Rattle.point_tables.specs.Meaning.Tables.{Tables}
 use Rattle.replies.specs.declared.Reply.{Reply}

@@ -1,11 +1,6 @@
 -- Two pending states, of two objects, in either order: the same records and the same marks, also where both are in one cell.
 -- Assumes nothing.
-use Prim.Native.Nat.{ℕ, _<_}
-use mathlib.Core.Path.{_≡_, sym, ap, _∙_}
-use mathlib.Core.List.{List, [], _∷_}
-use mathlib.Core.Logic.{⊎-elim}
-use lib.ListN.{set}
-use lib.Seq.{set-comm}
+use Rattle.basics.specs.Words.{ℕ, _<_, _≡_, sym, ap, _∙_, List, [], _∷_, ⊎-elim, set, set-comm}
 use Rattle.basics.proofs.laws.Says.{d-eq}
 use Rattle.cells.specs.Meaning.Key.{keyOf}
 use Rattle.slots.specs.Meaning.Slot.{live, phaseAt}

@@ -1,13 +1,6 @@
 -- Why no handle may be shared, and why a tracker's own order is kept: a removal and a move of one object reply otherwise in the other
 -- order. Assumes nothing.
-use Prim.Native.Nat.{ℕ}
-use mathlib.Core.Path.{_≡_, refl, sym, ap, _∙_}
-use mathlib.Core.Bool.{true}
-use mathlib.Core.List.{List, [], _∷_}
-use mathlib.Core.Logic.{⊎-elim}
-use native.Mathlib.Omega.{arith}
-use lib.Dec.{eqb}
-use borrow.Author.Tests.{eq-eqb}
+use Rattle.basics.specs.Words.{ℕ, _≡_, refl, sym, ap, _∙_, true, List, [], _∷_, ⊎-elim, eqb, arith, eq-eqb}
 use Rattle.geometry.specs.declared.Position.{Position}
 use Rattle.slots.specs.declared.Handle.{Handle}
 use Rattle.slots.specs.Meaning.Slot.{good}

@@ -1,10 +1,7 @@
 -- The turns of one tracker in a merge: where its first call stands, and what is left without it. Assumes nothing.
-use Prim.Native.Nat.{ℕ}
-use mathlib.Core.Path.{_≡_, refl, sym, ap, ap₂, _∙_, subst}
-use mathlib.Core.List.{List, [], _∷_, _++_, nil≢cons, cons≢nil, head-eq-of-cons-eq, tail-eq-of-cons-eq, List·Memᴰ, List·Memᴰ·head, List·Memᴰ·tail}
-use mathlib.Core.List.{List·Memᴰ·cases-cons, List·Memᴰ·not-nil, Memᴰ·append-left, Memᴰ·append-right, List·Memᴰ·append-cases}
-use mathlib.Core.Logic.{⊎-elim}
-use borrow.Author.Tests.{eq-eqb, ne-eqb}
+use Rattle.basics.specs.Words.{ℕ, _≡_, refl, sym, ap, ap₂, _∙_, subst, List, [], _∷_, _++_, nil≢cons, cons≢nil, head-eq-of-cons-eq, tail-eq-of-cons-eq}
+use Rattle.basics.specs.Words.{List·Memᴰ, List·Memᴰ·head, List·Memᴰ·tail, List·Memᴰ·cases-cons, List·Memᴰ·not-nil, Memᴰ·append-left, Memᴰ·append-right}
+use Rattle.basics.specs.Words.{List·Memᴰ·append-cases, ⊎-elim, eq-eqb, ne-eqb}
 use Rattle.basics.proofs.laws.Says.{d-eq}
 use Rattle.storage.specs.Meaning.Keyed.{All}
 use Rattle.point_deferred.specs.Meaning.Batch.{Call}

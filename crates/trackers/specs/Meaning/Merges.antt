@@ -1,11 +1,7 @@
 -- Trackers share a point grid, and each has its own list of deferred calls. What a merge of the lists is, and what each tracker sees of
 -- it. Assumes nothing.
-use Prim.Native.Nat.{ℕ}
-use mathlib.Core.Path.{_≡_}
-use mathlib.Core.List.{List, [], _∷_, map, List·Memᴰ}
-use lib.Dec.{eqb}
+use Rattle.basics.specs.Words.{ℕ, _≡_, List, [], _∷_, map, List·Memᴰ, length, eqb}
 use lib.Ieee.{Float}
-use lib.ListN.{length}
 use Rattle.basics.specs.Meaning.Refusals.{pick}
 use Rattle.point_tables.specs.Meaning.Tables.{Tables}
 use Rattle.point_tables.specs.Meaning.Outcome.{Outcome}

@@ -1,11 +1,5 @@
 -- What deferred calls leave of one object: everything but its state, and the state is what its accepted calls made of it. Assumes nothing.
-use Prim.Native.Nat.{ℕ}
-use mathlib.Core.Path.{_≡_, refl, sym, ap, _∙_}
-use mathlib.Core.Bool.{Bool, true, false, _||_}
-use mathlib.Core.List.{List, [], _∷_}
-use mathlib.Core.Logic.{⊎-elim}
-use lib.Dec.{eqb}
-use borrow.Author.Tests.{eq-eqb, ne-eqb}
+use Rattle.basics.specs.Words.{ℕ, _≡_, refl, sym, ap, _∙_, Bool, true, false, _||_, List, [], _∷_, ⊎-elim, eqb, eq-eqb, ne-eqb}
 use Rattle.basics.proofs.laws.Says.{apart, d-eq}
 use Rattle.basics.specs.Meaning.Says.{said}
 use Rattle.basics.specs.Meaning.Refusals.{pick}

@@ -1,16 +1,8 @@
 -- Right after the next maintain a circle that is not refused reports, once each, exactly the points that are due. Assumes nothing.
-use Prim.Native.Nat.{ℕ, zero, suc, _<_}
-use mathlib.Core.Path.{_≡_, refl, sym, ap, _∙_, subst}
-use mathlib.Core.Bool.{Bool, true, false, _&&_}
-use mathlib.Core.List.{List, [], _∷_, _++_, map, List·Memᴰ, List·Memᴰ·cases-cons, List·Memᴰ·not-nil}
-use mathlib.Core.Logic.{⊎-elim}
-use native.Mathlib.Omega.{arith}
-use native.Mathlib.Nat.{not-suc-le-zero, le-of-suc-le-suc}
-use lib.Dec.{T, leb}
+use Rattle.basics.specs.Words.{ℕ, zero, suc, _<_, _≡_, refl, sym, ap, _∙_, subst, Bool, true, false, _&&_, List, [], _∷_, _++_, map, List·Memᴰ}
+use Rattle.basics.specs.Words.{List·Memᴰ·cases-cons, List·Memᴰ·not-nil, ⊎-elim, length, getD, T, leb, not-suc-le-zero, le-of-suc-le-suc, arith, eq-eqb, ne-eqb}
 use lib.Ieee.{Float, nan}
 use lib.Ieee.Fits.{and-l, and-r}
-use lib.ListN.{length, getD}
-use borrow.Author.Tests.{eq-eqb, ne-eqb}
 use Rattle.basics.specs.Meaning.Limits.{mostCells}
 use Rattle.basics.specs.Meaning.Refusals.{orElse}
 use Rattle.basics.proofs.laws.Says.{d-eq, d-lt}
@@ -36,7 +28,8 @@ use Rattle.point_deferred.specs.Meaning.Batch.{Call}
 use Rattle.point_deferred.proofs.laws.MovesLaws.{Named, named}
 use Rattle.point_query.specs.declared.Test.{Test}
 use Rattle.point_query.specs.declared.Test.the-variants.{Circle}
-use Rattle.point_query.specs.Meaning.Queries.{positionOf, found, findingOn, handleRow, placeRow, outputs, room, Findings, reportOf, searchAnswer, searchOf, aroundOf}
+use Rattle.point_query.specs.Meaning.Queries.{positionOf, found, findingOn, handleRow, placeRow, outputs, room, Findings, reportOf, searchAnswer, searchOf}
+use Rattle.point_query.specs.Meaning.Queries.{aroundOf}
 use Rattle.point_query.proofs.laws.FoundLaws.{Standing}
 use Rattle.point_query.proofs.laws.OnceLaws.{Once, standing-good, found-once, found-standing, finds}
 use Rattle.point_query.proofs.laws.ScanLaws.{circle-scan}

@@ -1,11 +1,7 @@
 -- After deferred calls and maintain the points are those that were there before and were not removed, with their data, each where its last
 -- accepted call sent it, or where it was. Assumes nothing.
 -- Here: the laws.
-use Prim.Native.Nat.{ℕ, _<_}
-use mathlib.Core.Path.{_≡_, refl, sym, ap, _∙_}
-use mathlib.Core.Bool.{true, false, _||_}
-use mathlib.Core.List.{List}
-use borrow.Author.Tests.{eqb-true, eq-eqb}
+use Rattle.basics.specs.Words.{ℕ, _<_, _≡_, refl, sym, ap, _∙_, true, false, _||_, List, eqb-true, eq-eqb}
 use Rattle.basics.specs.Meaning.Says.{Says}
 use Rattle.slots.specs.declared.Handle.{Handle}
 use Rattle.slots.specs.Meaning.Slot.{live, phaseAt, good}

@@ -1,6 +1,5 @@
 -- A point that was accepted as moved is found where it was last sent: it is not lost, and not looked for where it was. Assumes nothing.
-use mathlib.Core.Path.{_≡_}
-use mathlib.Core.Bool.{false}
+use Rattle.basics.specs.Words.{_≡_, false}
 use Rattle.slots.specs.declared.Handle.{Handle}
 use Rattle.point_deferred.specs.Meaning.Batch.{Call}
 use Rattle.whereabouts.specs.Meaning.Whereabouts.{sameHandle}

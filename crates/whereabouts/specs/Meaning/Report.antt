@@ -1,11 +1,7 @@
 -- What a query reports, read from what it returns and from its outputs, and what a circle has to report after deferred calls and maintain.
 -- Assumes nothing.
-use Prim.Native.Nat.{ℕ, _<_}
-use mathlib.Core.Path.{_≡_}
-use mathlib.Core.Bool.{true, false}
-use mathlib.Core.List.{List, [], _∷_}
+use Rattle.basics.specs.Words.{ℕ, _<_, _≡_, true, false, List, [], _∷_, getD}
 use lib.Ieee.{Float}
-use lib.ListN.{getD}
 use Rattle.geometry.specs.declared.Position.{Position}
 use Rattle.geometry.specs.Meaning.Circle.{inCircle}
 use Rattle.slots.specs.declared.Handle.{Handle}

@@ -1,6 +1,6 @@
 -- After deferred calls and maintain the points are those that were there before and were not removed, with their data, each where its last
 -- accepted call sent it, or where it was. Assumes nothing.
-use mathlib.Core.List.{List}
+use Rattle.basics.specs.Words.{List}
 use Rattle.point_tables.specs.Meaning.Tables.{Tables}
 use Rattle.point_tables.specs.Meaning.Outcome.{Outcome}
 use Rattle.point_deferred.specs.Meaning.Batch.{Call, tablesAfter}

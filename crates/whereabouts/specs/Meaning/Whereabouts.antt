@@ -1,8 +1,6 @@
 -- What a row of deferred calls asked for the point of a handle, told by the calls and their replies alone: only a call that was answered 0
 -- counts. Assumes nothing.
-use mathlib.Core.Bool.{Bool, false, not, _&&_, _||_}
-use mathlib.Core.List.{List, [], _∷_}
-use lib.Dec.{eqb}
+use Rattle.basics.specs.Words.{Bool, false, not, _&&_, _||_, List, [], _∷_, eqb}
 use Rattle.basics.specs.Meaning.Refusals.{pick}
 use Rattle.geometry.specs.declared.Position.{Position}
 use Rattle.slots.specs.declared.Handle.{Handle}

@@ -1,9 +1,5 @@
 -- `box_change::placing::judge` meets its contract. Assumes nothing.
-use mathlib.Core.Path.{_≡_, refl, sym, ap, _∙_}
-use mathlib.Core.Bool.{true}
-use native.Mathlib.Omega.{arith}
-use borrow.Author.Tests.{not-true, not-false}
-use borrow.Author.Needs.{needs}
+use Rattle.basics.specs.Words.{_≡_, refl, sym, ap, _∙_, true, arith, not-true, not-false, needs}
 use Rattle.basics.proofs.laws.Says.{says-t}
 use Rattle.geometry.specs.Meaning.Domain.{aabbInDomain}
 use Rattle.slots.proofs.laws.HandleLaws.{not-refused}

@@ -1,5 +1,5 @@
 -- `box_change::placing::relist` meets its contract. Assumes nothing.
-use borrow.Author.Needs.{needs}
+use Rattle.basics.specs.Words.{needs}
 use Rattle.box_change.proofs.Shifted.{relist-stays, relist-moves}
 use Rattle.box_change.proofs.placing.relist.Statement.{statement}
 use Rattle.box_change.proofs.placing.relist.Tie as tie

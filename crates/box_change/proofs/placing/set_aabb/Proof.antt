@@ -1,6 +1,5 @@
 -- `box_change::placing::set_aabb` meets its contract. Assumes nothing.
-use mathlib.Core.Path.{_≡_, sym, _∙_, ap}
-use borrow.Author.Needs.{needs}
+use Rattle.basics.specs.Words.{_≡_, sym, _∙_, ap, needs}
 use Rattle.box_change.proofs.Answers.{movable, refused, done}
 use Rattle.box_change.proofs.Shifted.{Movable, place-asks, other-box-is}
 use Rattle.box_tables.specs.Meaning.Tables.{Tables, tables}

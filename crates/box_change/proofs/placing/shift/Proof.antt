@@ -1,6 +1,5 @@
 -- `box_change::placing::shift` meets its contract. Assumes nothing.
-use native.Mathlib.Omega.{arith}
-use borrow.Author.Needs.{needs}
+use Rattle.basics.specs.Words.{arith, needs}
 use Rattle.box_change.proofs.Shifted.{leave-asks, enter-asks, count-small, pool-after, map-after}
 use Rattle.box_change.proofs.placing.shift.Statement.{statement}
 use Rattle.box_change.proofs.placing.shift.Tie as tie

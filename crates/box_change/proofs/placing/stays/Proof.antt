@@ -1,5 +1,5 @@
 -- `box_change::placing::stays` meets its contract. Assumes nothing.
-use borrow.Author.Needs.{needs}
+use Rattle.basics.specs.Words.{needs}
 use Rattle.box_change.proofs.Shifted.{stays-both, stays-not}
 use Rattle.box_change.proofs.placing.stays.Statement.{statement}
 use Rattle.box_change.proofs.placing.stays.Tie as tie

@@ -1,6 +1,5 @@
 -- `box_change::removing::answer` meets its contract. Assumes nothing.
-use borrow.Author.Needs.{needs}
-use borrow.Author.Tests.{not-true, not-false}
+use Rattle.basics.specs.Words.{not-true, not-false, needs}
 use Rattle.box_change.proofs.removing.answer.Statement.{statement}
 use Rattle.box_change.proofs.removing.answer.Tie as tie
 

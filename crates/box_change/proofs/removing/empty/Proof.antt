@@ -1,5 +1,5 @@
 -- `box_change::removing::empty` meets its contract. Assumes nothing.
-use borrow.Author.Needs.{needs}
+use Rattle.basics.specs.Words.{needs}
 use Rattle.box_change.proofs.removing.empty.Statement.{statement}
 use Rattle.box_change.proofs.removing.empty.Tie as tie
 

@@ -1,5 +1,5 @@
 -- `box_change::removing::remove` meets its contract. Assumes nothing.
-use borrow.Author.Needs.{needs}
+use Rattle.basics.specs.Words.{needs}
 use Rattle.box_change.proofs.Taken.{object, refused, done}
 use Rattle.box_tables.specs.Meaning.Tables.{Tables, tables}
 use Rattle.box_change.proofs.removing.remove.Statement.{statement}

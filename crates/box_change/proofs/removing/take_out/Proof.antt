@@ -1,7 +1,5 @@
 -- `box_change::removing::take_out` meets its contract. Assumes nothing.
-use mathlib.Core.Path.{refl, sym, subst, ap, _∙_}
-use lib.Dec.{T}
-use borrow.Author.Needs.{needs}
+use Rattle.basics.specs.Words.{refl, sym, subst, ap, _∙_, T, needs}
 use Rattle.box_change.proofs.Taken.{leave-asks, taken-is}
 use Rattle.geometry.specs.declared.Aabb.{Aabb}
 use Rattle.geometry.specs.Meaning.Domain.{aabbInDomain}

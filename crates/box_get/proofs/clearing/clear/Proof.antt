@@ -1,5 +1,5 @@
 -- `box_get::clearing::clear` meets its contract. Assumes nothing.
-use borrow.Author.Needs.{needs}
+use Rattle.basics.specs.Words.{needs}
 use Rattle.box_tables.specs.Meaning.Tables.{Tables, tables}
 use Rattle.box_get.proofs.Cleared.{a-grid, refused, grid, put-asks, done}
 use Rattle.box_get.proofs.clearing.clear.Statement.{statement}

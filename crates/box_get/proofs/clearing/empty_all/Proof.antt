@@ -1,5 +1,5 @@
 -- `box_get::clearing::empty_all` meets its contract. Assumes nothing.
-use borrow.Author.Needs.{needs}
+use Rattle.basics.specs.Words.{needs}
 use Rattle.box_get.proofs.clearing.empty_all.Statement.{statement}
 use Rattle.box_get.proofs.clearing.empty_all.Tie as tie
 

@@ -1,8 +1,5 @@
 -- `box_insert::building::new` meets its contract. Assumes nothing.
-use mathlib.Core.Path.{_≡_, sym, ap, _∙_}
-use mathlib.Core.List.{[], _∷_}
-use native.Mathlib.Omega.{arith}
-use borrow.Author.Needs.{needs}
+use Rattle.basics.specs.Words.{_≡_, sym, ap, _∙_, [], _∷_, arith, needs}
 use Rattle.basics.specs.Meaning.Refusals.{unless, firstOf}
 use Rattle.basics.specs.Meaning.Outcome.{outcome}
 use Rattle.basics.proofs.laws.Says.{says-same}

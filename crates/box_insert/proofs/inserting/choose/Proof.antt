@@ -1,11 +1,5 @@
 -- `box_insert::inserting::choose` meets its contract. Assumes nothing.
-use Prim.Native.Nat.{ℕ}
-use mathlib.Core.Path.{sym, _∙_, ap}
-use native.Mathlib.Omega.{arith}
-use lib.Dec.{leb}
-use lib.ListN.{length}
-use borrow.Author.Tests.{not-true, not-false}
-use borrow.Author.Needs.{needs}
+use Rattle.basics.specs.Words.{ℕ, sym, _∙_, ap, length, leb, arith, not-true, not-false, needs}
 use Rattle.basics.proofs.laws.Says.{says-t}
 use Rattle.box_insert.proofs.Chosen.{chose-3, chose-6, chose-7, chose-slot}
 use Rattle.box_insert.proofs.inserting.choose.Statement.{statement}

@@ -1,5 +1,5 @@
 -- `box_insert::inserting::count` meets its contract. Assumes nothing.
-use borrow.Author.Needs.{needs}
+use Rattle.basics.specs.Words.{needs}
 use Rattle.box_insert.proofs.inserting.count.Statement.{statement}
 use Rattle.box_insert.proofs.inserting.count.Tie as tie
 

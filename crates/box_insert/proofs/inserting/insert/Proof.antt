@@ -1,5 +1,5 @@
 -- `box_insert::inserting::insert` meets its contract. Assumes nothing.
-use borrow.Author.Needs.{needs}
+use Rattle.basics.specs.Words.{needs}
 use Rattle.box_tables.specs.Meaning.Tables.{Tables, tables}
 use Rattle.box_insert.proofs.Chosen.{choose-asks, refused, chosen, done}
 use Rattle.box_insert.proofs.inserting.insert.Statement.{statement}

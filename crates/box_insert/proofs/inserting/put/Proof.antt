@@ -1,6 +1,5 @@
 -- `box_insert::inserting::put` meets its contract. Assumes nothing.
-use native.Mathlib.Omega.{arith}
-use borrow.Author.Needs.{needs}
+use Rattle.basics.specs.Words.{arith, needs}
 use Rattle.box_tables.specs.Meaning.Tables.{Tables, tables}
 use Rattle.box_insert.proofs.Placed.{enter-asks, few-more, put-is}
 use Rattle.box_insert.proofs.inserting.put.Statement.{statement}

@@ -1,6 +1,5 @@
 -- `box_insert::inserting::slot_for` meets its contract. Assumes nothing.
-use native.Mathlib.Omega.{arith}
-use borrow.Author.Needs.{needs}
+use Rattle.basics.specs.Words.{arith, needs}
 use Rattle.box_insert.proofs.inserting.slot_for.Statement.{statement}
 use Rattle.box_insert.proofs.inserting.slot_for.Tie as tie
 

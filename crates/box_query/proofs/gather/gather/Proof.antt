@@ -1,8 +1,5 @@
 -- `box_query::gather::gather` meets its contract: what was collected, with what the rest of the walk adds, is the whole. Assumes nothing.
-use Prim.Native.Nat.{_≤_, _-_}
-use mathlib.Core.Path.{_≡_, subst}
-use native.Mathlib.Omega.{arith}
-use lib.ListN.{take}
+use Rattle.basics.specs.Words.{_≤_, _-_, _≡_, subst, take, arith}
 use Rattle.storage.proofs.laws.RunLaws.{run-onward}
 use Rattle.box_query.proofs.laws.CollectLaws.{Gathered, gathered-start, gathered-next, gathered-end}
 use Rattle.box_query.proofs.gather.gather.Statement.{statement}

@@ -1,17 +1,11 @@
 -- `box_query::gather::gather_run` meets its contract: the slots of the stretch that had no mark stand behind the first n. Assumes nothing.
-use Prim.Native.Nat.{ℕ, _+_, _≤_, _<_, _-_}
-use mathlib.Core.Path.{_≡_, sym, ap, _∙_, subst}
-use mathlib.Core.Bool.{false}
-use mathlib.Core.List.{List, [], _∷_, _++_}
-use mathlib.Core.Logic.{⊎-elim}
-use native.Mathlib.Omega.{arith}
-use lib.ListN.{length, getD}
-use borrow.Author.Needs.{needs}
-use borrow.Author.Tests.{not-true, not-false}
+use Rattle.basics.specs.Words.{ℕ, _+_, _≤_, _<_, _-_, _≡_, sym, ap, _∙_, subst, false, List, [], _∷_, _++_, ⊎-elim, length, getD, arith, not-true, not-false}
+use Rattle.basics.specs.Words.{needs}
 use Rattle.storage.specs.Meaning.Keyed.{All}
 use Rattle.box_query.specs.Inner.Gather.{slotsIn}
 use Rattle.box_query.specs.Inner.Collected.{Collected}
-use Rattle.box_query.proofs.laws.CollectLaws.{slots-next, slots-none, slots-below, collected-none, collected-room, collected-taken, collected-passed, collected-as}
+use Rattle.box_query.proofs.laws.CollectLaws.{slots-next, slots-none, slots-below, collected-none, collected-room, collected-taken, collected-passed}
+use Rattle.box_query.proofs.laws.CollectLaws.{collected-as}
 use Rattle.box_query.proofs.gather.gather_run.Statement.{statement}
 use Rattle.box_query.proofs.gather.gather_run.Tie as tie
 

@@ -1,11 +1,5 @@
 -- `box_query::keep::keep` meets its contract: of the slots passed, those that are kept stand first. Assumes nothing.
-use Prim.Native.Nat.{ℕ, _+_, _≤_, _<_, _-_}
-use mathlib.Core.Path.{_≡_, sym, ap, _∙_, subst}
-use mathlib.Core.Bool.{Bool}
-use mathlib.Core.Logic.{⊎-elim}
-use native.Mathlib.Omega.{arith}
-use lib.ListN.{length, getD, take}
-use borrow.Author.Needs.{needs}
+use Rattle.basics.specs.Words.{ℕ, _+_, _≤_, _<_, _-_, _≡_, sym, ap, _∙_, subst, Bool, ⊎-elim, length, getD, take, arith, needs}
 use Rattle.geometry.specs.Meaning.Intersects.{intersects}
 use Rattle.box_tables.specs.Meaning.Tables.{aabbAt}
 use Rattle.storage.specs.Meaning.Keyed.{filter}

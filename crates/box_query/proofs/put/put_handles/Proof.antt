@@ -1,10 +1,5 @@
 -- `box_query::put::put_handles` meets its contract: what the slots passed give stands in the first places. Assumes nothing.
-use Prim.Native.Nat.{_-_}
-use mathlib.Core.Path.{refl}
-use mathlib.Core.List.{[], _∷_}
-use native.Mathlib.Omega.{arith}
-use lib.ListN.{getD, take}
-use borrow.Author.Needs.{needs}
+use Rattle.basics.specs.Words.{_-_, refl, [], _∷_, getD, take, arith, needs}
 use Rattle.slots.specs.Meaning.Slot.{versionAt}
 use Rattle.slot_walks.specs.Meaning.Live.{handleAt}
 use Rattle.storage.proofs.laws.PutLaws.{Rows, rows-none, rows-kept, rows-room, put-next, put-done}

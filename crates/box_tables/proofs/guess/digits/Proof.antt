@@ -1,16 +1,10 @@
 -- `box_tables::guess::digits` meets its contract. Assumes nothing.
-use Prim.Native.Nat.{ℕ, suc, _-_, _%_, _<_}
-use mathlib.Core.Path.{_≡_, refl, sym, subst}
-use mathlib.Core.Bool.{Bool, true, false, cond}
-use native.Mathlib.Omega.{arith}
-use lib.Dec.{ltb}
-use lib.IntN.{ℤ, pos, negsuc, _-ℤ_}
+use Rattle.basics.specs.Words.{ℕ, suc, _-_, _%_, _<_, _≡_, refl, sym, subst, Bool, true, false, cond, ltb, ℤ, pos, negsuc, _-ℤ_, arith, ltb-true, ltb-false}
+use Rattle.basics.specs.Words.{needs}
 use lib.Signed.{mag}
 use mir.Syntax.{w32}
 use mir.Val.{SFits, toZ}
 use mir.ValLaws.{toZ-pos}
-use borrow.Author.Needs.{needs}
-use borrow.Author.Tests.{ltb-true, ltb-false}
 use Rattle.box_tables.proofs.guess.digits.Statement.{statement}
 use Rattle.box_tables.proofs.guess.digits.Tie as tie
 

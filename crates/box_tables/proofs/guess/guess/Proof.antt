@@ -1,8 +1,7 @@
 -- `box_tables::guess::guess` meets its contract. Assumes nothing.
-use lib.Dec.{T}
+use Rattle.basics.specs.Words.{T, needs}
 use lib.Ieee.{binary32, ofBits}
 use lib.Ieee.Scale.{finite}
-use borrow.Author.Needs.{needs}
 use Rattle.box_tables.proofs.laws.NumberLaws.{guess-number}
 use Rattle.box_tables.proofs.guess.guess.Statement.{statement}
 use Rattle.box_tables.proofs.guess.guess.Tie as tie

@@ -1,8 +1,6 @@
 -- `box_tables::guess::near_cell` meets its contract. Assumes nothing.
-use mathlib.Core.Path.{sym, ap, _∙_}
-use lib.IntN.{ℤ}
+use Rattle.basics.specs.Words.{sym, ap, _∙_, ℤ, needs}
 use mir.Facts.{toZ-ofZ}
-use borrow.Author.Needs.{needs}
 use Rattle.cells.specs.Meaning.CellRule.{cellOf}
 use Rattle.cells.proofs.laws.ReachLaws.{domain-reached}
 use Rattle.cells.proofs.Signs.{size-is, size-some}

@@ -1,6 +1,5 @@
 -- `box_tables::guess::one_cell` meets its contract. Assumes nothing.
-use mathlib.Core.Path.{_∙_}
-use borrow.Author.Tests.{not-false}
+use Rattle.basics.specs.Words.{_∙_, not-false}
 use Rattle.basics.proofs.laws.Says.{apart}
 use Rattle.cells.proofs.laws.Numbers.{cell-ext}
 use Rattle.cells.proofs.Signs.{back}

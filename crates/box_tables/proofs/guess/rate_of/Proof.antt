@@ -1,14 +1,9 @@
 -- `box_tables::guess::rate_of` meets its contract: a cell size is a binary32. Assumes nothing.
-use Prim.Native.Nat.{ℕ, _≤_, _<_, _^_}
-use mathlib.Core.Path.{_≡_, sym, _∙_, subst}
-use native.Mathlib.Omega.{arith}
-use lib.Dec.{T, le→leb}
-use lib.IntN.{ℤ, pos}
+use Rattle.basics.specs.Words.{ℕ, _≤_, _<_, _^_, _≡_, sym, _∙_, subst, T, le→leb, ℤ, pos, arith, needs}
 use lib.Ieee.{binary32, inFloat, ofBits, fits, le, lt, eq}
 use mir.Syntax.{w64}
 use mir.Val.{toZ}
 use mir.ValLaws.{toZ-pos}
-use borrow.Author.Needs.{needs}
 use Rattle.geometry.specs.Meaning.Domain.{inDomain}
 use Rattle.box_tables.proofs.guess.rate_of.Statement.{statement}
 use Rattle.box_tables.proofs.guess.rate_of.Tie as tie

@@ -1,8 +1,6 @@
 -- `box_tables::lengths::counts_ok` meets its contract. Assumes nothing.
-use mathlib.Core.Path.{sym, _∙_}
-use borrow.Author.Tests.{leb-true, le-leb, not-true, not-false}
+use Rattle.basics.specs.Words.{sym, _∙_, leb-true, le-leb, not-true, not-false, needs}
 use Rattle.basics.proofs.laws.Says.{says-no, apart}
-use borrow.Author.Needs.{needs}
 use Rattle.box_tables.proofs.lengths.counts_ok.Statement.{statement}
 use Rattle.box_tables.proofs.lengths.counts_ok.Tie as tie
 

@@ -1,8 +1,6 @@
 -- `box_tables::lengths::lengths_ok` meets its contract. Assumes nothing.
-use native.Mathlib.Omega.{arith}
-use borrow.Author.Tests.{leb-true, le-leb}
+use Rattle.basics.specs.Words.{arith, leb-true, le-leb, needs}
 use Rattle.basics.proofs.laws.Says.{says-no}
-use borrow.Author.Needs.{needs}
 use Rattle.box_tables.proofs.lengths.lengths_ok.Statement.{statement}
 use Rattle.box_tables.proofs.lengths.lengths_ok.Tie as tie
 

@@ -1,6 +1,5 @@
 -- `box_tables::pass::all_met` meets its contract: every way before i is at its end. The measure is what is left of the items. Assumes nothing.
-use Prim.Native.Nat.{_-_, _≤_}
-use native.Mathlib.Omega.{arith}
+use Rattle.basics.specs.Words.{_-_, _≤_, arith}
 use borrow.Author.Count.{below-none, below-more}
 use Rattle.basics.proofs.laws.Says.{says-yes, says-no}
 use Rattle.box_tables.specs.Inner.Check.{Met}

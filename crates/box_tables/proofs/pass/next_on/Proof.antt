@@ -1,8 +1,5 @@
 -- `box_tables::pass::next_on` meets its contract. Assumes nothing.
-use mathlib.Core.Path.{sym, _∙_}
-use native.Mathlib.Omega.{arith}
-use borrow.Author.Needs.{needs}
-use borrow.Author.Tests.{eq-eqb, ne-eqb}
+use Rattle.basics.specs.Words.{sym, _∙_, arith, eq-eqb, ne-eqb, needs}
 use Rattle.cells.specs.Inner.Key.{columnOf}
 use Rattle.box_tables.proofs.pass.next_on.Statement.{statement}
 use Rattle.box_tables.proofs.pass.next_on.Tie as tie

@@ -1,9 +1,5 @@
 -- `box_tables::pass::pass` meets its contract: the first j entries are passed. The measure is what is left of them. Assumes nothing.
-use Prim.Native.Nat.{_-_, _≤_, _<_}
-use mathlib.Core.Path.{_≡_, subst}
-use native.Mathlib.Omega.{arith}
-use lib.ListN.{length}
-use borrow.Author.Needs.{needs}
+use Rattle.basics.specs.Words.{_-_, _≤_, _<_, _≡_, subst, length, arith, needs}
 use Rattle.storage.specs.Meaning.Packed.{second}
 use Rattle.box_tables.specs.Inner.Check.{Gone}
 use Rattle.box_tables.proofs.laws.PassLaws.{Going, going-none, going-more, next-ordered, next-key}

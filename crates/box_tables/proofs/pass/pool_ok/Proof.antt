@@ -1,5 +1,5 @@
 -- `box_tables::pass::pool_ok` meets its contract. Assumes nothing.
-use borrow.Author.Needs.{needs}
+use Rattle.basics.specs.Words.{needs}
 use Rattle.basics.proofs.laws.Says.{says-no}
 use Rattle.box_tables.proofs.laws.PassLaws.{gone-all, gone-met}
 use Rattle.box_tables.proofs.pass.pool_ok.Statement.{statement}

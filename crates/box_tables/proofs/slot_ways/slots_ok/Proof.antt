@@ -1,10 +1,6 @@
 -- `box_tables::slot_ways::slots_ok` meets its contract: every slot before i holds, and its way is there. The measure is what is left of the slots. Assumes nothing.
-use Prim.Native.Nat.{ℕ, _-_, _≤_, _<_}
-use mathlib.Core.Path.{_≡_, sym, subst}
-use native.Mathlib.Omega.{arith}
-use lib.ListN.{length, getD}
+use Rattle.basics.specs.Words.{ℕ, _-_, _≤_, _<_, _≡_, sym, subst, length, getD, arith, needs}
 use borrow.Author.Count.{below-none, below-more}
-use borrow.Author.Needs.{needs}
 use Rattle.basics.proofs.laws.Says.{says-no, apart}
 use Rattle.box_tables.specs.Inner.Way.{itemIn, wayAt}
 use Rattle.box_tables.specs.Inner.Check.{SlotOk, Ways}

@@ -1,6 +1,5 @@
 -- `box_tables::slot_ways::stop_of` meets its contract. Assumes nothing.
-use native.Mathlib.Omega.{arith}
-use borrow.Author.Needs.{needs}
+use Rattle.basics.specs.Words.{arith, needs}
 use Rattle.box_tables.proofs.slot_ways.stop_of.Statement.{statement}
 use Rattle.box_tables.proofs.slot_ways.stop_of.Tie as tie
 

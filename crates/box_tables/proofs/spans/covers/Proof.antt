@@ -1,6 +1,5 @@
 -- `box_tables::spans::covers` meets its contract. Assumes nothing.
-use mathlib.Core.Path.{ap}
-use borrow.Author.Needs.{needs}
+use Rattle.basics.specs.Words.{ap, needs}
 use Rattle.box_tables.specs.declared.Span.{Span}
 use Rattle.box_tables.proofs.spans.covers.Statement.{statement}
 use Rattle.box_tables.proofs.spans.covers.Tie as tie

@@ -1,9 +1,5 @@
 -- `box_tables::spans::item_of` meets its contract. Assumes nothing.
-use Prim.Native.Nat.{ℕ}
-use mathlib.Core.Path.{ap}
-use mathlib.Core.Bool.{Bool}
-use native.Mathlib.Omega.{arith}
-use borrow.Author.Needs.{needs}
+use Rattle.basics.specs.Words.{ℕ, ap, Bool, arith, needs}
 use Rattle.basics.specs.Meaning.Refusals.{pick}
 use Rattle.box_tables.proofs.spans.item_of.Statement.{statement}
 use Rattle.box_tables.proofs.spans.item_of.Tie as tie

@@ -1,5 +1,5 @@
 -- `box_tables::spans::span_of` meets its contract. Assumes nothing.
-use mathlib.Core.Path.{sym, _∙_, subst}
+use Rattle.basics.specs.Words.{sym, _∙_, subst}
 use Rattle.cells.specs.Inner.Numbers.{Near}
 use Rattle.cells.specs.Meaning.Range.{cellsIn}
 use Rattle.box_tables.proofs.laws.BoxLaws.{low-reached, high-reached, low-near, high-near}

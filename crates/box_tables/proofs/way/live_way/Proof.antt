@@ -1,10 +1,5 @@
 -- `box_tables::way::live_way` meets its contract. Assumes nothing.
-use mathlib.Core.Path.{refl, subst}
-use mathlib.Core.List.{[], _∷_}
-use native.Mathlib.Omega.{arith}
-use borrow.Author.Needs.{needs}
-use borrow.Author.Tests.{not-true, not-false}
-use lib.Dec.{T}
+use Rattle.basics.specs.Words.{refl, subst, [], _∷_, T, arith, not-true, not-false, needs}
 use Rattle.geometry.specs.Meaning.Domain.{aabbInDomain}
 use Rattle.geometry.specs.declared.Aabb.{Aabb}
 use Rattle.box_tables.specs.Inner.Way.{spanOf, wayOf}

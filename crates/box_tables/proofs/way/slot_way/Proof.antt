@@ -1,9 +1,5 @@
 -- `box_tables::way::slot_way` meets its contract. Assumes nothing.
-use mathlib.Core.Path.{refl, sym, ap, _∙_}
-use mathlib.Core.List.{[], _∷_}
-use native.Mathlib.Omega.{arith}
-use borrow.Author.Needs.{needs}
-use borrow.Author.Tests.{not-true, not-false}
+use Rattle.basics.specs.Words.{refl, sym, ap, _∙_, [], _∷_, arith, not-true, not-false, needs}
 use Rattle.basics.specs.Meaning.Says.{Says}
 use Rattle.basics.proofs.laws.Says.{apart}
 use Rattle.slots.specs.Meaning.Map.{usable}

@@ -1,7 +1,5 @@
 -- `box_tables::way::way_of` meets its contract. Assumes nothing.
-use mathlib.Core.Path.{refl}
-use native.Mathlib.Omega.{arith}
-use borrow.Author.Needs.{needs}
+use Rattle.basics.specs.Words.{refl, arith, needs}
 use Rattle.box_tables.specs.Inner.Way.{spanBy, wayOf}
 use Rattle.box_tables.proofs.Shared.{given-none, given-some, jump-some}
 use Rattle.box_tables.proofs.laws.CornerLaws as corners

@@ -1,5 +1,5 @@
 -- `box_tables::way::wide_way` meets its contract. Assumes nothing.
-use mathlib.Core.Path.{_∙_}
+use Rattle.basics.specs.Words.{_∙_}
 use mir.Facts.{toZ-ofZ}
 use Rattle.cells.proofs.laws.Numbers.{cell-ext}
 use Rattle.box_tables.specs.Meaning.Tables.{lowCell, highCell}

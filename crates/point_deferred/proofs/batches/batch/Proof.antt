@@ -1,6 +1,5 @@
 -- `point_deferred::batches::batch` meets its contract. Assumes nothing.
-use native.Mathlib.Omega.{arith}
-use borrow.Author.Needs.{needs}
+use Rattle.basics.specs.Words.{arith, needs}
 use Rattle.point_deferred.specs.Inner.Held.{poolless}
 use Rattle.point_deferred.proofs.Ends.{Answered, answered, short, refused, lengths, found, readied, ran}
 use Rattle.point_deferred.proofs.batches.batch.Statement.{statement}

@@ -1,5 +1,5 @@
 -- `point_deferred::batches::batch_answer` meets its contract. Assumes nothing.
-use borrow.Author.Tests.{eq-eqb, ne-eqb, le-leb, lt-leb, not-true, not-false}
+use Rattle.basics.specs.Words.{eq-eqb, ne-eqb, le-leb, lt-leb, not-true, not-false}
 use Rattle.point_deferred.proofs.batches.batch_answer.Statement.{statement}
 use Rattle.point_deferred.proofs.batches.batch_answer.Tie as tie
 

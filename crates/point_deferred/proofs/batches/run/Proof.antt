@@ -1,9 +1,6 @@
 -- `point_deferred::batches::run` meets its contract. The loop's invariant is `Running`: what is left to do makes of the tables and of the output
 -- what all the calls make of those at the start. The measure is the number of calls left. Assumes nothing.
-use Prim.Native.Nat.{_-_, _<_}
-use native.Mathlib.Omega.{arith}
-use lib.ListN.{length}
-use borrow.Author.Needs.{needs}
+use Rattle.basics.specs.Words.{_-_, _<_, length, arith, needs}
 use Rattle.point_deferred.specs.Inner.Held.{poolless}
 use Rattle.point_deferred.proofs.laws.BatchLaws.{Running, start, step, finish}
 use Rattle.point_deferred.proofs.batches.run.Statement.{statement}

@@ -1,8 +1,5 @@
 -- `point_deferred::batches::run_many` meets its contract. The loop's invariant is `RunningMany`: the calls so far have left these records, and marks that the walk at the end comes to. Assumes nothing.
-use Prim.Native.Nat.{_-_, _<_, _≤_}
-use native.Mathlib.Omega.{arith}
-use lib.ListN.{length}
-use borrow.Author.Needs.{needs}
+use Rattle.basics.specs.Words.{_-_, _<_, _≤_, length, arith, needs}
 use Rattle.point_tables.specs.Meaning.Tables.{Tables}
 use Rattle.point_deferred.specs.Inner.Held.{poolless}
 use Rattle.point_deferred.proofs.laws.ManyLaws.{RunningMany, start-many, step-many, walkable, finish-many}

@@ -1,6 +1,5 @@
 -- `point_deferred::call::deferred` meets its contract. Assumes nothing.
-use Prim.Native.Nat.{ℕ}
-use mathlib.Core.Path.{refl, ap, sym, _∙_, subst}
+use Rattle.basics.specs.Words.{ℕ, refl, ap, sym, _∙_, subst}
 use Rattle.point_tables.specs.Meaning.Tables.{Tables}
 use Rattle.point_deferred.specs.Meaning.Batch.{Call}
 use Rattle.point_deferred.specs.Inner.Held.{poolless, call, worked}

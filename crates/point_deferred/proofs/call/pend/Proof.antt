@@ -2,7 +2,7 @@
 use Rattle.cells.proofs.laws.Numbers.{cell-ext}
 use Rattle.cells.proofs.laws.ReachLaws.{position-reached}
 use Rattle.point_deferred.proofs.Shared.{pend-removed, pend-moved, back}
-use borrow.Author.Needs.{needs}
+use Rattle.basics.specs.Words.{needs}
 use Rattle.point_deferred.proofs.call.pend.Statement.{statement}
 use Rattle.point_deferred.proofs.call.pend.Tie as tie
 

@@ -1,7 +1,5 @@
 -- `point_deferred::call::refusal` meets its contract. Assumes nothing.
-use mathlib.Core.Path.{_∙_}
-use borrow.Author.Tests.{eq-eqb, ne-eqb}
-use borrow.Author.Needs.{needs}
+use Rattle.basics.specs.Words.{_∙_, eq-eqb, ne-eqb, needs}
 use Rattle.point_deferred.specs.Inner.Held.{removeRefusal}
 use Rattle.point_deferred.proofs.call.refusal.Statement.{statement}
 use Rattle.point_deferred.proofs.call.refusal.Tie as tie

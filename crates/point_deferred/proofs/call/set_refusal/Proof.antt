@@ -1,12 +1,5 @@
 -- `point_deferred::call::set_refusal` meets its contract. Assumes nothing.
-use Prim.Native.Nat.{ℕ, _<_}
-use mathlib.Core.Path.{_≡_, ap, sym, _∙_}
-use mathlib.Core.Bool.{Bool, true, false}
-use mathlib.Core.List.{[]}
-use lib.ListN.{length, getD}
-use borrow.Author.Tests.{not-true, not-false}
-use borrow.Author.Needs.{needs}
-use native.Mathlib.Omega.{arith}
+use Rattle.basics.specs.Words.{ℕ, _<_, _≡_, ap, sym, _∙_, Bool, true, false, [], length, getD, arith, not-true, not-false, needs}
 use Rattle.basics.specs.Meaning.Refusals.{orElse}
 use Rattle.geometry.specs.Meaning.Domain.{positionInDomain}
 use Rattle.slots.specs.Meaning.Slot.{good}

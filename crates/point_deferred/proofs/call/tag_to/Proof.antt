@@ -1,8 +1,7 @@
 -- `point_deferred::call::tag_to` meets its contract. Assumes nothing.
-use mathlib.Core.Path.{_≡_, sym, _∙_}
+use Rattle.basics.specs.Words.{sym, _∙_, needs}
 use Rattle.basics.proofs.laws.Says.{apart}
 use Rattle.point_deferred.proofs.Shared.{tag-same, tag-other}
-use borrow.Author.Needs.{needs}
 use Rattle.point_deferred.proofs.call.tag_to.Statement.{statement}
 use Rattle.point_deferred.proofs.call.tag_to.Tie as tie
 

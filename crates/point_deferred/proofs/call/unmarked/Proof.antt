@@ -1,8 +1,5 @@
 -- `point_deferred::call::unmarked` meets its contract. Assumes nothing.
-use mathlib.Core.Path.{sym, _∙_}
-use mathlib.Core.List.{[], _∷_}
-use native.Mathlib.Omega.{arith}
-use borrow.Author.Needs.{needs}
+use Rattle.basics.specs.Words.{sym, _∙_, [], _∷_, arith, needs}
 use Rattle.point_tables.specs.Meaning.Tables.{Tables}
 use Rattle.point_deferred.specs.Meaning.Batch.{Call}
 use Rattle.point_deferred.specs.Inner.Held.{poolless, call}

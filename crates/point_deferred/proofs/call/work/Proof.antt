@@ -1,6 +1,5 @@
 -- `point_deferred::call::work` meets its contract. Assumes nothing.
-use native.Mathlib.Omega.{arith}
-use borrow.Author.Needs.{needs}
+use Rattle.basics.specs.Words.{arith, needs}
 use Rattle.cells.proofs.laws.Numbers.{cell-ext}
 use Rattle.point_tables.specs.Meaning.Tables.{Tables}
 use Rattle.point_deferred.specs.Inner.Held.{poolless}

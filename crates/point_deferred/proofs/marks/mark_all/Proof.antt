@@ -1,14 +1,8 @@
 -- `point_deferred::marks::mark_all` meets its contract, by the laws of `MarkLaws`. A turn goes to the next row or to the next entry, and the measure is how many of both are left. Assumes nothing.
-use Prim.Native.Nat.{ℕ, _+_, _-_, _<_, _≤_}
-use mathlib.Core.Path.{_≡_, refl, sym, ap, _∙_, subst}
-use mathlib.Core.List.{List}
-use mathlib.Core.Logic.{⊎-elim}
-use native.Mathlib.Omega.{arith}
-use lib.ListN.{length}
+use Rattle.basics.specs.Words.{ℕ, _+_, _-_, _<_, _≤_, _≡_, refl, sym, ap, _∙_, subst, List, ⊎-elim, length, arith, needs}
 use Rattle.storage.specs.Meaning.Packed.{first, second}
 use Rattle.point_deferred.specs.Inner.Marks.{Walkable, MarkedTo}
 use Rattle.point_deferred.proofs.laws.MarkLaws.{Ahead, start, ahead-start, in-rows, ahead-entry, ahead-row, key-kept, passed-by, set-row}
-use borrow.Author.Needs.{needs}
 use Rattle.point_deferred.proofs.marks.mark_all.Statement.{statement}
 use Rattle.point_deferred.proofs.marks.mark_all.Tie as tie
 use Rattle.point_records.specs.Meaning.Columns.{tagAt}

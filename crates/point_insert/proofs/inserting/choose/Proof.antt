@@ -1,8 +1,5 @@
 -- `point_insert::inserting::choose` meets its contract. Assumes nothing.
-use mathlib.Core.Path.{sym, _∙_}
-use lib.ListN.{length}
-use borrow.Author.Tests.{not-true, not-false}
-use borrow.Author.Needs.{needs}
+use Rattle.basics.specs.Words.{sym, _∙_, length, not-true, not-false, needs}
 use Rattle.point_insert.proofs.Chosen.{chose-3, chose-6, chose-4, chose-slot}
 use Rattle.point_insert.proofs.inserting.choose.Statement.{statement}
 use Rattle.point_insert.proofs.inserting.choose.Tie as tie

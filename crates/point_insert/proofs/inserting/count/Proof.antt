@@ -1,7 +1,5 @@
 -- `point_insert::inserting::count` meets its contract. Assumes nothing.
-use native.Mathlib.Omega.{arith}
-use lib.ListN.{length-set}
-use borrow.Author.Needs.{needs}
+use Rattle.basics.specs.Words.{length-set, arith, needs}
 use Rattle.point_insert.proofs.inserting.count.Statement.{statement}
 use Rattle.point_insert.proofs.inserting.count.Tie as tie
 

@@ -1,5 +1,5 @@
 -- `point_insert::inserting::insert` meets its contract. Assumes nothing.
-use borrow.Author.Needs.{needs}
+use Rattle.basics.specs.Words.{needs}
 use Rattle.point_tables.specs.Meaning.Tables.{Tables, tables}
 use Rattle.point_insert.specs.Inner.Fresh.{Fresh}
 use Rattle.point_insert.proofs.Chosen.{choose-asks, refused, chosen, done}

@@ -1,7 +1,5 @@
 -- `point_insert::inserting::occupy` meets its contract. Assumes nothing.
-use mathlib.Core.Path.{_≡_, subst}
-use lib.ListN.{set}
-use borrow.Author.Needs.{needs}
+use Rattle.basics.specs.Words.{_≡_, subst, set, needs}
 use Rattle.point_records.specs.declared.Record.{Record}
 use Rattle.point_records.specs.Meaning.Columns.{numsOf, realsOf, intsOf}
 use Rattle.point_insert.proofs.inserting.occupy.Statement.{statement}

@@ -1,6 +1,5 @@
 -- `point_insert::inserting::put` meets its contract. Assumes nothing.
-use native.Mathlib.Omega.{arith}
-use borrow.Author.Needs.{needs}
+use Rattle.basics.specs.Words.{arith, needs}
 use Rattle.cells.proofs.laws.ReachLaws.{position-reached}
 use Rattle.point_tables.specs.Meaning.Tables.{Tables, tables}
 use Rattle.point_insert.proofs.Placed.{append-asks, enter-asks, in-map, few, put-is}

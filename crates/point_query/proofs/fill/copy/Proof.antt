@@ -1,10 +1,5 @@
 -- `point_query::fill::copy` meets its contract: each row is the place itself. Assumes nothing.
-use Prim.Native.Nat.{_≤_, _-_}
-use mathlib.Core.Path.{refl, ap, _∙_}
-use mathlib.Core.List.{map-id}
-use native.Mathlib.Omega.{arith}
-use lib.ListN.{take}
-use borrow.Author.Needs.{needs}
+use Rattle.basics.specs.Words.{_≤_, _-_, refl, ap, _∙_, map-id, take, arith, needs}
 use Rattle.storage.specs.Meaning.Keyed.{written}
 use Rattle.storage.proofs.laws.PutLaws.{Rows, rows-none, rows-kept, rows-room, put-next, put-done}
 use Rattle.point_query.proofs.fill.copy.Statement.{statement}

@@ -1,9 +1,5 @@
 -- `point_query::fill::fill` meets its contract. Assumes nothing.
-use Prim.Native.Nat.{ℕ, _≤_}
-use mathlib.Core.List.{List}
-use native.Mathlib.Omega.{arith}
-use lib.ListN.{length}
-use borrow.Author.Needs.{needs}
+use Rattle.basics.specs.Words.{ℕ, _≤_, List, length, arith, needs}
 use Rattle.point_query.specs.Inner.Places.{placesOf}
 use Rattle.point_query.proofs.laws.StretchLaws.{places-most}
 use Rattle.point_query.proofs.laws.FillLaws.{filled-put}

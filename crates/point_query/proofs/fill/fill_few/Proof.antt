@@ -1,9 +1,5 @@
 -- `point_query::fill::fill_few` meets its contract. Assumes nothing.
-use Prim.Native.Nat.{ℕ}
-use mathlib.Core.Path.{ap, _∙_}
-use mathlib.Core.List.{List}
-use native.Mathlib.Omega.{arith}
-use borrow.Author.Needs.{needs}
+use Rattle.basics.specs.Words.{ℕ, ap, _∙_, List, arith, needs}
 use Rattle.point_query.specs.Inner.Places.{placesOf}
 use Rattle.point_query.specs.Inner.Fill.{filled, Findable}
 use Rattle.point_query.specs.Inner.Begun.{Begun}

@@ -1,10 +1,5 @@
 -- `point_query::fill::fill_many` meets its contract. Assumes nothing.
-use Prim.Native.Nat.{ℕ, _≤_}
-use mathlib.Core.Path.{_≡_, ap, _∙_}
-use mathlib.Core.List.{List}
-use native.Mathlib.Omega.{arith}
-use lib.ListN.{take}
-use borrow.Author.Needs.{needs}
+use Rattle.basics.specs.Words.{ℕ, _≤_, _≡_, ap, _∙_, List, take, arith, needs}
 use Rattle.point_query.specs.Inner.Places.{placesOf}
 use Rattle.point_query.specs.Inner.Fill.{filled, Findable}
 use Rattle.point_query.specs.Inner.Begun.{Begun}

@@ -1,9 +1,5 @@
 -- `point_query::fill::put_findings` meets its contract: the rows of the places passed stand in the first places of the outputs. Assumes nothing.
-use Prim.Native.Nat.{_<_, _-_}
-use mathlib.Core.Path.{_≡_, sym, ap, _∙_, subst}
-use native.Mathlib.Omega.{arith}
-use lib.ListN.{length, getD, take}
-use borrow.Author.Needs.{needs}
+use Rattle.basics.specs.Words.{_<_, _-_, _≡_, sym, ap, _∙_, subst, length, getD, take, arith, needs}
 use Rattle.point_records.specs.declared.Entry.{Entry}
 use Rattle.point_query.specs.Meaning.Queries.{handleRow, placeRow, outputs}
 use Rattle.point_query.specs.Inner.Fill.{findingOf, findingAt, handleRowAt, placeRowAt, Findable}

@@ -1,11 +1,6 @@
 -- `point_query::fill::put_range` meets its contract: the rows of the entries passed stand in the first places of the outputs. Assumes nothing.
-use Prim.Native.Nat.{ℕ, _≤_, _-_}
-use mathlib.Core.Path.{_≡_, refl, ap, _∙_}
-use mathlib.Core.List.{List, map}
-use native.Mathlib.Omega.{arith}
+use Rattle.basics.specs.Words.{ℕ, _≤_, _-_, _≡_, refl, ap, _∙_, List, map, length, length-append, length-map, arith, needs}
 use lib.Ieee.{Float}
-use lib.ListN.{length, length-append, length-map}
-use borrow.Author.Needs.{needs}
 use Rattle.cells.specs.declared.Cell.{Cell}
 use Rattle.cells.specs.Inner.Numbers.{Near}
 use Rattle.cells.specs.Meaning.Key.{keyOf}

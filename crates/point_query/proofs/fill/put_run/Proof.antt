@@ -1,13 +1,7 @@
 -- `point_query::fill::put_run` meets its contract: the rows of the places of the stretch that are passed stand behind the first n. Assumes nothing.
-use Prim.Native.Nat.{ℕ, _≤_, _<_, _-_, _+_}
-use mathlib.Core.Path.{_≡_, sym, ap, _∙_, subst}
-use mathlib.Core.Bool.{Bool}
-use mathlib.Core.List.{List, [], _∷_, _++_, map}
-use mathlib.Core.Logic.{⊎-elim}
-use native.Mathlib.Omega.{arith}
+use Rattle.basics.specs.Words.{ℕ, _≤_, _<_, _-_, _+_, _≡_, sym, ap, _∙_, subst, Bool, List, [], _∷_, _++_, map, ⊎-elim, length, take, length-append, arith}
+use Rattle.basics.specs.Words.{needs}
 use lib.Ieee.{Float}
-use lib.ListN.{length, take, length-append}
-use borrow.Author.Needs.{needs}
 use Rattle.storage.specs.Meaning.Keyed.{written}
 use Rattle.point_records.specs.declared.Entry.{Entry}
 use Rattle.point_query.specs.Meaning.Queries.{passes, handleRow, placeRow}

@@ -1,11 +1,5 @@
 -- `point_query::fill::report` meets its contract. Assumes nothing.
-use Prim.Native.Nat.{ℕ, _<_}
-use mathlib.Core.Path.{_≡_, sym, ap, _∙_}
-use mathlib.Core.List.{List}
-use native.Mathlib.Omega.{arith}
-use lib.ListN.{length, take}
-use lib.Seq.{length-take-le}
-use borrow.Author.Needs.{needs}
+use Rattle.basics.specs.Words.{ℕ, _<_, _≡_, sym, ap, _∙_, List, length, take, length-take-le, arith, needs}
 use Rattle.point_query.specs.Meaning.Queries.{outputs, room, findings}
 use Rattle.point_query.specs.Inner.Fill.{filled}
 use Rattle.point_query.proofs.laws.FillLaws.{filled-9, filled-put}

@@ -1,9 +1,5 @@
 -- `point_query::gather::gather` meets its contract: the places of the entries passed stand in the first places. Assumes nothing.
-use Prim.Native.Nat.{_≤_, _<_, _-_}
-use mathlib.Core.Path.{_≡_, refl, _∙_}
-use native.Mathlib.Omega.{arith}
-use lib.ListN.{length}
-use borrow.Author.Needs.{needs}
+use Rattle.basics.specs.Words.{_≤_, _<_, _-_, _≡_, refl, _∙_, length, arith, needs}
 use Rattle.cells.specs.declared.Cell.{Cell}
 use Rattle.cells.specs.Inner.Numbers.{Near}
 use Rattle.cells.specs.Meaning.Key.{keyOf}

@@ -1,11 +1,5 @@
 -- `point_query::gather::gather_part` meets its contract: the places of the run that are passed stand behind the first n, as far as there was room. Assumes nothing.
-use Prim.Native.Nat.{ℕ, _≤_, _<_, _-_, _+_}
-use mathlib.Core.Path.{_≡_, refl, _∙_}
-use mathlib.Core.Bool.{Bool}
-use mathlib.Core.List.{_++_}
-use native.Mathlib.Omega.{arith}
-use lib.ListN.{length, take}
-use borrow.Author.Needs.{needs}
+use Rattle.basics.specs.Words.{ℕ, _≤_, _<_, _-_, _+_, _≡_, refl, _∙_, Bool, _++_, length, take, arith, needs}
 use Rattle.point_query.specs.Inner.Places.{placesIn, spotPasses}
 use Rattle.point_query.proofs.laws.PlacesLaws.{places-length}
 use Rattle.point_query.proofs.laws.BegunLaws.{stretch-none, stretch-room, stretch-kept, stretch-count, stretch-first}

@@ -1,12 +1,5 @@
 -- `point_query::gather::gather_run` meets its contract: the places of the stretch that are passed stand behind the first n. Assumes nothing.
-use Prim.Native.Nat.{ℕ, _≤_, _<_, _-_, _+_}
-use mathlib.Core.Path.{_≡_, sym, ap, _∙_}
-use mathlib.Core.Bool.{Bool}
-use mathlib.Core.List.{List}
-use mathlib.Core.Logic.{⊎-elim}
-use native.Mathlib.Omega.{arith}
-use lib.ListN.{length, set}
-use borrow.Author.Needs.{needs}
+use Rattle.basics.specs.Words.{ℕ, _≤_, _<_, _-_, _+_, _≡_, sym, ap, _∙_, Bool, List, ⊎-elim, length, set, arith, needs}
 use Rattle.storage.specs.Meaning.Keyed.{written}
 use Rattle.storage.proofs.laws.WrittenLaws.{length-written}
 use Rattle.point_query.specs.Meaning.Queries.{passes}

@@ -1,6 +1,5 @@
 -- `point_query::gather::passes` meets its contract. Assumes nothing.
-use mathlib.Core.Path.{sym, ap, _∙_}
-use borrow.Author.Needs.{needs}
+use Rattle.basics.specs.Words.{sym, ap, _∙_, needs}
 use Rattle.point_query.specs.declared.Test.{Test}
 use Rattle.point_query.specs.Meaning.Queries.{passes}
 use Rattle.point_query.proofs.gather.passes.Statement.{statement}

@@ -1,5 +1,5 @@
 -- `point_records::entries::entry_at` meets its contract. Assumes nothing.
-use borrow.Author.Needs.{needs}
+use Rattle.basics.specs.Words.{needs}
 use Rattle.point_records.proofs.entries.entry_at.Statement.{statement}
 use Rattle.point_records.proofs.entries.entry_at.Tie as tie
 

@@ -1,12 +1,6 @@
 -- `point_records::spans::span_at` meets its contract. Assumes nothing.
-use Prim.Native.Nat.{ℕ, _<_}
-use mathlib.Core.Path.{_≡_, sym, ap, _∙_, subst}
-use mathlib.Core.List.{[], _∷_}
-use native.Mathlib.Omega.{arith}
-use lib.IntN.{ℤ}
+use Rattle.basics.specs.Words.{ℕ, _<_, ap, _∙_, subst, [], _∷_, getD, ℤ, arith, needs}
 use lib.Ieee.{nan}
-use lib.ListN.{getD}
-use borrow.Author.Needs.{needs}
 use Rattle.cells.specs.declared.Cell.{Cell}
 use Rattle.cells.specs.Inner.Key.{cellOfKey}
 use Rattle.cells.specs.Inner.Span.{Spans}

@@ -1,8 +1,5 @@
 -- `point_remove::clearing::answer` meets its contract. Assumes nothing.
-use native.Mathlib.Omega.{arith}
-use lib.ListN.{getD}
-use borrow.Author.Needs.{needs}
-use borrow.Author.Tests.{not-true, not-false}
+use Rattle.basics.specs.Words.{getD, arith, not-true, not-false, needs}
 use Rattle.point_remove.proofs.Answers.{count-3, count-room}
 use Rattle.point_remove.proofs.clearing.answer.Statement.{statement}
 use Rattle.point_remove.proofs.clearing.answer.Tie as tie

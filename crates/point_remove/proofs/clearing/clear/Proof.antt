@@ -1,5 +1,5 @@
 -- `point_remove::clearing::clear` meets its contract. Assumes nothing.
-use borrow.Author.Needs.{needs}
+use Rattle.basics.specs.Words.{needs}
 use Rattle.point_tables.specs.Meaning.Tables.{Tables, tables}
 use Rattle.point_remove.proofs.Cleared.{answer-asks, refused, grid, put-asks, done}
 use Rattle.point_remove.proofs.clearing.clear.Statement.{statement}

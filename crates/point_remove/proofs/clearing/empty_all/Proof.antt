@@ -1,7 +1,5 @@
 -- `point_remove::clearing::empty_all` meets its contract. Assumes nothing.
-use native.Mathlib.Omega.{arith}
-use lib.ListN.{length-set}
-use borrow.Author.Needs.{needs}
+use Rattle.basics.specs.Words.{length-set, arith, needs}
 use Rattle.point_remove.proofs.clearing.empty_all.Statement.{statement}
 use Rattle.point_remove.proofs.clearing.empty_all.Tie as tie
 

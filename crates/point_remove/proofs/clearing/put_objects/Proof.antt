@@ -1,11 +1,5 @@
 -- `point_remove::clearing::put_objects` meets its contract: what the slots passed have stands in the first places. Assumes nothing.
-use Prim.Native.Nat.{_≤_, _<_, _-_}
-use mathlib.Core.Path.{sym, _∙_}
-use mathlib.Core.Logic.{⊎-elim}
-use native.Mathlib.Omega.{arith}
-use lib.ListN.{length}
-use lib.Seq.{take-all}
-use borrow.Author.Needs.{needs}
+use Rattle.basics.specs.Words.{_≤_, _<_, _-_, sym, _∙_, ⊎-elim, length, take-all, arith, needs}
 use Rattle.slot_walks.specs.Meaning.Live.{liveFrom, objAt}
 use Rattle.slot_walks.proofs.laws.LiveLaws.{liveTo, live-within, live-one, live-none, live-room}
 use Rattle.point_remove.specs.Inner.{placeAt}

@@ -1,6 +1,5 @@
 -- `point_remove::removing::answer` meets its contract. Assumes nothing.
-use borrow.Author.Needs.{needs}
-use borrow.Author.Tests.{not-true, not-false}
+use Rattle.basics.specs.Words.{not-true, not-false, needs}
 use Rattle.point_remove.proofs.removing.answer.Statement.{statement}
 use Rattle.point_remove.proofs.removing.answer.Tie as tie
 

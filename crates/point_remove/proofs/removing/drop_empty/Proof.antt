@@ -1,5 +1,5 @@
 -- `point_remove::removing::drop_empty` meets its contract. Assumes nothing.
-use borrow.Author.Needs.{needs}
+use Rattle.basics.specs.Words.{needs}
 use Rattle.point_remove.proofs.Taken.{rows-kept, row-dropped}
 use Rattle.point_remove.proofs.removing.drop_empty.Statement.{statement}
 use Rattle.point_remove.proofs.removing.drop_empty.Tie as tie

@@ -1,7 +1,5 @@
 -- `point_remove::removing::empty` meets its contract. Assumes nothing.
-use native.Mathlib.Omega.{arith}
-use lib.ListN.{length-set}
-use borrow.Author.Needs.{needs}
+use Rattle.basics.specs.Words.{length-set, arith, needs}
 use Rattle.point_remove.proofs.removing.empty.Statement.{statement}
 use Rattle.point_remove.proofs.removing.empty.Tie as tie
 

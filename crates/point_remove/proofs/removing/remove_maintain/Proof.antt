@@ -1,5 +1,5 @@
 -- `point_remove::removing::remove_maintain` meets its contract. Assumes nothing.
-use borrow.Author.Needs.{needs}
+use Rattle.basics.specs.Words.{needs}
 use Rattle.point_tables.specs.Meaning.Tables.{Tables, tables}
 use Rattle.point_remove.proofs.Answers.{refused, object, done}
 use Rattle.point_remove.proofs.removing.remove_maintain.Statement.{statement}

@@ -1,6 +1,5 @@
 -- `point_remove::removing::take_out` meets its contract. Assumes nothing.
-use mathlib.Core.Path.{refl}
-use borrow.Author.Needs.{needs}
+use Rattle.basics.specs.Words.{refl, needs}
 use Rattle.point_tables.specs.Meaning.Tables.{Tables, tables}
 use Rattle.point_remove.proofs.Taken.{in-columns, in-map, take-asks, cells-asks, pool-asks, taken-is}
 use Rattle.point_remove.proofs.removing.take_out.Statement.{statement}

@@ -1,7 +1,5 @@
 -- `storage::gap::close_row` meets its contract, by the laws of `GapLaws`. The measure is what is left up to k. Assumes nothing.
-use Prim.Native.Nat.{_-_}
-use mathlib.Core.List.{[]}
-use native.Mathlib.Omega.{arith}
+use Rattle.basics.specs.Words.{_-_, [], arith}
 use Rattle.storage.proofs.laws.GapLaws.{Closing, closing-start, closing-turn, closing-end}
 use Rattle.storage.proofs.gap.close_row.Statement.{statement}
 use Rattle.storage.proofs.gap.close_row.Tie as tie

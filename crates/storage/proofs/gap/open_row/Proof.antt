@@ -1,7 +1,5 @@
 -- `storage::gap::open_row` meets its contract, by the laws of `GapLaws`: the list is the first one with the element at j twice. The measure is j. Assumes nothing.
-use mathlib.Core.List.{[]}
-use lib.ListN.{length-set}
-use native.Mathlib.Omega.{arith}
+use Rattle.basics.specs.Words.{[], length-set, arith}
 use Rattle.storage.proofs.laws.GapLaws.{Opening, opening-start, opening-turn, opening-end}
 use Rattle.storage.proofs.gap.open_row.Statement.{statement}
 use Rattle.storage.proofs.gap.open_row.Tie as tie

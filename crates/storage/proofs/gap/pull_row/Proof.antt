@@ -1,7 +1,5 @@
 -- `storage::gap::pull_row` meets its contract. Assumes nothing.
-use mathlib.Core.Path.{_∙_}
-use lib.ListN.{length-set}
-use borrow.Author.Needs.{needs}
+use Rattle.basics.specs.Words.{_∙_, length-set, needs}
 use Rattle.storage.proofs.gap.pull_row.Statement.{statement}
 use Rattle.storage.proofs.gap.pull_row.Tie as tie
 

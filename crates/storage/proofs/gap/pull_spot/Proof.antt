@@ -1,7 +1,5 @@
 -- `storage::gap::pull_spot` meets its contract. Assumes nothing.
-use mathlib.Core.Path.{_∙_}
-use lib.ListN.{length-set}
-use borrow.Author.Needs.{needs}
+use Rattle.basics.specs.Words.{_∙_, length-set, needs}
 use Rattle.storage.proofs.gap.pull_spot.Statement.{statement}
 use Rattle.storage.proofs.gap.pull_spot.Tie as tie
 

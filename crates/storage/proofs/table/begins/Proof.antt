@@ -1,9 +1,5 @@
 -- `storage::table::begins` meets its contract. Assumes nothing.
-use mathlib.Core.Path.{sym, _∙_, ap}
-use mathlib.Core.Bool.{not}
-use native.Mathlib.Omega.{arith}
-use borrow.Author.Needs.{needs}
-use borrow.Author.Tests.{eqb-false, ne-eqb, not-true}
+use Rattle.basics.specs.Words.{sym, _∙_, ap, not, arith, eqb-false, ne-eqb, not-true, needs}
 use Rattle.storage.proofs.table.begins.Statement.{statement}
 use Rattle.storage.proofs.table.begins.Tie as tie
 

@@ -1,8 +1,5 @@
 -- `storage::table::drop_cell` meets its contract. Assumes nothing.
-use mathlib.Core.Path.{_∙_}
-use native.Mathlib.Omega.{arith}
-use lib.ListN.{take}
-use borrow.Author.Needs.{needs}
+use Rattle.basics.specs.Words.{_∙_, take, arith, needs}
 use Rattle.storage.specs.Meaning.Entries.{rowKey}
 use Rattle.storage.proofs.laws.TableLaws.{rising-sorted}
 use Rattle.storage.proofs.laws.TableMoveLaws.{drop-old, drop-none}

@@ -1,7 +1,5 @@
 -- `storage::table::enter_cell` meets its contract. Assumes nothing.
-use mathlib.Core.Path.{_∙_}
-use native.Mathlib.Omega.{arith}
-use borrow.Author.Needs.{needs}
+use Rattle.basics.specs.Words.{_∙_, arith, needs}
 use Rattle.storage.proofs.laws.TableMoveLaws.{at-within, enter-old, enter-new}
 use Rattle.storage.proofs.Tests.{denied}
 use Rattle.storage.proofs.table.enter_cell.Statement.{statement}

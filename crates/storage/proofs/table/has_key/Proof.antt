@@ -1,5 +1,5 @@
 -- `storage::table::has_key` meets its contract. Assumes nothing.
-use borrow.Author.Needs.{needs}
+use Rattle.basics.specs.Words.{needs}
 use Rattle.storage.proofs.laws.FilterLaws.{by-test}
 use Rattle.storage.proofs.laws.TableMoveLaws.{key-filled, filled-key}
 use Rattle.storage.proofs.Tests.{denied}

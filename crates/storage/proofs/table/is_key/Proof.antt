@@ -1,8 +1,5 @@
 -- `storage::table::is_key` meets its contract. Assumes nothing.
-use mathlib.Core.Path.{sym, _∙_}
-use native.Mathlib.Omega.{arith}
-use borrow.Author.Needs.{needs}
-use borrow.Author.Tests.{eqb-true, eq-eqb}
+use Rattle.basics.specs.Words.{sym, _∙_, arith, eqb-true, eq-eqb, needs}
 use Rattle.basics.proofs.laws.Says.{says-no}
 use Rattle.storage.proofs.table.is_key.Statement.{statement}
 use Rattle.storage.proofs.table.is_key.Tie as tie

@@ -1,8 +1,5 @@
 -- `storage::table::mark_cell` meets its contract. Assumes nothing.
-use Prim.Native.Nat.{_<_}
-use native.Mathlib.Omega.{arith}
-use lib.ListN.{length, take}
-use borrow.Author.Needs.{needs}
+use Rattle.basics.specs.Words.{_<_, length, take, arith, needs}
 use Rattle.storage.specs.Meaning.Entries.{rowKey}
 use Rattle.storage.proofs.laws.TableLaws.{rising-sorted}
 use Rattle.storage.proofs.laws.TableMoveLaws.{mark-old, mark-none}

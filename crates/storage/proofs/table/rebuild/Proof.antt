@@ -1,11 +1,6 @@
 -- `storage::table::rebuild` meets its contract: the table is that of the entries passed. The measure is what is left of the entries.
 -- Assumes nothing.
-use Prim.Native.Nat.{ℕ, _-_, _<_, _≤_}
-use mathlib.Core.Path.{_≡_, subst, ap, _∙_}
-use mathlib.Core.Logic.{⊎-elim}
-use mathlib.Core.List.{List, [], _∷_}
-use native.Mathlib.Omega.{arith}
-use lib.ListN.{length, set}
+use Rattle.basics.specs.Words.{ℕ, _-_, _<_, _≤_, _≡_, subst, ap, _∙_, List, [], _∷_, ⊎-elim, length, set, arith}
 use Rattle.storage.specs.Meaning.Packed.{first}
 use Rattle.storage.proofs.laws.RebuildLaws.{Built, built-none, built-room, built-more, built-same}
 use Rattle.storage.proofs.Tests.{denied}

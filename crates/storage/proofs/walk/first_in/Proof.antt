@@ -1,11 +1,6 @@
 -- `storage::walk::first_in` meets its contract: no place passed is in the window. The measure is what is left of the pool.
 -- Assumes nothing.
-use Prim.Native.Nat.{ℕ, _-_, _<_, _≤_}
-use mathlib.Core.Path.{_≡_, subst}
-use mathlib.Core.Bool.{false}
-use mathlib.Core.List.{[]}
-use native.Mathlib.Omega.{arith}
-use lib.ListN.{length, take}
+use Rattle.basics.specs.Words.{ℕ, _-_, _<_, _≤_, _≡_, subst, false, [], length, take, arith}
 use Rattle.cells.specs.Inner.Key.{columnOf, lineOf}
 use Rattle.storage.specs.Meaning.Keyed.{below}
 use Rattle.storage.specs.Meaning.Entries.{rowKey}

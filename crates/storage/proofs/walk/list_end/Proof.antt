@@ -1,7 +1,5 @@
 -- `storage::walk::list_end` meets its contract: every place passed has the key. The measure is what is left. Assumes nothing.
-use Prim.Native.Nat.{ℕ, _-_, _<_, _≤_}
-use mathlib.Core.Path.{_≡_, sym, _∙_}
-use native.Mathlib.Omega.{arith}
+use Rattle.basics.specs.Words.{ℕ, _-_, _<_, _≤_, _≡_, sym, _∙_, arith}
 use borrow.Author.Count.{below-more}
 use Rattle.storage.specs.Meaning.Packed.{first}
 use Rattle.storage.proofs.walk.list_end.Statement.{statement}

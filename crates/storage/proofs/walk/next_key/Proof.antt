@@ -1,6 +1,5 @@
 -- `storage::walk::next_key` meets its contract, case by case. Assumes nothing.
-use native.Mathlib.Omega.{arith}
-use borrow.Author.Needs.{needs}
+use Rattle.basics.specs.Words.{arith, needs}
 use Rattle.cells.specs.Inner.Key.{columnOf, lineOf}
 use Rattle.storage.proofs.laws.RunLaws.{next-below, next-left, next-right, next-here, inside}
 use Rattle.storage.proofs.walk.next_key.Statement.{statement}

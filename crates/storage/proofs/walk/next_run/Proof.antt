@@ -1,7 +1,5 @@
 -- `storage::walk::next_run` meets its contract. Assumes nothing.
-use Prim.Native.Nat.{_<_}
-use native.Mathlib.Omega.{arith}
-use borrow.Author.Needs.{needs}
+use Rattle.basics.specs.Words.{_<_, arith, needs}
 use Rattle.storage.proofs.walk.next_run.Statement.{statement}
 use Rattle.storage.proofs.walk.next_run.Tie as tie
 

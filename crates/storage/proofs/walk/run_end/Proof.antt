@@ -1,9 +1,6 @@
 -- `storage::walk::run_end` meets its contract: every place passed is in the window. The measure is what is left of the pool.
 -- Assumes nothing.
-use Prim.Native.Nat.{ℕ, _-_, _<_, _≤_}
-use mathlib.Core.Path.{_≡_, ap, _∙_}
-use mathlib.Core.Bool.{true}
-use native.Mathlib.Omega.{arith}
+use Rattle.basics.specs.Words.{ℕ, _-_, _<_, _≤_, _≡_, ap, _∙_, true, arith}
 use Rattle.cells.specs.Inner.Key.{columnOf, lineOf}
 use Rattle.storage.specs.Meaning.Packed.{first}
 use Rattle.storage.specs.Inner.Window.{inWindow}

@@ -1,7 +1,7 @@
 -- `trace_lines::arguments::arguments` meets its contract: what is asked for is taken, one after the other. Assumes nothing.
 use mir.Facts.{toZ-ofZ}
 use Rattle.trace_lines.specs.Meaning.Requests.{argumentsOf}
-use borrow.Author.Needs.{needs}
+use Rattle.basics.specs.Words.{needs}
 use Rattle.trace_lines.proofs.arguments.arguments.Statement.{statement}
 use Rattle.trace_lines.proofs.arguments.arguments.Tie as tie
 

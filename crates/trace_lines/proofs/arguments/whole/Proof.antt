@@ -1,8 +1,5 @@
 -- `trace_lines::arguments::whole` meets its contract. Assumes nothing.
-use Prim.Native.Nat.{ℕ}
-use mathlib.Core.Path.{sym, ap, _∙_}
-use mathlib.Core.List.{List}
-use borrow.Author.Needs.{needs}
+use Rattle.basics.specs.Words.{ℕ, sym, ap, _∙_, List, needs}
 use Rattle.trace_lines.specs.Meaning.Taken.{taken}
 use Rattle.trace_lines.specs.Meaning.Requests.{whole}
 use Rattle.trace_lines.proofs.laws.CursorLaws.{field-at, no-field}

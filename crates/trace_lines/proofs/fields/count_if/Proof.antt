@@ -1,9 +1,7 @@
 -- `trace_lines::fields::count_if` meets its contract. Assumes nothing.
-use native.Mathlib.Omega.{arith}
+use Rattle.basics.specs.Words.{arith, not-true, not-false, needs}
 use mir.Facts.{toZ-ofZ}
-use borrow.Author.Tests.{not-true, not-false}
 use Rattle.trace_lines.proofs.laws.CursorLaws.{end-within, field-from, no-field}
-use borrow.Author.Needs.{needs}
 use Rattle.trace_lines.proofs.fields.count_if.Statement.{statement}
 use Rattle.trace_lines.proofs.fields.count_if.Tie as tie
 

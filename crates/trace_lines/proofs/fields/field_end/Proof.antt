@@ -1,8 +1,5 @@
 -- `trace_lines::fields::field_end` meets its contract: from i on the field ends where it ends from `at` on. Assumes nothing.
-use Prim.Native.Nat.{_+_, _-_, _≤_}
-use mathlib.Core.Path.{_≡_, refl}
-use native.Mathlib.Omega.{arith}
-use lib.ListN.{length, drop}
+use Rattle.basics.specs.Words.{_+_, _-_, _≤_, _≡_, refl, length, drop, arith}
 use Rattle.trace_lines.specs.Inner.Cursor.{untilComma, endFrom}
 use Rattle.trace_lines.proofs.laws.CursorLaws.{at-comma, at-other, at-end}
 use Rattle.trace_lines.proofs.fields.field_end.Statement.{statement}

@@ -1,7 +1,7 @@
 -- `trace_lines::fields::handle_if` meets its contract. Assumes nothing.
 use Rattle.trace_lines.proofs.laws.TakenLaws.{if-both}
 use Rattle.trace_lines.specs.Meaning.Taken.{handleFrom, takeNumber}
-use borrow.Author.Needs.{needs}
+use Rattle.basics.specs.Words.{needs}
 use Rattle.trace_lines.proofs.fields.handle_if.Statement.{statement}
 use Rattle.trace_lines.proofs.fields.handle_if.Tie as tie
 

@@ -1,8 +1,6 @@
 -- `trace_lines::fields::number_if` meets its contract. Assumes nothing.
-use native.Mathlib.Omega.{arith}
-use borrow.Author.Tests.{not-true, not-false}
+use Rattle.basics.specs.Words.{arith, not-true, not-false, needs}
 use Rattle.trace_lines.proofs.laws.CursorLaws.{end-within, field-from, no-field}
-use borrow.Author.Needs.{needs}
 use Rattle.trace_lines.proofs.fields.number_if.Statement.{statement}
 use Rattle.trace_lines.proofs.fields.number_if.Tie as tie
 

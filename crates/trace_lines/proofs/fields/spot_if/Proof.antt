@@ -1,9 +1,8 @@
 -- `trace_lines::fields::spot_if` meets its contract. Assumes nothing.
-use lib.IntN.{pos}
+use Rattle.basics.specs.Words.{pos, needs}
 use mir.Facts.{toZ-ofZ}
 use Rattle.trace_lines.proofs.laws.TakenLaws.{if-both}
 use Rattle.trace_lines.specs.Meaning.Taken.{spotFrom, takeCount}
-use borrow.Author.Needs.{needs}
 use Rattle.trace_lines.proofs.fields.spot_if.Statement.{statement}
 use Rattle.trace_lines.proofs.fields.spot_if.Tie as tie
 

@@ -1,5 +1,5 @@
 -- `trace_lines::fields::spots_if` meets its contract. Assumes nothing.
-use borrow.Author.Needs.{needs}
+use Rattle.basics.specs.Words.{needs}
 use Rattle.trace_lines.proofs.fields.spots_if.Statement.{statement}
 use Rattle.trace_lines.proofs.fields.spots_if.Tie as tie
 

@@ -1,9 +1,6 @@
 -- `trace_lines::words::same` meets its contract: the bytes before i are the same. Assumes nothing.
-use Prim.Native.Nat.{ℕ, _-_, _≤_, _<_}
-use mathlib.Core.Path.{_≡_, sym}
-use native.Mathlib.Omega.{arith}
+use Rattle.basics.specs.Words.{ℕ, _-_, _≤_, _<_, _≡_, sym, length, getD, arith}
 use borrow.Author.Count.{below-none, below-more}
-use lib.ListN.{length, getD}
 use Rattle.trace_lines.proofs.laws.WordLaws.{other-length, other-byte, same-bytes}
 use Rattle.trace_lines.proofs.words.same.Statement.{statement}
 use Rattle.trace_lines.proofs.words.same.Tie as tie

@@ -1,9 +1,6 @@
 -- `trace_replay::answer_record` meets its contract: the request that was read is performed, and what it says is put. Assumes nothing.
-use mathlib.Core.Path.{sym, subst, _∙_}
-use lib.ListN.{take, replicate, length-replicate}
-use Prim.Native.Nat.{ℕ}
+use Rattle.basics.specs.Words.{ℕ, sym, subst, _∙_, take, replicate, length-replicate, needs}
 use lib.Ieee.{ofBits}
-use borrow.Author.Needs.{needs}
 use Rattle.trace_decimals.specs.Meaning.Written.{buffer}
 use Rattle.trace_telling.specs.Inner.InRange.{InRange}
 use Rattle.trace_telling.proofs.laws.InRange.{read-in-range}

@@ -1,9 +1,6 @@
 -- `trace_replay::next_record` meets its contract: what is still to be found from here on is what was to be found from the start on. The measure is
 -- what is left of the block. Assumes nothing.
-use Prim.Native.Nat.{ℕ, _-_}
-use mathlib.Core.Path.{_≡_, refl, sym, ap, _∙_}
-use native.Mathlib.Omega.{arith}
-use lib.ListN.{length, drop, getD}
+use Rattle.basics.specs.Words.{ℕ, _-_, _≡_, refl, sym, ap, _∙_, length, drop, getD, arith}
 use Rattle.trace_splits.specs.Meaning.Sofar.{sofar, feed}
 use Rattle.trace_replay.specs.Meaning.Next.{nextOf}
 use Rattle.trace_replay.proofs.laws.NextLaws.{at-end, a-record, no-record}
