@@ -5,7 +5,7 @@ ghost use Rattle.point_tables.specs.Meaning.Lent.{before, Gives};
 ghost use Rattle.point_insert.specs.Meaning.New.{newOf};
 ghost use Rattle.point_insert.specs.Meaning.Insert.{insertOf};
 ghost use Rattle.point_deferred.specs.Meaning.Moves.{setPositionOf, removeOf};
-ghost use Rattle.point_deferred.specs.Meaning.Batch.{batchOf};
+ghost use Rattle.point_batch.specs.Meaning.Batch.{batchOf};
 ghost use Rattle.point_remove.specs.Meaning.RemoveMaintain.{removeMaintainOf};
 ghost use Rattle.point_remove.specs.Meaning.Clear.{clearOf};
 ghost use Rattle.point_get.specs.Meaning.{got, getOf, lenOf, handlesOf, listing};

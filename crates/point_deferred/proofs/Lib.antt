@@ -1,4 +1,3 @@
 -- What the proofs of the deferred calls share.
 pub mod Shared
-pub mod Ends
 pub mod laws

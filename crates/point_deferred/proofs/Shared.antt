@@ -1,7 +1,7 @@
 -- What the code of a deferred call makes, from what each of its steps gives. Assumes nothing.
 use Rattle.basics.specs.Words.{ℕ, zero, suc, _^_, _<_, _≤_, _≡_, refl, ap, sym, _∙_, subst, Bool, true, false, List, [], _∷_, ⊎-elim, length, getD, set, take}
-use Rattle.basics.specs.Words.{ℤ, pos, arith, eq-eqb, ne-eqb, sfits-of}
-use lib.Ieee.{Float, nan}
+use Rattle.basics.specs.Words.{ℤ, arith, eq-eqb, ne-eqb, sfits-of}
+use lib.Ieee.{Float}
 use lib.Signed.{mag}
 use mir.Syntax.{w32}
 use mir.Val.{toZ, ofZ, hbits}
@@ -12,7 +12,7 @@ use Rattle.storage.specs.Meaning.Keyed.{written}
 use Rattle.storage.specs.Meaning.Entries.{rowKey}
 use Rattle.storage.specs.Meaning.CellTable.{marked}
 use Rattle.storage.specs.Inner.Tables.{Rising}
-use Rattle.point_records.specs.Meaning.Columns.{recordAt, stateOf, tagOf, pendingOf, targetOf}
+use Rattle.point_records.specs.Meaning.Columns.{recordAt, positionIn, stateOf, tagOf, pendingOf, targetOf}
 use Rattle.point_records.specs.Meaning.States.{isRemoved, aimed}
 use Rattle.point_tables.specs.Meaning.Tables.{Tables, tables}
 use Rattle.point_tables.specs.Meaning.Outcome.{Outcome, outcome}
@@ -29,10 +29,12 @@ use Rattle.storage.proofs.laws.FilterLaws.{by-test}
 use Rattle.point_records.specs.Inner.Decide.{d-cell}
 use Rattle.replies.specs.declared.Reply.{Reply}
 use Rattle.point_deferred.specs.Meaning.Moves.{pended, setPositionAnswer, setPositionOf, removeAnswer, removeOf}
-use Rattle.point_deferred.specs.Meaning.Batch.{Call, callOf}
+use Rattle.point_deferred.specs.Meaning.Calls.{Call, callOf}
 use Rattle.point_deferred.proofs.laws.MovesLaws.{set-done, set-refused}
 use Rattle.point_deferred.specs.Inner.Ready.{Ready}
 use Rattle.point_deferred.proofs.laws.ReadyLaws.{rows-rise}
+use Rattle.point_deferred.specs.declared.rows.Pending.{Pending}
+use Rattle.point_deferred.specs.Inner.Rows.{cellIn, withTag, withPending, withTarget, returnedIn, PendingFor}
 use Rattle.point_deferred.specs.Inner.Held.{poolless, call, tagTo, PendedRows, pendedOnly, unmarkedOf, worked, heldAnswer, heldOf}
 use Rattle.point_deferred.proofs.laws.Held.{withPool}
 use Rattle.point_deferred.proofs.laws.HeldLaws.{held-refused, held-done, call-worked}
@@ -83,33 +85,28 @@ module _ (size : ℕ) (c : Cell) (at : Position) where
       (λ e. rw e (sym (said-says (d-cell (cellAt size at) c) .yes e)))
       (λ e. rw e)
 
-module _ (ns : List (List ℕ)) (qs : List (List Float)) (zs : List (List ℤ)) (size s kind : ℕ) (at : Position) where
-  abbrev N : ℕ → ℕ
-  N i = getD (getD ns s []) i 0
+module _ (size : ℕ) (q : List Float) (z : List ℤ) (kind : ℕ) (at : Position) where
+  pub leads-nowhere : (p : Position) (c : Cell) → (kind ≡ 0 → ⊥) → p ≡ positionIn q → c ≡ cellIn z → PendingFor size q z kind at (record { tag = 3; at = p; to = c })
+  leads-nowhere p c n ep ec = record { tag = rw (ne-eqb kind 0 n); place = rw (ne-eqb kind 0 n) ep; cell = rw (ne-eqb kind 0 n) ec }
 
-  abbrev Q : ℕ → Float
-  Q i = getD (getD qs s []) i nan
-
-  abbrev Z : ℕ → ℤ
-  Z i = getD (getD zs s []) i (pos 0)
-
-  pub pend-removed : (x y u v : ℤ) → (kind ≡ 0 → ⊥) → x ≡ Z 0 → y ≡ Z 1 → u ≡ Z 0 → v ≡ Z 1
-      → PendedRows ns qs zs size s kind at (N 2) (set ns s (N 0 ∷ N 1 ∷ N 2 ∷ 3 ∷ [])) (set qs s (Q 0 ∷ Q 1 ∷ Q 0 ∷ Q 1 ∷ [])) (set zs s (x ∷ y ∷ u ∷ v ∷ []))
-  pend-removed x y u v n ex ey eu ev =
-      record { answer = rw (ne-eqb kind 0 n); nums = rw (ne-eqb kind 0 n); reals = rw (ne-eqb kind 0 n); ints = rw (ne-eqb kind 0 n, ex, ey, eu, ev) }
-
-  pub pend-moved : (x y u v : ℤ) (d e : Cell) (t : ℕ) → kind ≡ 0 → d ≡ cellAt size at → e ≡ record { x = Z 0; y = Z 1 } → t ≡ tagTo d e → x ≡ Z 0 → y ≡ Z 1 → u ≡ d .x → v ≡ d .y
-      → PendedRows ns qs zs size s kind at 0 (set ns s (N 0 ∷ N 1 ∷ N 2 ∷ t ∷ [])) (set qs s (Q 0 ∷ Q 1 ∷ at .x ∷ at .y ∷ [])) (set zs s (x ∷ y ∷ u ∷ v ∷ []))
-  pend-moved x y u v d e t k ed ee et ex ey eu ev =
-      let c : Cell = record { x = Z 0; y = Z 1 } in
-      let p : Position = record { x = Q 0; y = Q 1 } in
-      let q : t ≡ tagOf (aimed size c at) = et ∙ (λ i. tagTo (ed i) (ee i)) ∙ sym (aim-tag size c at) in
-      let w : d ≡ targetOf (aimed size c at) c = ed ∙ sym (aim-cell size c at) in
+  pub leads : (d c : Cell) (t : ℕ) → kind ≡ 0 → d ≡ cellAt size at → c ≡ cellIn z → t ≡ tagTo d c → PendingFor size q z kind at (record { tag = t; at = at; to = d })
+  leads d c t k ed ec et =
       record {
-        answer = rw (eq-eqb kind 0 k);
-        nums = rw (eq-eqb kind 0 k) (ap (λ (m : ℕ). set ns s (N 0 ∷ N 1 ∷ N 2 ∷ m ∷ [])) q);
-        reals = rw (eq-eqb kind 0 k) (ap (λ (m : Position). set qs s (Q 0 ∷ Q 1 ∷ m .x ∷ m .y ∷ [])) (sym (aim-position size c at p)));
-        ints = rw (eq-eqb kind 0 k, ex, ey, eu, ev) (ap (λ (m : Cell). set zs s (Z 0 ∷ Z 1 ∷ m .x ∷ m .y ∷ [])) w);
+        tag = rw (eq-eqb kind 0 k) (et ∙ (λ i. tagTo (ed i) (ec i)) ∙ sym (aim-tag size (cellIn z) at));
+        place = rw (eq-eqb kind 0 k) (sym (aim-position size (cellIn z) at (positionIn q)));
+        cell = rw (eq-eqb kind 0 k) (ed ∙ sym (aim-cell size (cellIn z) at));
+      }
+
+module _ (ns : List (List ℕ)) (qs : List (List Float)) (zs : List (List ℤ)) (size s kind : ℕ) (at : Position) where
+  pub pended-rows : (p : Pending) (d : ℕ) (n : List ℕ) (q : List Float) (z : List ℤ) → PendingFor size (getD qs s []) (getD zs s []) kind at p → d ≡ returnedIn (getD ns s []) kind
+      → n ≡ withTag (getD ns s []) (p .tag) → q ≡ withPending (getD qs s []) (p .at) → z ≡ withTarget (getD zs s []) (p .to)
+      → PendedRows ns qs zs size s kind at d (set ns s n) (set qs s q) (set zs s z)
+  pended-rows p d n q z h ed en eq ez =
+      record {
+        answer = ed;
+        nums = ap (set ns s) (en ∙ ap (withTag (getD ns s [])) (h .tag));
+        reals = ap (set qs s) (eq ∙ ap (withPending (getD qs s [])) (h .place));
+        ints = ap (set zs s) (ez ∙ ap (withTarget (getD zs s [])) (h .cell));
       }
 
 -- the object of slot s has something pending, and its cell, read as e, is marked

@@ -1,5 +1,4 @@
 -- What only inner contracts cite.
-pub mod Batch
 pub mod Held
-pub mod Marks
 pub mod Ready
+pub mod Rows

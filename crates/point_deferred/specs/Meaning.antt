@@ -1,3 +1,3 @@
 -- What must be believed: what the public calls and the demands cite.
-pub mod Batch
+pub mod Calls
 pub mod Moves

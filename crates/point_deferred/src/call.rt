@@ -8,8 +8,8 @@ ghost use Rattle.point_tables.specs.Meaning.Outcome.{outcome};
 ghost use Rattle.point_deferred.specs.Inner.Ready.{Ready, Workable};
 ghost use Rattle.point_deferred.specs.Inner.Held;
 ghost use Rattle.point_deferred.specs.Inner.Held.{lentPoolless, poollessBefore, poollessAfter, columnsBefore, columnsAfter, setRefusal};
-ghost use Rattle.point_deferred.specs.Inner.Held.{refusalOf, tagTo, PendedRows, worked, heldOf, unmarkedOf};
-use cells::Cell;
+ghost use Rattle.point_deferred.specs.Inner.Held.{refusalOf, PendedRows, worked, heldOf, unmarkedOf};
+use crate::rows;
 use geometry::Position;
 use replies::Reply;
 use slots::Handle;
@@ -53,16 +53,6 @@ fn refusal(
     slots::refusal_of(nums, h)
 }
 
-// The tag of what becomes pending for an object of cell c that moves to cell d.
-fn tag_to(d: Cell, c: Cell) -> u32
-    ensures { λ r. ⌜ r ≡ tagTo d c ⌝ }
-{
-    if cells::same_cell(d, c) {
-        return 1;
-    }
-    2
-}
-
 // The object at slot s has something pending.
 fn pend(
     nums: &mut [Row],
@@ -79,18 +69,11 @@ fn pend(
     let n = nums[s];
     let q = reals[s];
     let z = ints[s];
-    if kind != 0 {
-        nums[s] = [n[0], n[1], n[2], 3];
-        reals[s] = [q[0], q[1], q[0], q[1]];
-        ints[s] = [z[0], z[1], z[0], z[1]];
-        return n[2];
-    }
-    let d = cells::cell_at(size, at);
-    let t = tag_to(d, Cell { x: z[0], y: z[1] });
-    nums[s] = [n[0], n[1], n[2], t];
-    reals[s] = [q[0], q[1], at.x, at.y];
-    ints[s] = [z[0], z[1], d.x, d.y];
-    0
+    let p = rows::pending_for(size, q, z, kind, at);
+    nums[s] = rows::with_tag(n, p.tag);
+    reals[s] = rows::with_pending(q, p.at);
+    ints[s] = rows::with_target(z, p.to);
+    rows::returned_in(n, kind)
 }
 
 // The object at slot s has something pending, and its cell is marked dirty.
@@ -107,8 +90,7 @@ fn work(
     requires { ⌜ Ready (lentPoolless nums reals ints map cells) × Workable (lentPoolless nums reals ints map cells) s kind at ⌝ }
     ensures { λ r. ⌜ outcome r (poollessAfter nums reals ints map cells) ≡ worked (poollessBefore nums reals ints map cells) s kind at ⌝ }
 {
-    let z = ints[s];
-    let k = cells::key_of(Cell { x: z[0], y: z[1] });
+    let k = cells::key_of(rows::cell_in(ints[s]));
     let rows = basics::index_of(map[2]);
     storage::mark_cell(cells, rows, k);
     pend(nums, reals, ints, map[0], s, kind, at)

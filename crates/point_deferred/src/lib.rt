@@ -1,4 +1,4 @@
-// The deferred calls of trackers: `set_position`, `remove`, and a batch of them. Nothing moves before maintain.
+// The deferred calls of trackers: `set_position` and `remove`. Nothing moves before maintain.
 // Each public call checks the tables first.
 ghost use Rattle.basics.specs.Words.{_≡_};
 ghost use Rattle.point_tables.specs.Meaning.Lent.{after, before};
@@ -6,21 +6,16 @@ ghost use Rattle.point_tables.specs.Meaning.Outcome.{outcome};
 ghost use Rattle.point_deferred.specs.Meaning.Moves.{setPositionOf, removeOf};
 ghost use Rattle.replies.specs.Meaning.Replies.{reply};
 
-mod batches;
 mod call;
-mod marks;
+mod rows;
 
-pub use batches::batch;
+// for a batch of them
+pub use call::deferred;
+pub use call::unmarked;
 use geometry::Position;
 use replies::Reply;
 use slots::Handle;
 use slots::Row;
-
-// The answer of a batch, and with 0 and 9 the number of its calls.
-pub struct BatchReply {
-    pub answer: u32,
-    pub count: u64,
-}
 
 // The object takes `at` as its new position, pending: a relocation if the cell of `at` is not its recorded cell.
 pub fn set_position(

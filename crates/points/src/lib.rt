@@ -28,7 +28,7 @@ pub use point_deferred::remove;
 //     let kinds: [u32; 2] = [0, 1];
 //     let r = points::batch(nums, reals, ints, map, pool, spots, cells, &kinds, handles, positions, out);
 //     // out[0] has the answer of set_position and 0, out[1] that of remove and the data
-pub use point_deferred::batch;
+pub use point_batch::batch;
 
 // Applies what is pending: moves, relocations, removals. Counts the objects that moved and those removed. Refusals: 3.
 //     let r = points::maintain(nums, reals, ints, map, pool, spots, cells);

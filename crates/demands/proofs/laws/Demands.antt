@@ -16,11 +16,12 @@ use Rattle.point_insert.specs.Meaning.New.{newOf}
 use Rattle.point_insert.proofs.laws.NewLaws.{new-holds, new-refused}
 use Rattle.point_insert.proofs.laws.InsertLaws.{insert-holds}
 use Rattle.point_deferred.proofs.laws.MovesKeeps.{set-position-keeps, remove-keeps}
-use Rattle.point_deferred.proofs.laws.BatchAnswerLaws.{batch-keeps}
+use Rattle.point_batch.proofs.laws.BatchAnswerLaws.{batch-keeps}
 use Rattle.point_remove.proofs.laws.RemoveLaws.{remove-holds}
 use Rattle.point_remove.proofs.laws.ClearLaws.{clear-holds}
 use Rattle.point_maintain.proofs.laws.MaintainLaws.{maintain-keeps}
-use Rattle.point_deferred.specs.Meaning.Batch.{Call, callOf, tablesAfter, even}
+use Rattle.point_deferred.specs.Meaning.Calls.{Call, callOf, tablesAfter}
+use Rattle.point_batch.specs.Meaning.Batch.{even}
 use Rattle.point_maintain.specs.Meaning.Maintain.{maintainOf}
 use Rattle.point_query.specs.Meaning.Queries.{Findings, aroundOf}
 use Rattle.trackers.specs.Meaning.Merges.{Turn, calls, Merge, NotShared, Alike, batchFor, SameBatch}

@@ -12,7 +12,7 @@ use Rattle.point_insert.specs.Meaning.New.{newOf}
 use Rattle.point_insert.specs.Meaning.Insert.{insertOf}
 use Rattle.replies.specs.declared.Reply.{Reply}
 use Rattle.point_deferred.specs.Meaning.Moves.{setPositionOf, removeOf}
-use Rattle.point_deferred.specs.Meaning.Batch.{Batched, batchOf}
+use Rattle.point_batch.specs.Meaning.Batch.{Batched, batchOf}
 use Rattle.point_maintain.specs.declared.Maintained.{Maintained}
 use Rattle.point_maintain.specs.Meaning.Maintain.{maintainOf}
 use Rattle.point_remove.specs.Meaning.RemoveMaintain.{removeMaintainOf}

@@ -13,7 +13,7 @@ use Rattle.point_tables.specs.Meaning.Outcome.{outcome}
 use Rattle.point_insert.specs.Meaning.New.{newOf}
 use Rattle.point_insert.specs.Meaning.Insert.{insertOf}
 use Rattle.point_deferred.specs.Meaning.Moves.{setPositionOf, removeOf}
-use Rattle.point_deferred.specs.Meaning.Batch.{batched, batchOf}
+use Rattle.point_batch.specs.Meaning.Batch.{batched, batchOf}
 use Rattle.point_maintain.specs.Meaning.Maintain.{maintainedCounts, maintainOf}
 use Rattle.point_remove.specs.Meaning.RemoveMaintain.{removeMaintainOf}
 use Rattle.point_remove.specs.Meaning.Clear.{wrote, liveSlots, clearOf}

@@ -12,7 +12,7 @@ use Rattle.replies.specs.declared.Count.{Count}
 use Rattle.point_insert.specs.Meaning.New.{newTests, newOf}
 use Rattle.point_insert.specs.Meaning.Insert.{insertTests, insertOf}
 use Rattle.point_deferred.specs.Meaning.Moves.{setPositionTests, setPositionOf, removeTests, removeOf}
-use Rattle.point_deferred.specs.Meaning.Batch.{Batched, even, batchTests, batchOf}
+use Rattle.point_batch.specs.Meaning.Batch.{Batched, even, batchTests, batchOf}
 use Rattle.point_maintain.specs.declared.Maintained.{Maintained}
 use Rattle.point_maintain.specs.Meaning.Maintain.{maintainTests, maintainOf}
 use Rattle.point_remove.specs.Meaning.RemoveMaintain.{removeMaintainTests, removeMaintainOf}

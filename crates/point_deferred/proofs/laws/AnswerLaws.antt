@@ -14,7 +14,7 @@ use Rattle.point_tables.specs.Meaning.Decide.{holds, holds-says}
 use Rattle.point_tables.specs.Meaning.Outcome.{Outcome}
 use Rattle.replies.specs.declared.Reply.{Reply}
 use Rattle.point_deferred.specs.Meaning.Moves.{setPositionAnswer, setPositionOf, removeAnswer, removeOf}
-use Rattle.point_deferred.specs.Meaning.Batch.{Call, callOf}
+use Rattle.point_deferred.specs.Meaning.Calls.{Call, callOf}
 use Rattle.point_deferred.proofs.laws.MovesLaws.{set-refused, set-done, remove-refused, remove-done}
 
 -- one of the numbers of a list

@@ -16,7 +16,7 @@ use Rattle.point_tables.specs.Meaning.Decide.{holds, holds-says}
 use Rattle.point_tables.specs.Meaning.Outcome.{Outcome, outcome}
 use Rattle.replies.specs.declared.Reply.{Reply}
 use Rattle.point_deferred.specs.Meaning.Moves.{pended, setPositionAnswer, setPositionOf, removeAnswer, removeOf}
-use Rattle.point_deferred.specs.Meaning.Batch.{Call, callOf, tablesAfter, replies}
+use Rattle.point_deferred.specs.Meaning.Calls.{Call, callOf, tablesAfter, replies}
 use Rattle.point_deferred.specs.Inner.Ready.{Ready, Workable}
 use Rattle.point_deferred.proofs.laws.PendedLaws.{nums-long, reals-long, ints-long, cells-long, pended-ready}
 use Rattle.point_deferred.proofs.laws.MovesLaws.{named}

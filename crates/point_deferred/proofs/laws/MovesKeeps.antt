@@ -18,7 +18,7 @@ use Rattle.point_records.specs.Meaning.States.{aimed, withState}
 use Rattle.point_tables.specs.Meaning.Tables.{Tables, sizeOf, usedOf, rowsOf, slotsOf, recordOn}
 use Rattle.point_tables.specs.Meaning.Holds.{ListsHold, Pending, Holds}
 use Rattle.point_deferred.specs.Meaning.Moves.{pended, setPositionAnswer, setPositionOf, removeAnswer, removeOf}
-use Rattle.point_deferred.specs.Meaning.Batch.{Call, callOf, tablesAfter}
+use Rattle.point_deferred.specs.Meaning.Calls.{Call, callOf, tablesAfter}
 use Rattle.point_deferred.specs.Inner.Ready.{Ready}
 use Rattle.point_deferred.proofs.laws.ReadyLaws.{holds-ready}
 use Rattle.point_deferred.proofs.laws.PendedLaws.{nums-long, reals-long, ints-long, record-same, record-other, kept, tag-same, tag-other, cells-long}

@@ -20,7 +20,7 @@ use Rattle.point_tables.specs.Meaning.Tables.{Tables, tables, sizeOf, recordOn}
 use Rattle.point_tables.specs.Meaning.Outcome.{Outcome, outcome, stored}
 use Rattle.replies.specs.declared.Reply.{Reply}
 use Rattle.point_deferred.specs.Meaning.Moves.{pended, setHeldTests, removeHeldTests}
-use Rattle.point_deferred.specs.Meaning.Batch.{Call}
+use Rattle.point_deferred.specs.Meaning.Calls.{Call}
 use Rattle.replies.specs.Meaning.Replies.{reply}
 
 -- tables without the pool, and the same behind five references: at one moment, before a call, and after one, which only reads the map
@@ -60,8 +60,11 @@ abbrev pub heldAnswer : Tables → Call → ℕ
 heldAnswer t c = refusalOf (t .nums) (recordOn t (c .handle .slot) .state) c
 
 -- ---- what becomes pending for a record, and what is returned of it
+abbrev pub stateFor : ℕ → Cell → ℕ → Position → State
+stateFor size c kind at = pick (eqb kind 0) (aimed size c at) Removed
+
 abbrev pub nextState : ℕ → Record → ℕ → Position → State
-nextState size r kind at = pick (eqb kind 0) (aimed size (r .cell) at) Removed
+nextState size r kind at = stateFor size (r .cell) kind at
 
 abbrev pub returned : Record → ℕ → ℕ
 returned r kind = pick (eqb kind 0) 0 (r .obj)

@@ -18,9 +18,10 @@ use Rattle.point_insert.specs.Meaning.Insert.{usableSlot, insertOf}
 use Rattle.point_insert.proofs.laws.InsertLaws.{insert-done, insert-outside, insert-full, insert-holds}
 use Rattle.point_insert.proofs.laws.PutLaws.{more, put-used}
 use Rattle.point_deferred.specs.Meaning.Moves.{pended, setPositionAnswer, setPositionOf, removeAnswer, removeOf}
-use Rattle.point_deferred.specs.Meaning.Batch.{Call, callOf, callsOf, tablesAfter, batchAnswer, batchOf}
+use Rattle.point_deferred.specs.Meaning.Calls.{Call, callOf, tablesAfter}
+use Rattle.point_batch.specs.Meaning.Batch.{callsOf, batchAnswer, batchOf}
 use Rattle.point_deferred.proofs.laws.MovesKeeps.{set-position-keeps, remove-keeps}
-use Rattle.point_deferred.proofs.laws.BatchAnswerLaws.{batch-keeps}
+use Rattle.point_batch.proofs.laws.BatchAnswerLaws.{batch-keeps}
 use Rattle.point_remove.specs.Meaning.RemoveMaintain.{removeMaintainOf}
 use Rattle.point_remove.proofs.laws.RemoveLaws.{isGood, remove-done, remove-lost, remove-holds, remove-count}
 use Rattle.point_remove.specs.Meaning.Clear.{clearOf}

@@ -1,15 +1,16 @@
 -- A merge in one batch: the batch makes the calls of the merge, and every merge of the same lists gives each tracker the same rows of the
 -- output and leaves the same tables. Assumes nothing.
-use Rattle.basics.specs.Words.{ℕ, _≡_, refl, sym, ap, _∙_, _&&_, List, [], _∷_, _++_, ⊎-elim, length, drop, length-map, eqb, leb, arith}
+use Rattle.basics.specs.Words.{ℕ, _≡_, refl, sym, ap, _∙_, _&&_, List, [], _∷_, _++_, ⊎-elim, length, drop, length-map, eqb, leb}
 use Rattle.basics.proofs.laws.Says.{d-eq}
-use Rattle.basics.specs.Meaning.Refusals.{unless, firstOf}
+use Rattle.basics.specs.Meaning.Refusals.{unless, firstOf, pick}
 use Rattle.storage.specs.Meaning.Keyed.{written}
 use Rattle.storage.proofs.laws.FilterLaws.{by-test}
 use Rattle.point_tables.specs.Meaning.Tables.{Tables}
 use Rattle.point_tables.specs.Meaning.Decide.{holds}
 use Rattle.point_tables.specs.Meaning.Outcome.{outcome}
-use Rattle.point_deferred.specs.Meaning.Batch.{Call, callOf, callsOf, tablesAfter, replies, replyRows, batchAnswer, batched}
-use Rattle.point_deferred.proofs.laws.BatchAnswerLaws.{batch-ran, batch-short, batch-refused}
+use Rattle.point_deferred.specs.Meaning.Calls.{Call, callOf, tablesAfter, replies}
+use Rattle.point_batch.specs.Meaning.Batch.{callsOf, replyRows, batchAnswer, batched}
+use Rattle.point_batch.proofs.laws.BatchAnswerLaws.{batch-ran, batch-refused}
 use Rattle.trackers.specs.Meaning.Merges.{Turn, calls, those, repliesTo, Merge, NotShared, Alike, kindsOf, handlesUsed, positionsOf, batchFor}
 use Rattle.trackers.specs.Meaning.Merges.{SameBatch}
 use Rattle.trackers.proofs.laws.MergeLaws.{any-merge}
@@ -42,8 +43,8 @@ module _ (t : Tables) (out : List (List ℕ)) where
   ran : (m : List Turn) → answerFor m ≡ 0 → batchFor t m out ≡ outcome (batched 0 (length m) (written (replyRows (replies t (calls m))) out)) (tablesAfter t (calls m))
   ran m e = batch-ran t (kindsOf m) (handlesUsed m) (positionsOf m) out e ∙ rw (batch-calls m) (simp length-map)
 
-  short : (m : List Turn) → answerFor m ≡ 9 → batchFor t m out ≡ outcome (batched 9 (length m) out) t
-  short m e = batch-short t (kindsOf m) (handlesUsed m) (positionsOf m) out e ∙ simp length-map
+  refused : (m : List Turn) → (answerFor m ≡ 0 → ⊥) → batchFor t m out ≡ outcome (batched (answerFor m) (pick (eqb (answerFor m) 9) (length m) 0) out) t
+  refused m n = batch-refused t (kindsOf m) (handlesUsed m) (positionsOf m) out n ∙ simp length-map
 
   -- ---- two merges that are alike, as batches
   module _ (m n : List Turn) (w : Alike t m n) where
@@ -60,16 +61,13 @@ module _ (t : Tables) (out : List (List ℕ)) where
           rows = λ z k. rows-to k t m (drop (length (replyRows (replies t (calls m)))) out) ∙ ap replyRows (w .replied k) ∙ sym (rows-to k t n (drop (length (replyRows (replies t (calls n)))) out));
         })
 
-    both-short : answerFor m ≡ 9 → SameBatch m n (batchFor t m out) (batchFor t n out)
-    both-short e = rw (short m e, short n (same-answer ∙ e)) (record { answer = refl; count = w .long; tables = refl; rows = λ z. absurd (omega (arith, z)) })
-
-    both-refused : (answerFor m ≡ 0 → ⊥) → (answerFor m ≡ 9 → ⊥) → SameBatch m n (batchFor t m out) (batchFor t n out)
-    both-refused a b =
-        rw (batch-refused t (kindsOf m) (handlesUsed m) (positionsOf m) out a b, batch-refused t (kindsOf n) (handlesUsed n) (positionsOf n) out (λ e. a (sym same-answer ∙ e)) (λ e. b (sym same-answer ∙ e)))
-        (record { answer = sym same-answer; count = refl; tables = refl; rows = λ z. absurd (a z) })
+    both-refused : (answerFor m ≡ 0 → ⊥) → SameBatch m n (batchFor t m out) (batchFor t n out)
+    both-refused a =
+        rw (refused m a, refused n (λ e. a (sym same-answer ∙ e)))
+        (record { answer = sym same-answer; count = λ i. pick (eqb (same-answer (~ i)) 9) (w .long i) 0; tables = refl; rows = λ z. absurd (a z) })
 
     alike-batch : SameBatch m n (batchFor t m out) (batchFor t n out)
-    alike-batch = ⊎-elim both-ran (λ a. ⊎-elim both-short (both-refused a) (d-eq (answerFor m) 9)) (d-eq (answerFor m) 0)
+    alike-batch = ⊎-elim both-ran both-refused (d-eq (answerFor m) 0)
 
 pub any-merge-batch : (t : Tables) (out : List (List ℕ)) (l : ℕ → List Call) → NotShared l → (m n : List Turn) → Merge l m → Merge l n → SameBatch m n (batchFor t m out) (batchFor t n out)
 any-merge-batch t out l apart m n of-m of-n = alike-batch t out m n (any-merge t l apart m n of-m of-n)

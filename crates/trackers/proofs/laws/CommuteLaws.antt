@@ -15,7 +15,7 @@ use Rattle.point_tables.specs.Meaning.Decide.{holds, holds-says}
 use Rattle.point_tables.specs.Meaning.Outcome.{Outcome}
 use Rattle.replies.specs.declared.Reply.{Reply}
 use Rattle.point_deferred.specs.Meaning.Moves.{pended}
-use Rattle.point_deferred.specs.Meaning.Batch.{Call, callOf}
+use Rattle.point_deferred.specs.Meaning.Calls.{Call, callOf}
 use Rattle.point_deferred.specs.Inner.Ready.{Ready}
 use Rattle.point_deferred.proofs.laws.ReadyLaws.{holds-ready}
 use Rattle.point_deferred.proofs.laws.PendedLaws.{map-kept, record-other, kept, nums-long}

@@ -4,7 +4,7 @@ use Rattle.basics.specs.Words.{ℕ, _≡_, sym, ap, _∙_, List}
 use Rattle.point_tables.specs.Meaning.Tables.{Tables}
 use Rattle.point_tables.specs.Meaning.Holds.{Holds}
 use Rattle.point_tables.specs.Meaning.Outcome.{Outcome}
-use Rattle.point_deferred.specs.Meaning.Batch.{Call, tablesAfter}
+use Rattle.point_deferred.specs.Meaning.Calls.{Call, tablesAfter}
 use Rattle.point_deferred.proofs.laws.MovesKeeps.{calls-keep}
 use Rattle.point_maintain.specs.declared.Maintained.{Maintained}
 use Rattle.point_maintain.specs.Meaning.Maintain.{maintainedBy, maintained, maintainOf}

@@ -5,7 +5,7 @@ use Rattle.basics.specs.Words.{Memᴰ·append-left, Memᴰ·append-right, eqb, 
 use Rattle.basics.specs.Meaning.Refusals.{pick}
 use Rattle.point_tables.specs.Meaning.Tables.{Tables}
 use Rattle.replies.specs.declared.Reply.{Reply}
-use Rattle.point_deferred.specs.Meaning.Batch.{Call, callOf, tablesAfter, replies}
+use Rattle.point_deferred.specs.Meaning.Calls.{Call, callOf, tablesAfter, replies}
 use Rattle.trackers.specs.Meaning.Merges.{Turn, calls, those, own, repliesTo, Merge, NotShared, Alike}
 use Rattle.trackers.proofs.laws.CommuteLaws.{reply-same, calls-commute}
 use Rattle.trackers.proofs.laws.TurnLaws.{turn, own-here, member-own, split, Apart, Others, others, apart-without, rest}

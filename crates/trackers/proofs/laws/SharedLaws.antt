@@ -10,7 +10,7 @@ use Rattle.point_tables.specs.Meaning.Tables.{Tables}
 use Rattle.point_tables.specs.Meaning.Decide.{holds-says}
 use Rattle.replies.specs.declared.Reply.{Reply}
 use Rattle.point_deferred.specs.Meaning.Moves.{setPositionOf, removeOf, setPositionAnswer, removeAnswer}
-use Rattle.point_deferred.specs.Meaning.Batch.{callOf, replies}
+use Rattle.point_deferred.specs.Meaning.Calls.{callOf, replies}
 use Rattle.point_deferred.specs.Inner.Held.{call}
 use Rattle.point_deferred.proofs.laws.AnswerLaws.{set-answer-is, remove-answers}
 use Rattle.point_deferred.proofs.laws.AgainLaws.{removed-stays}

@@ -4,7 +4,7 @@ use Rattle.basics.specs.Words.{List·Memᴰ, List·Memᴰ·head, List·Memᴰ·
 use Rattle.basics.specs.Words.{List·Memᴰ·append-cases, ⊎-elim, eq-eqb, ne-eqb}
 use Rattle.basics.proofs.laws.Says.{d-eq}
 use Rattle.storage.specs.Meaning.Keyed.{All}
-use Rattle.point_deferred.specs.Meaning.Batch.{Call}
+use Rattle.point_deferred.specs.Meaning.Calls.{Call}
 use Rattle.trackers.specs.Meaning.Merges.{Turn, calls, those, own}
 
 abbrev pub turn : ℕ → Call → Turn

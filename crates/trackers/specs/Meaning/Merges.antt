@@ -6,7 +6,8 @@ use Rattle.basics.specs.Meaning.Refusals.{pick}
 use Rattle.point_tables.specs.Meaning.Tables.{Tables}
 use Rattle.point_tables.specs.Meaning.Outcome.{Outcome}
 use Rattle.replies.specs.declared.Reply.{Reply}
-use Rattle.point_deferred.specs.Meaning.Batch.{Call, tablesAfter, replies, Batched, batchOf}
+use Rattle.point_deferred.specs.Meaning.Calls.{Call, tablesAfter, replies}
+use Rattle.point_batch.specs.Meaning.Batch.{Batched, batchOf}
 
 -- a call, and the number of the tracker that makes it; a merge is a list of these
 pub record Turn : Type 0 where

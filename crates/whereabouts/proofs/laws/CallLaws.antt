@@ -20,7 +20,7 @@ use Rattle.point_tables.specs.Meaning.Holds.{Holds}
 use Rattle.point_tables.specs.Meaning.Outcome.{Outcome}
 use Rattle.replies.specs.declared.Reply.{Reply}
 use Rattle.point_deferred.specs.Meaning.Moves.{pended, setPositionOf, removeOf}
-use Rattle.point_deferred.specs.Meaning.Batch.{Call, callOf, tablesAfter, replies}
+use Rattle.point_deferred.specs.Meaning.Calls.{Call, callOf, tablesAfter, replies}
 use Rattle.point_deferred.proofs.laws.ReadyLaws.{holds-ready}
 use Rattle.point_deferred.proofs.laws.PendedLaws.{nums-long, record-same, record-other, kept}
 use Rattle.point_deferred.proofs.laws.MovesLaws.{Named, set-accepted, remove-accepted, set-done, remove-done}

@@ -11,7 +11,7 @@ use Rattle.slots.proofs.laws.HandleLaws.{good-says}
 use Rattle.storage.specs.Meaning.Keyed.{All}
 use Rattle.point_tables.specs.Meaning.Tables.{Tables, recordOn}
 use Rattle.replies.specs.declared.Reply.{Reply}
-use Rattle.point_deferred.specs.Meaning.Batch.{Call, callOf, tablesAfter, replies}
+use Rattle.point_deferred.specs.Meaning.Calls.{Call, callOf, tablesAfter, replies}
 use Rattle.point_deferred.proofs.laws.MovesLaws.{named}
 use Rattle.point_query.specs.Meaning.Queries.{aroundOf}
 use Rattle.whereabouts.specs.Meaning.Whereabouts.{acceptedFor, movesIt, removesIt, removedBy, lastAt}

@@ -24,7 +24,7 @@ use Rattle.storage.proofs.laws.FilterLaws.{all-at, filter-passes}
 use Rattle.point_tables.specs.Meaning.Tables.{Tables, sizeOf, recordOn, entriesIn, slotOf}
 use Rattle.point_tables.specs.Meaning.Holds.{Holds}
 use Rattle.point_tables.specs.Meaning.Decide.{holds}
-use Rattle.point_deferred.specs.Meaning.Batch.{Call}
+use Rattle.point_deferred.specs.Meaning.Calls.{Call}
 use Rattle.point_deferred.proofs.laws.MovesLaws.{Named, named}
 use Rattle.point_query.specs.declared.Test.{Test}
 use Rattle.point_query.specs.declared.Test.the-variants.{Circle}

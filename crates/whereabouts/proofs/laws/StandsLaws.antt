@@ -15,7 +15,7 @@ use Rattle.point_tables.specs.Meaning.Tables.{Tables, slotsOf, recordOn}
 use Rattle.point_tables.specs.Meaning.Holds.{Holds}
 use Rattle.point_tables.specs.Inner.Count.{isLive}
 use Rattle.point_tables.specs.Meaning.Outcome.{Outcome}
-use Rattle.point_deferred.specs.Meaning.Batch.{Call, tablesAfter, replies}
+use Rattle.point_deferred.specs.Meaning.Calls.{Call, tablesAfter, replies}
 use Rattle.point_deferred.proofs.laws.MovesLaws.{Named, named}
 use Rattle.point_deferred.proofs.laws.MovesKeeps.{calls-keep}
 use Rattle.point_maintain.specs.declared.Maintained.{Maintained}

@@ -7,7 +7,7 @@ use Rattle.geometry.specs.Meaning.Circle.{inCircle}
 use Rattle.slots.specs.declared.Handle.{Handle}
 use Rattle.slots.specs.Meaning.Slot.{good}
 use Rattle.point_tables.specs.Meaning.Tables.{Tables, recordOn}
-use Rattle.point_deferred.specs.Meaning.Batch.{Call, replies}
+use Rattle.point_deferred.specs.Meaning.Calls.{Call, replies}
 use Rattle.point_query.specs.Meaning.Queries.{Findings}
 use Rattle.whereabouts.specs.Meaning.Whereabouts.{removedBy, lastAt}
 

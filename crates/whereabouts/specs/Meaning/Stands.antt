@@ -3,7 +3,7 @@
 use Rattle.basics.specs.Words.{List}
 use Rattle.point_tables.specs.Meaning.Tables.{Tables}
 use Rattle.point_tables.specs.Meaning.Outcome.{Outcome}
-use Rattle.point_deferred.specs.Meaning.Batch.{Call, tablesAfter}
+use Rattle.point_deferred.specs.Meaning.Calls.{Call, tablesAfter}
 use Rattle.point_maintain.specs.declared.Maintained.{Maintained}
 use Rattle.point_maintain.specs.Meaning.Maintain.{maintainOf}
 

@@ -5,7 +5,7 @@ use Rattle.basics.specs.Meaning.Refusals.{pick}
 use Rattle.geometry.specs.declared.Position.{Position}
 use Rattle.slots.specs.declared.Handle.{Handle}
 use Rattle.replies.specs.declared.Reply.{Reply}
-use Rattle.point_deferred.specs.Meaning.Batch.{Call}
+use Rattle.point_deferred.specs.Meaning.Calls.{Call}
 
 abbrev pub sameHandle : Handle → Handle → Bool
 sameHandle g h = eqb (g .slot) (h .slot) && eqb (g .version) (h .version)

@@ -1,7 +1,7 @@
 -- `point_deferred::call::deferred` meets its contract. Assumes nothing.
 use Rattle.basics.specs.Words.{ℕ, refl, ap, sym, _∙_, subst}
 use Rattle.point_tables.specs.Meaning.Tables.{Tables}
-use Rattle.point_deferred.specs.Meaning.Batch.{Call}
+use Rattle.point_deferred.specs.Meaning.Calls.{Call}
 use Rattle.point_deferred.specs.Inner.Held.{poolless, call, worked}
 use Rattle.point_deferred.specs.Inner.Ready.{Workable}
 use Rattle.point_deferred.proofs.laws.HeldLaws.{held-accepted}

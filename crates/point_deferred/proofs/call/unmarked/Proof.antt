@@ -1,7 +1,7 @@
 -- `point_deferred::call::unmarked` meets its contract. Assumes nothing.
 use Rattle.basics.specs.Words.{sym, _∙_, [], _∷_, arith, needs}
 use Rattle.point_tables.specs.Meaning.Tables.{Tables}
-use Rattle.point_deferred.specs.Meaning.Batch.{Call}
+use Rattle.point_deferred.specs.Meaning.Calls.{Call}
 use Rattle.point_deferred.specs.Inner.Held.{poolless, call}
 use Rattle.point_deferred.proofs.laws.HeldLaws.{held-accepted}
 use Rattle.point_deferred.proofs.Shared.{refused-unmarked, done-unmarked}
