@@ -64,7 +64,7 @@ module _ (t : Tables) (out : List (List ℕ)) where
     both-refused : (answerFor m ≡ 0 → ⊥) → SameBatch m n (batchFor t m out) (batchFor t n out)
     both-refused a =
         rw (refused m a, refused n (λ e. a (sym same-answer ∙ e)))
-        (record { answer = sym same-answer; count = λ i. pick (eqb (same-answer (~ i)) 9) (w .long i) 0; tables = refl; rows = λ z. absurd (a z) })
+        (record { answer = sym same-answer; count = λ i. pick (eqb (sym same-answer i) 9) (w .long i) 0; tables = refl; rows = λ z. absurd (a z) })
 
     alike-batch : SameBatch m n (batchFor t m out) (batchFor t n out)
     alike-batch = ⊎-elim both-ran both-refused (d-eq (answerFor m) 0)
