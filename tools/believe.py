@@ -5,7 +5,7 @@ It follows what is cited, from
 - the contracts of the public calls: every `pub use` and `pub fn` of points, boxes and exports, and every `pub fn` of the record_ crates but those that end
   in _for (these only serve the others there);
 - the statements of the user's demands: the `pub` theorems of the files Demands and BoxDemands of crates/demands;
-- with --trace the contracts of the trace: every `pub fn` of trace_replay, which the program of ./trace runs.
+- with --trace the contracts of the trace: every `pub fn` of trace_replay, and of src/records.rt of trace_blocks; the program of ./trace runs them.
 A definition (abbrev, unfoldable, record, data) is followed in full. A law is followed by its statement alone, and is not counted. A decider (a shut
 definition `f` beside a law `f-says`) is followed by that law's statement: what it decides is believed, not how. A private abbreviation inside a file of the
 demands is part of their statements.
@@ -19,7 +19,7 @@ from tree import Decl, Source, Tree, asked, read
 
 CALLS = 'points', 'boxes', 'exports'
 RECORDS = 'record_deferred', 'record_insert', 'record_maintain', 'record_get', 'record_query'
-TRACE = 'trace_replay',
+TRACE = ('trace_replay', 'lib'), ('trace_blocks', 'records')
 DEMANDS = 'demands', ('Demands', 'BoxDemands')
 # what a statement ends in
 CLAIM = re.compile(r'(^|\s)(≡|≤|<|Says|Dec|⊥|⊎|×|T)(\s|$)')
@@ -50,8 +50,8 @@ def theorems(tree):
 def roots(tree, trace):
     """(the declarations that are cited, number of calls, number of theorems)."""
     cited, calls = set(), 0
-    for crate in CALLS + RECORDS + (TRACE if trace else ()):
-        for name, text, source in handed_out(tree, crate):
+    for crate, module in [(c, 'lib') for c in CALLS + RECORDS] + list(TRACE if trace else ()):
+        for name, text, source in handed_out(tree, crate, module):
             if not (crate in RECORDS and name.endswith('_for')):
                 calls += 1
                 cited |= asked(tree, source, text)

@@ -1,4 +1,3 @@
 -- Laws, and what the proofs share.
 pub mod ReplayLaws
-pub mod NextLaws
 pub mod TraceLaws

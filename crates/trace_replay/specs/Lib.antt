@@ -1,3 +1,3 @@
--- The records of the input out of its blocks, and what the two grids answer to each.
+-- A record replayed: what the two grids answer to it.
 pub mod Meaning
 pub mod Inner

@@ -8,8 +8,8 @@ use Rattle.trace_splits.proofs.laws.SplitLaws.{splits-records}
 use Rattle.trace_lines.proofs.laws.InputLaws.{cut-read}
 use Rattle.trace_answers.specs.Meaning.State.{Answered}
 use Rattle.trace_answers.specs.Meaning.Answer.{answerOf}
-use Rattle.trace_replay.specs.Meaning.Next.{Next, nextOf}
-use Rattle.trace_replay.proofs.laws.NextLaws.{none-lost, block-used}
+use Rattle.trace_blocks.specs.Meaning.Next.{Next, nextOf}
+use Rattle.trace_blocks.proofs.laws.NextLaws.{none-lost, block-used}
 use Rattle.trace_replay.specs.Meaning.Replay.{Grids, freshState, answerTo, answerText, gridsOf}
 use Rattle.trace_replay.specs.Inner.Replay.{traceOf}
 

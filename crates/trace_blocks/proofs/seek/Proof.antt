@@ -1,7 +1,7 @@
--- `trace::seek` meets its contract: the bytes that there are, are that many of the block's first ones. Assumes nothing.
+-- `trace_blocks::seek` meets its contract: the bytes that there are, are that many of the block's first ones. Assumes nothing.
 use Rattle.basics.specs.Words.{sym, length-take-le, arith, needs}
-use Rattle.trace.proofs.seek.Statement.{statement}
-use Rattle.trace.proofs.seek.Tie as tie
+use Rattle.trace_blocks.proofs.seek.Statement.{statement}
+use Rattle.trace_blocks.proofs.seek.Tie as tie
 
 slice-aggregate-next-record : tie.Need-slice-aggregate-next-record
 slice-aggregate-next-record c =

@@ -2,7 +2,7 @@
 ghost use Rattle.basics.specs.Words.{_≡_, length, drop};
 ghost use Rattle.basics.specs.Meaning.Lent.{was, is};
 ghost use Rattle.trace_splits.specs.Meaning.Sofar.{sofar};
-ghost use Rattle.trace_replay.specs.Meaning.Next.{nextFound, nextOf};
+ghost use Rattle.trace_blocks.specs.Meaning.Next.{nextFound, nextOf};
 use crate::Found;
 use trace_splits::Splitter;
 

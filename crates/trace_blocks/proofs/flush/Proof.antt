@@ -1,7 +1,7 @@
--- `trace::flush` meets its contract: the answers are that many of the output's first bytes. Assumes nothing.
+-- `trace_blocks::flush` meets its contract: the answers are that many of the output's first bytes. Assumes nothing.
 use Rattle.basics.specs.Words.{sym, length-take-le, arith, needs}
-use Rattle.trace.proofs.flush.Statement.{statement}
-use Rattle.trace.proofs.flush.Tie as tie
+use Rattle.trace_blocks.proofs.flush.Statement.{statement}
+use Rattle.trace_blocks.proofs.flush.Tie as tie
 
 slice-aggregate-write-all : tie.Need-slice-aggregate-write-all
 slice-aggregate-write-all c =

@@ -2,7 +2,7 @@
 -- Here: what only inner contracts cite.
 use Rattle.basics.specs.Words.{_+_, _≤_}
 use Rattle.trace_printing.specs.Meaning.Said.{longest}
-use Rattle.trace.specs.declared.Progress.{Progress}
+use Rattle.trace_blocks.specs.declared.Progress.{Progress}
 
 abbrev pub Fits : Progress → Type 0
 Fits p = (p .have ≤ 65536) × (p .put ≤ 65536)

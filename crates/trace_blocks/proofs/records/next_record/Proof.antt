@@ -1,11 +1,11 @@
--- `trace_replay::next_record` meets its contract: what is still to be found from here on is what was to be found from the start on. The measure is
+-- `trace_blocks::next_record` meets its contract: what is still to be found from here on is what was to be found from the start on. The measure is
 -- what is left of the block. Assumes nothing.
 use Rattle.basics.specs.Words.{ℕ, _-_, _≡_, refl, sym, ap, _∙_, length, drop, getD, arith}
 use Rattle.trace_splits.specs.Meaning.Sofar.{sofar, feed}
-use Rattle.trace_replay.specs.Meaning.Next.{nextOf}
-use Rattle.trace_replay.proofs.laws.NextLaws.{at-end, a-record, no-record}
-use Rattle.trace_replay.proofs.blocks.next_record.Statement.{statement}
-use Rattle.trace_replay.proofs.blocks.next_record.Tie as tie
+use Rattle.trace_blocks.specs.Meaning.Next.{nextOf}
+use Rattle.trace_blocks.proofs.laws.NextLaws.{at-end, a-record, no-record}
+use Rattle.trace_blocks.proofs.records.next_record.Statement.{statement}
+use Rattle.trace_blocks.proofs.records.next_record.Tie as tie
 
 abbrev Inv-loop : tie.InvT-loop
 Inv-loop line₀ block from so-far₀ at₀ line so-far at =

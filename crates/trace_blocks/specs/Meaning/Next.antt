@@ -2,7 +2,7 @@
 use Rattle.basics.specs.Words.{ℕ, _+_, List, [], _∷_, take}
 use Rattle.basics.specs.Meaning.Refusals.{pick}
 use Rattle.trace_splits.specs.Meaning.Sofar.{Sofar, feed, sofar}
-use Rattle.trace_replay.specs.declared.Found.{Found}
+use Rattle.trace_blocks.specs.declared.Found.{Found}
 
 pub record Next : Type 0 where
   pub next : Sofar

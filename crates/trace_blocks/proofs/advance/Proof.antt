@@ -1,8 +1,8 @@
--- `trace::advance` meets its contract: it is ready at every turn. The measure is the number of turns that are left. Assumes nothing.
+-- `trace_blocks::advance` meets its contract: it is ready at every turn. The measure is the number of turns that are left. Assumes nothing.
 use Rattle.basics.specs.Words.{arith, needs}
-use Rattle.trace.specs.Inner.Ready.{Ready}
-use Rattle.trace.proofs.advance.Statement.{statement}
-use Rattle.trace.proofs.advance.Tie as tie
+use Rattle.trace_blocks.specs.Inner.Ready.{Ready}
+use Rattle.trace_blocks.proofs.advance.Statement.{statement}
+use Rattle.trace_blocks.proofs.advance.Tie as tie
 
 abbrev Inv-loop : tie.InvT-loop
 Inv-loop line₀ block₀ out q₀ turns₀ line block q turns = Ready q

@@ -5,7 +5,7 @@ use Rattle.trace_splits.specs.declared.Stepped.{Stepped}
 use Rattle.trace_splits.specs.Meaning.Sofar.{Sofar, Fed, feed, sofar}
 use Rattle.trace_splits.specs.Inner.Sofar.{fed}
 use Rattle.trace_splits.proofs.laws.Sofar.{recordsFrom}
-use Rattle.trace_replay.specs.Meaning.Next.{Next, nextOf, nexted, stops}
+use Rattle.trace_blocks.specs.Meaning.Next.{Next, nextOf, nexted, stops}
 
 -- ---- the code's walk, a byte at a time
 module _ (room : ℕ) (s : Sofar) (l : List ℕ) (at : ℕ) where

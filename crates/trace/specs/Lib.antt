@@ -1,2 +1,0 @@
--- What holds of the program between two answers.
-pub mod Inner

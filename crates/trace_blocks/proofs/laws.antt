@@ -1,0 +1,3 @@
+-- Laws, and what the proofs share.
+pub mod NextLaws
+pub mod Ready
