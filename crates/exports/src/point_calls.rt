@@ -7,7 +7,7 @@ ghost use Rattle.point_insert.specs.Meaning.Insert.{insertOf};
 ghost use Rattle.point_deferred.specs.Meaning.Moves.{setPositionOf, removeOf};
 ghost use Rattle.point_batch.specs.Meaning.Batch.{batchOf};
 ghost use Rattle.point_remove.specs.Meaning.RemoveMaintain.{removeMaintainOf};
-ghost use Rattle.point_remove.specs.Meaning.Clear.{clearOf};
+ghost use Rattle.point_clear.specs.Meaning.Clear.{clearOf};
 ghost use Rattle.point_get.specs.Meaning.{got, getOf, lenOf, handlesOf, listing};
 ghost use Rattle.point_query.specs.Meaning.Queries.{queryOf, aroundOf, aabbOf};
 ghost use Rattle.point_maintain.specs.Meaning.Maintain.{maintainOf};

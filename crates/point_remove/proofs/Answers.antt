@@ -1,5 +1,5 @@
 -- The answers that the code gives, from its tests. Assumes nothing.
-use Rattle.basics.specs.Words.{ℕ, _<_, _≤_, min, _≡_, sym, ap, _∙_, Bool, true, false, [], _∷_, arith, ne-eqb, le-leb, lt-leb}
+use Rattle.basics.specs.Words.{ℕ, _≡_, sym, ap, _∙_, Bool, true, false, [], _∷_, arith, ne-eqb}
 use Rattle.basics.specs.Meaning.Refusals.{unless, firstOf}
 use Rattle.slots.specs.declared.Handle.{Handle}
 use Rattle.slots.specs.Meaning.Slot.{handleTest}
@@ -9,8 +9,8 @@ use Rattle.point_tables.specs.Meaning.Decide.{holds, holds-says}
 use Rattle.point_tables.specs.Meaning.Outcome.{Outcome, outcome}
 use Rattle.point_remove.specs.Meaning.RemoveMaintain.{takenOut, removeMaintainTests, removeMaintainOf}
 use Rattle.point_remove.proofs.laws.RemoveLaws.{isGood, remove-done}
-use Rattle.point_remove.specs.Inner.{Object, roomAnswer, countBy}
-use Rattle.replies.specs.Meaning.Replies.{count, reply}
+use Rattle.point_remove.specs.Inner.{Object}
+use Rattle.replies.specs.Meaning.Replies.{reply}
 
 -- ---- `remove_maintain`: the answer a of its tests, with the verdict that was handed down
 module _ (t : Tables) (h : Handle) (a : ℕ) (held : Bool) (e : held ≡ holds t) (q : a ≡ firstOf (unless held 3 ∷ handleTest (t .nums) h ∷ [])) where
@@ -40,22 +40,3 @@ module _ (t : Tables) (h : Handle) (a : ℕ) (held : Bool) (e : held ≡ holds t
     done d u w =
         let p = passed z in
         ap (λ (o : Outcome ℕ). outcome (reply 0 (o .result)) (o .after)) (w ∙ ap (λ (i : ℕ). outcome (recordOn t i .obj) (takenOut t i)) es) ∙ sym (remove-done t h (p .0) (p .1))
-
--- ---- `clear`: the room in both outputs
-module _ (n places objs : ℕ) where
-  pub short-places : places < n → 9 ≡ roomAnswer n places objs
-  short-places l = rw (lt-leb n (min places objs) (omega arith))
-
-  pub short-objs : objs < n → 9 ≡ roomAnswer n places objs
-  short-objs l = rw (lt-leb n (min places objs) (omega arith))
-
-  pub enough : n ≤ places → n ≤ objs → 0 ≡ roomAnswer n places objs
-  enough l m = rw (le-leb n (min places objs) (omega arith))
-
--- the answer with the number of objects
-module _ (held : Bool) (n places objs : ℕ) where
-  pub count-3 : held ≡ false → count 3 0 ≡ countBy held n places objs
-  count-3 e = rw e
-
-  pub count-room : (a k : ℕ) → held ≡ true → k ≡ n → a ≡ roomAnswer k places objs → count a n ≡ countBy held n places objs
-  count-room a k e q w = rw e (ap (λ (b : ℕ). count b n) (w ∙ ap (λ (j : ℕ). roomAnswer j places objs) q))

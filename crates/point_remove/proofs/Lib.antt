@@ -1,5 +1,4 @@
--- What the proofs of the removals share.
+-- What the proofs of a removal share.
 pub mod Taken
 pub mod Answers
-pub mod Cleared
 pub mod laws

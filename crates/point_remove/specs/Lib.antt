@@ -1,3 +1,3 @@
--- What `remove_maintain` and `clear` answer and leave.
+-- What `remove_maintain` answers and leaves.
 pub mod Meaning
 pub mod Inner

@@ -43,7 +43,7 @@ pub use point_remove::remove_maintain;
 // Writes recorded position and data of every object, ascending by slot, and empties the grid. Refusals: 3, 9 with the number of objects.
 //     let r = points::clear(nums, reals, ints, map, pool, spots, cells, places, objs);
 //     // places[j] and objs[j] for j below r.count; every old handle answers 5 from now on
-pub use point_remove::clear;
+pub use point_clear::clear;
 
 // The recorded position and the data. Refusals: 3, 5.
 //     let r = points::get(nums, reals, ints, map, pool, spots, cells, hand);

@@ -18,7 +18,7 @@ use Rattle.point_insert.proofs.laws.InsertLaws.{insert-holds}
 use Rattle.point_deferred.proofs.laws.MovesKeeps.{set-position-keeps, remove-keeps}
 use Rattle.point_batch.proofs.laws.BatchAnswerLaws.{batch-keeps}
 use Rattle.point_remove.proofs.laws.RemoveLaws.{remove-holds}
-use Rattle.point_remove.proofs.laws.ClearLaws.{clear-holds}
+use Rattle.point_clear.proofs.laws.ClearLaws.{clear-holds}
 use Rattle.point_maintain.proofs.laws.MaintainLaws.{maintain-keeps}
 use Rattle.point_deferred.specs.Meaning.Calls.{Call, callOf, tablesAfter}
 use Rattle.point_batch.specs.Meaning.Batch.{even}

@@ -16,7 +16,7 @@ use Rattle.point_batch.specs.Meaning.Batch.{Batched, batchOf}
 use Rattle.point_maintain.specs.declared.Maintained.{Maintained}
 use Rattle.point_maintain.specs.Meaning.Maintain.{maintainOf}
 use Rattle.point_remove.specs.Meaning.RemoveMaintain.{removeMaintainOf}
-use Rattle.point_remove.specs.Meaning.Clear.{Written, clearOf}
+use Rattle.point_clear.specs.Meaning.Clear.{Written, clearOf}
 use Rattle.point_get.specs.declared.Got.{Got}
 use Rattle.replies.specs.declared.Count.{Count}
 use Rattle.point_get.specs.Meaning.{Listing, getOf, lenOf, handlesOf}

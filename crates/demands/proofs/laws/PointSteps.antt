@@ -16,7 +16,7 @@ use Rattle.point_deferred.specs.Meaning.Moves.{setPositionOf, removeOf}
 use Rattle.point_batch.specs.Meaning.Batch.{batched, batchOf}
 use Rattle.point_maintain.specs.Meaning.Maintain.{maintainedCounts, maintainOf}
 use Rattle.point_remove.specs.Meaning.RemoveMaintain.{removeMaintainOf}
-use Rattle.point_remove.specs.Meaning.Clear.{wrote, liveSlots, clearOf}
+use Rattle.point_clear.specs.Meaning.Clear.{wrote, liveSlots, clearOf}
 use Rattle.point_get.specs.Meaning.{got, listing, liveHandles, getOf, lenOf, handlesTests, handlesOf}
 use Rattle.geometry.specs.Meaning.Zero.{zero-position}
 use Rattle.point_query.specs.declared.Test.{Test}

@@ -16,7 +16,7 @@ use Rattle.point_batch.specs.Meaning.Batch.{Batched, even, batchTests, batchOf}
 use Rattle.point_maintain.specs.declared.Maintained.{Maintained}
 use Rattle.point_maintain.specs.Meaning.Maintain.{maintainTests, maintainOf}
 use Rattle.point_remove.specs.Meaning.RemoveMaintain.{removeMaintainTests, removeMaintainOf}
-use Rattle.point_remove.specs.Meaning.Clear.{Written, liveSlots, clearTests, clearOf}
+use Rattle.point_clear.specs.Meaning.Clear.{Written, liveSlots, clearTests, clearOf}
 use Rattle.point_get.specs.declared.Got.{Got}
 use Rattle.point_get.specs.Meaning.{Listing, getTests, getOf, lenTests, lenOf, handlesTests, handlesOf}
 use Rattle.geometry.specs.Meaning.Zero.{zero-position}

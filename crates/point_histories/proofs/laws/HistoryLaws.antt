@@ -24,8 +24,8 @@ use Rattle.point_deferred.proofs.laws.MovesKeeps.{set-position-keeps, remove-ke
 use Rattle.point_batch.proofs.laws.BatchAnswerLaws.{batch-keeps}
 use Rattle.point_remove.specs.Meaning.RemoveMaintain.{removeMaintainOf}
 use Rattle.point_remove.proofs.laws.RemoveLaws.{isGood, remove-done, remove-lost, remove-holds, remove-count}
-use Rattle.point_remove.specs.Meaning.Clear.{clearOf}
-use Rattle.point_remove.proofs.laws.ClearLaws.{clear-refused, clear-holds, clear-counts, clear-empty}
+use Rattle.point_clear.specs.Meaning.Clear.{clearOf}
+use Rattle.point_clear.proofs.laws.ClearLaws.{clear-refused, clear-holds, clear-counts, clear-empty}
 use Rattle.point_maintain.proofs.laws.MaintainLaws.{maintain-keeps, maintain-length}
 use Rattle.point_get.specs.Meaning.{lenOf}
 use Rattle.point_get.proofs.laws.ReadsLaws.{len-0}

@@ -10,7 +10,7 @@ use Rattle.point_insert.specs.Meaning.Insert.{insertOf}
 use Rattle.point_deferred.specs.Meaning.Moves.{setPositionOf, removeOf}
 use Rattle.point_batch.specs.Meaning.Batch.{batchOf}
 use Rattle.point_remove.specs.Meaning.RemoveMaintain.{removeMaintainOf}
-use Rattle.point_remove.specs.Meaning.Clear.{clearOf}
+use Rattle.point_clear.specs.Meaning.Clear.{clearOf}
 use Rattle.point_maintain.specs.Meaning.Maintain.{maintainOf}
 
 -- a call with all that it is handed besides the tables

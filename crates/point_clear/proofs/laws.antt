@@ -1,0 +1,4 @@
+-- Laws, and what the proofs share.
+pub mod ClearLaws
+pub mod LiveLaws
+pub mod ClearKeeps

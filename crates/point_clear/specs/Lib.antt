@@ -1,0 +1,3 @@
+-- What `clear` answers, writes and leaves.
+pub mod Meaning
+pub mod Inner
