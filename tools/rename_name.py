@@ -1,7 +1,7 @@
 #!/usr/bin/env python3
 """Renames declarations of specs/ and proofs/, and every use that means them, all at once.
 
-    rename_name.py CRATE FILE OLD NEW     as in: rename_name.py box_change specs/Meaning/SetAabb moved boxMoved
+    rename_name.py CRATE FILE OLD NEW     as in: rename_name.py box_set specs/Meaning/SetAabb moved boxMoved
     rename_name.py LIST                   LIST has such lines; what follows a # is not read
 
 A word is changed where the imports of its file make it mean the declaration: in clauses, signatures, `module _` heads, `unfolding` lines, import lists,

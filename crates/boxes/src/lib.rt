@@ -17,12 +17,12 @@ pub use box_insert::insert;
 //     let face = Aabb { ll: Position { x: 600.0, y: 80.0 }, ur: Position { x: 760.0, y: 280.0 } };
 //     let a = boxes::set_aabb(nums, reals, map, pool, care, face);
 //     // 0: queries see it at once; 8 if the pool has no room for its cells, and then nothing changed
-pub use box_change::set_aabb;
+pub use box_set::set_aabb;
 
 // Takes the object out at once and gives its data. Refusals: 3, 5.
 //     let r = boxes::remove(nums, reals, map, pool, care);
 //     // r.obj is its data, and no query finds it any more
-pub use box_change::remove;
+pub use box_remove::remove;
 
 // Writes box and data of each object, ascending by slot, then empties the grid. Refusals: 3, 9.
 //     let r = boxes::clear(nums, reals, map, pool, areas, objs);

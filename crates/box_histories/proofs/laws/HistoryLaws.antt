@@ -13,8 +13,8 @@ use Rattle.box_insert.specs.Meaning.New.{built, newAnswer, newOf}
 use Rattle.box_insert.proofs.laws.NewLaws.{new-holds}
 use Rattle.box_insert.proofs.laws.InsertLaws.{insert-holds, insert-count}
 use Rattle.box_insert.proofs.laws.LiveLaws.{liveCount}
-use Rattle.box_change.proofs.laws.SetAabbLaws.{set-aabb-holds, set-live}
-use Rattle.box_change.proofs.laws.RemoveLaws.{remove-holds, remove-live}
+use Rattle.box_set.proofs.laws.SetAabbLaws.{set-aabb-holds, set-live}
+use Rattle.box_remove.proofs.laws.RemoveLaws.{remove-holds, remove-live}
 use Rattle.box_get.specs.Meaning.Reads.{lenOf}
 use Rattle.box_get.proofs.laws.ReadsLaws.{len-counts}
 use Rattle.box_get.specs.Meaning.Clear.{clearOf}

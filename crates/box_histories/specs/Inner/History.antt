@@ -7,8 +7,8 @@ use Rattle.geometry.specs.declared.Aabb.{Aabb}
 use Rattle.slots.specs.declared.Handle.{Handle}
 use Rattle.box_tables.specs.Meaning.Tables.{Tables}
 use Rattle.box_insert.specs.Meaning.Insert.{insertOf}
-use Rattle.box_change.specs.Meaning.SetAabb.{setAabbOf}
-use Rattle.box_change.specs.Meaning.Remove.{removeOf}
+use Rattle.box_set.specs.Meaning.SetAabb.{setAabbOf}
+use Rattle.box_remove.specs.Meaning.Remove.{removeOf}
 use Rattle.box_get.specs.Meaning.Clear.{clearOf}
 
 -- a call with all that it is handed besides the tables

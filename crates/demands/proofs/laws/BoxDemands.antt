@@ -10,8 +10,8 @@ use Rattle.box_tables.specs.Meaning.Decide.{sized-says, holds, holds-says}
 use Rattle.box_insert.specs.Meaning.New.{newOf}
 use Rattle.box_insert.proofs.laws.NewLaws.{new-holds, new-refused}
 use Rattle.box_insert.proofs.laws.InsertLaws.{insert-holds}
-use Rattle.box_change.proofs.laws.SetAabbLaws.{set-aabb-holds}
-use Rattle.box_change.proofs.laws.RemoveLaws.{remove-holds}
+use Rattle.box_set.proofs.laws.SetAabbLaws.{set-aabb-holds}
+use Rattle.box_remove.proofs.laws.RemoveLaws.{remove-holds}
 use Rattle.box_get.proofs.laws.ClearLaws.{clear-holds}
 use Rattle.demands.proofs.laws.Tested.{first-answer, first-refused}
 use Rattle.demands.specs.Meaning.BoxCalls.{BoxCall, new, insert, setAabb, remove, clear, get, len, handles, queryBroad, query, leaves, refusals}

@@ -7,8 +7,8 @@ use Rattle.box_tables.specs.Meaning.Tables.{Tables}
 use Rattle.box_tables.specs.Meaning.Outcome.{outcome}
 use Rattle.box_insert.specs.Meaning.New.{newOf}
 use Rattle.box_insert.specs.Meaning.Insert.{insertOf}
-use Rattle.box_change.specs.Meaning.Remove.{removeOf}
-use Rattle.box_change.specs.Meaning.SetAabb.{setAabbOf}
+use Rattle.box_remove.specs.Meaning.Remove.{removeOf}
+use Rattle.box_set.specs.Meaning.SetAabb.{setAabbOf}
 use Rattle.box_get.specs.Meaning.Live.{liveSlots}
 use Rattle.box_get.specs.Meaning.Reads.{got, listing, getOf, lenOf, handlesOf}
 use Rattle.geometry.specs.Meaning.Zero.{zero-aabb}

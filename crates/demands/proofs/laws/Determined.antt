@@ -26,8 +26,8 @@ use Rattle.box_tables.specs.Meaning.Tables as BoxTables
 use Rattle.box_tables.specs.Meaning.Outcome as Boxes
 use Rattle.box_insert.specs.Meaning.New as BoxNew
 use Rattle.box_insert.specs.Meaning.Insert as BoxInsert
-use Rattle.box_change.specs.Meaning.SetAabb.{setAabbOf}
-use Rattle.box_change.specs.Meaning.Remove as BoxRemove
+use Rattle.box_set.specs.Meaning.SetAabb.{setAabbOf}
+use Rattle.box_remove.specs.Meaning.Remove as BoxRemove
 use Rattle.box_get.specs.declared.Got as BoxGot
 use Rattle.box_get.specs.Meaning.Reads as BoxReads
 use Rattle.box_get.specs.Meaning.Clear as BoxClear

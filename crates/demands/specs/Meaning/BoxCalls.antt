@@ -11,8 +11,8 @@ use Rattle.box_tables.specs.Meaning.Tables.{Tables}
 use Rattle.box_tables.specs.Meaning.Outcome.{Outcome}
 use Rattle.box_insert.specs.Meaning.New.{newTests, newOf}
 use Rattle.box_insert.specs.Meaning.Insert.{insertTests, insertOf}
-use Rattle.box_change.specs.Meaning.SetAabb.{setAabbTests, setAabbOf}
-use Rattle.box_change.specs.Meaning.Remove.{removeTests, removeOf}
+use Rattle.box_set.specs.Meaning.SetAabb.{setAabbTests, setAabbOf}
+use Rattle.box_remove.specs.Meaning.Remove.{removeTests, removeOf}
 use Rattle.box_get.specs.declared.Got.{Got}
 use Rattle.box_get.specs.Meaning.Live.{liveSlots}
 use Rattle.box_get.specs.Meaning.Reads.{Listing, getTests, getOf, lenTests, lenOf, handlesTests, handlesOf}

@@ -11,8 +11,8 @@ use Rattle.storage.proofs.laws.WrittenLaws.{length-written}
 use Rattle.box_tables.specs.Meaning.Tables.{Tables, sizeOf, objOn, covers}
 use Rattle.box_tables.specs.Meaning.Decide.{holds}
 use Rattle.box_insert.specs.Meaning.Insert.{insertOf}
-use Rattle.box_change.specs.Meaning.SetAabb.{setAabbOf}
-use Rattle.box_change.specs.Meaning.Remove.{removeOf}
+use Rattle.box_set.specs.Meaning.SetAabb.{setAabbOf}
+use Rattle.box_remove.specs.Meaning.Remove.{removeOf}
 use Rattle.trace_telling.specs.Meaning.Places.{boxOf}
 use Rattle.box_query.specs.Meaning.Queries as query
 use Rattle.trace_printing.specs.declared.Said.the-variants.{Refused, Done, One, Two, Boxes}

@@ -4,8 +4,8 @@ use Rattle.slots.specs.declared.Handle.{Handle}
 use Rattle.box_tables.specs.Meaning.Tables.{Tables}
 use Rattle.box_tables.specs.Meaning.Outcome.{Outcome, outcome}
 use Rattle.box_insert.specs.Meaning.Insert.{insertOf}
-use Rattle.box_change.specs.Meaning.SetAabb.{setAabbOf}
-use Rattle.box_change.specs.Meaning.Remove.{removeOf}
+use Rattle.box_set.specs.Meaning.SetAabb.{setAabbOf}
+use Rattle.box_remove.specs.Meaning.Remove.{removeOf}
 use Rattle.trace_printing.specs.declared.Said.{Said}
 use Rattle.trace_lines.specs.declared.Spot.{Spot}
 use Rattle.trace_lines.specs.declared.BoxChange.{BoxChange}

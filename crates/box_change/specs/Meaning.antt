@@ -1,3 +1,0 @@
--- What must be believed: what the public calls and the demands cite.
-pub mod Remove
-pub mod SetAabb

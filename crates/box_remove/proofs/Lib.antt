@@ -1,0 +1,3 @@
+-- What the proofs of box_remove share.
+mod Taken
+pub mod laws

@@ -1,0 +1,3 @@
+-- What `remove` of a box grid answers and leaves.
+pub mod Meaning
+pub mod Inner

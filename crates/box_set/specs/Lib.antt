@@ -1,0 +1,3 @@
+-- What `set_aabb` answers and leaves.
+pub mod Meaning
+pub mod Inner
