@@ -1,3 +1,2 @@
 -- What the proofs of the reading calls share.
-pub mod Cleared
 pub mod laws

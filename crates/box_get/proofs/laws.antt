@@ -1,5 +1,3 @@
 -- Laws, and what the proofs share.
-pub mod ClearLaws
 pub mod LiveLaws
 pub mod ReadsLaws
-pub mod ClearKeeps

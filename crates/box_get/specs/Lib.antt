@@ -1,3 +1,3 @@
--- What `get`, `len`, `handles` and `clear` of a box grid answer and leave.
+-- What `get`, `len` and `handles` of a box grid answer and write.
 pub mod Meaning
 pub mod Inner

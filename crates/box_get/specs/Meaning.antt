@@ -1,4 +1,3 @@
 -- What must be believed: what the public calls and the demands cite.
-pub mod Clear
 pub mod Live
 pub mod Reads

@@ -1,4 +1,4 @@
-// Reading and emptying a box grid: `get`, `len`, `handles`, `clear`. Each checks the tables first.
+// Reading a box grid: `get`, `len`, `handles`. Each checks the tables first.
 ghost use Rattle.basics.specs.Words.{_≤_, _≡_, true, length};
 ghost use Rattle.basics.specs.Meaning.Limits.{mostBoxes};
 ghost use Rattle.basics.specs.Meaning.Lent.{was, is};
@@ -12,10 +12,6 @@ use replies::Count;
 use slots::Handle;
 use slots::Row;
 ghost use Rattle.geometry.specs.Meaning.Zero.{zero-aabb};
-
-mod clearing;
-
-pub use clearing::clear;
 
 // The box and the data of an object beside the answer.
 pub struct Got {
@@ -76,7 +72,7 @@ pub fn len(nums: &[Row], reals: &[[f32; 4]], map: &[u64], pool: &[[u64; 2]]) -> 
 }
 
 // The answer of a call that writes a row for each object into outputs of so many places, with the number of objects.
-fn list_answer(nums: &[Row], held: bool, room: usize) -> Count
+pub fn list_answer(nums: &[Row], held: bool, room: usize) -> Count
     requires { ⌜ (held ≡ true → length (now nums) ≤ mostBoxes) ⌝ }
     ensures { λ r. ⌜ r ≡ countBy held (length (liveFrom 0 (was nums))) room ⌝ }
 {

@@ -27,7 +27,7 @@ pub use box_remove::remove;
 // Writes box and data of each object, ascending by slot, then empties the grid. Refusals: 3, 9.
 //     let r = boxes::clear(nums, reals, map, pool, areas, objs);
 //     // areas[j] and objs[j] for j below r.count; every old handle answers 5 from now on
-pub use box_get::clear;
+pub use box_clear::clear;
 
 // The box and the data. Refusals: 3, 5.
 //     let r = boxes::get(nums, reals, map, pool, care);

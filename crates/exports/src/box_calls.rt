@@ -8,7 +8,7 @@ ghost use Rattle.box_insert.specs.Meaning.Insert.{insertOf};
 ghost use Rattle.box_set.specs.Meaning.SetAabb.{setAabbOf};
 ghost use Rattle.box_remove.specs.Meaning.Remove.{removeOf};
 ghost use Rattle.box_get.specs.Meaning.Reads.{got, getOf, lenOf, handlesOf, listing};
-ghost use Rattle.box_get.specs.Meaning.Clear.{clearOf};
+ghost use Rattle.box_clear.specs.Meaning.Clear.{clearOf};
 ghost use Rattle.box_query.specs.Meaning.Queries.{broadOf, queryOf};
 ghost use Rattle.box_query.specs.Meaning.Queries;
 ghost use Rattle.exports.specs.Meaning.Made.{handle, aabb};

@@ -17,8 +17,8 @@ use Rattle.box_set.proofs.laws.SetAabbLaws.{set-aabb-holds, set-live}
 use Rattle.box_remove.proofs.laws.RemoveLaws.{remove-holds, remove-live}
 use Rattle.box_get.specs.Meaning.Reads.{lenOf}
 use Rattle.box_get.proofs.laws.ReadsLaws.{len-counts}
-use Rattle.box_get.specs.Meaning.Clear.{clearOf}
-use Rattle.box_get.proofs.laws.ClearLaws.{clear-refused, clear-none, clear-holds, clear-counts}
+use Rattle.box_clear.specs.Meaning.Clear.{clearOf}
+use Rattle.box_clear.proofs.laws.ClearLaws.{clear-refused, clear-none, clear-holds, clear-counts}
 use Rattle.box_histories.specs.Inner.History.{Op, insert, setAabb, remove, clear, after, afterAll, accepted, putIn, objectsTakenOut, allIn, allOut}
 
 -- ---- every call keeps the tables holding a grid

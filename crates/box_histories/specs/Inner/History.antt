@@ -9,7 +9,7 @@ use Rattle.box_tables.specs.Meaning.Tables.{Tables}
 use Rattle.box_insert.specs.Meaning.Insert.{insertOf}
 use Rattle.box_set.specs.Meaning.SetAabb.{setAabbOf}
 use Rattle.box_remove.specs.Meaning.Remove.{removeOf}
-use Rattle.box_get.specs.Meaning.Clear.{clearOf}
+use Rattle.box_clear.specs.Meaning.Clear.{clearOf}
 
 -- a call with all that it is handed besides the tables
 pub data Op : Type 0 where

@@ -12,7 +12,7 @@ use Rattle.box_insert.proofs.laws.NewLaws.{new-holds, new-refused}
 use Rattle.box_insert.proofs.laws.InsertLaws.{insert-holds}
 use Rattle.box_set.proofs.laws.SetAabbLaws.{set-aabb-holds}
 use Rattle.box_remove.proofs.laws.RemoveLaws.{remove-holds}
-use Rattle.box_get.proofs.laws.ClearLaws.{clear-holds}
+use Rattle.box_clear.proofs.laws.ClearLaws.{clear-holds}
 use Rattle.demands.proofs.laws.Tested.{first-answer, first-refused}
 use Rattle.demands.specs.Meaning.BoxCalls.{BoxCall, new, insert, setAabb, remove, clear, get, len, handles, queryBroad, query, leaves, refusals}
 use Rattle.demands.specs.Meaning.BoxCalls.{refusedWith}

@@ -12,7 +12,7 @@ use Rattle.box_set.specs.Meaning.SetAabb.{setAabbOf}
 use Rattle.box_get.specs.Meaning.Live.{liveSlots}
 use Rattle.box_get.specs.Meaning.Reads.{got, listing, getOf, lenOf, handlesOf}
 use Rattle.geometry.specs.Meaning.Zero.{zero-aabb}
-use Rattle.box_get.specs.Meaning.Clear.{wrote, clearOf}
+use Rattle.box_clear.specs.Meaning.Clear.{wrote, clearOf}
 use Rattle.box_query.specs.Meaning.Queries
 use Rattle.box_query.specs.Meaning.Queries.{findings, broad, narrow, broadOf, queryOf}
 use Rattle.demands.proofs.laws.Tested.{Tested, tested, no-nine, at-nine}

@@ -30,7 +30,7 @@ use Rattle.box_set.specs.Meaning.SetAabb.{setAabbOf}
 use Rattle.box_remove.specs.Meaning.Remove as BoxRemove
 use Rattle.box_get.specs.declared.Got as BoxGot
 use Rattle.box_get.specs.Meaning.Reads as BoxReads
-use Rattle.box_get.specs.Meaning.Clear as BoxClear
+use Rattle.box_clear.specs.Meaning.Clear as BoxClear
 use Rattle.box_query.specs.Meaning.Queries as BoxQueries
 
 -- ---- two that are the same third

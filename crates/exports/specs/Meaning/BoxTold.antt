@@ -2,7 +2,7 @@
 use Rattle.basics.specs.Words.{ℕ, List}
 use lib.Ieee.{Float}
 use Rattle.basics.specs.Meaning.Lent.{Lent, is}
-use Rattle.box_get.specs.Meaning.Clear.{Written, wrote}
+use Rattle.box_clear.specs.Meaning.Clear.{Written, wrote}
 use Rattle.box_query.specs.Meaning.Queries.{Findings, findings}
 use Rattle.exports.specs.declared.Count.{Count}
 use Rattle.exports.specs.Meaning.Told.{toldCount}

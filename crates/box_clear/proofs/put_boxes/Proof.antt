@@ -1,11 +1,11 @@
--- `box_get::clearing::put_boxes` meets its contract: what the slots passed have stands in the first places. Assumes nothing.
+-- `box_clear::put_boxes` meets its contract: what the slots passed have stands in the first places. Assumes nothing.
 use Rattle.basics.specs.Words.{_≤_, _<_, _-_, sym, _∙_, ⊎-elim, length, take-all, arith, needs}
 use Rattle.slot_walks.specs.Meaning.Live.{liveFrom, objAt}
 use Rattle.slot_walks.proofs.laws.LiveLaws.{liveTo, live-within, live-one, live-none, live-room}
-use Rattle.box_get.specs.Meaning.Clear.{boxAt}
+use Rattle.box_clear.specs.Meaning.Clear.{boxAt}
 use Rattle.storage.proofs.laws.PutLaws.{Rows, rows-none, rows-kept, rows-room, rows-next, rows-same}
-use Rattle.box_get.proofs.clearing.put_boxes.Statement.{statement}
-use Rattle.box_get.proofs.clearing.put_boxes.Tie as tie
+use Rattle.box_clear.proofs.put_boxes.Statement.{statement}
+use Rattle.box_clear.proofs.put_boxes.Tie as tie
 
 abbrev Inv-loop : tie.InvT-loop
 Inv-loop nums reals boxes₀ objs₀ k₀ i₀ boxes objs k i =

@@ -1,4 +1,5 @@
 // `clear`: writes box and data, ascending by slot, then empties the grid. Versions rise as with any emptying.
+// It checks the tables first.
 ghost use Rattle.basics.specs.Words.{_+_, min, _≡_, map, length};
 ghost use Rattle.basics.specs.Meaning.Lent.{was, is};
 ghost use Rattle.slots.specs.Meaning.Map.{wordsFor};
@@ -8,9 +9,8 @@ ghost use Rattle.slot_walks.specs.Meaning.Cleared.{clearedRows, clearedMap};
 ghost use Rattle.box_tables.specs.Meaning.Tables.{counting};
 ghost use Rattle.box_tables.specs.Meaning.Lent.{after, before};
 ghost use Rattle.box_tables.specs.Meaning.Outcome.{outcome};
-ghost use Rattle.box_get.specs.Meaning.Clear.{boxAt, wrote, clearOf};
-ghost use Rattle.box_get.specs.Inner.Clear.{Room};
-use crate::list_answer;
+ghost use Rattle.box_clear.specs.Meaning.Clear.{boxAt, wrote, clearOf};
+ghost use Rattle.box_clear.specs.Inner.Clear.{Room};
 use replies::Count;
 use slots::Row;
 
@@ -65,7 +65,7 @@ pub fn clear(
     ensures { λ r. ⌜ outcome (wrote r (is boxes) (is objs)) (after nums reals map pool) ≡ clearOf (before nums reals map pool) (was boxes) (was objs) ⌝ }
 {
     let held = box_tables::check(nums, reals, map, pool);
-    let c = list_answer(nums, held, least(boxes.len(), objs.len()));
+    let c = box_get::list_answer(nums, held, least(boxes.len(), objs.len()));
     if c.answer != 0 {
         return c;
     }

@@ -7,7 +7,7 @@ use Rattle.slot_walks.proofs.laws.ClearedLaws as Slots
 use Rattle.slot_walks.proofs.laws.ClearedLaws.{cleared-map-length, cleared-map-head, cleared-slots}
 use Rattle.box_tables.specs.Meaning.Tables.{Tables, sizeOf, usedOf, Sized}
 use Rattle.box_tables.specs.Meaning.Holds.{Holds}
-use Rattle.box_get.specs.Meaning.Clear.{cleared}
+use Rattle.box_clear.specs.Meaning.Clear.{cleared}
 use Rattle.box_tables.proofs.laws.HeadLaws.{counted-used, counted-size, counted-length, counted-slots}
 
 module _ (t : Tables) where

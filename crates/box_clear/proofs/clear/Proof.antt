@@ -1,9 +1,9 @@
--- `box_get::clearing::clear` meets its contract. Assumes nothing.
+-- `box_clear::clear` meets its contract. Assumes nothing.
 use Rattle.basics.specs.Words.{needs}
 use Rattle.box_tables.specs.Meaning.Tables.{Tables, tables}
-use Rattle.box_get.proofs.Cleared.{a-grid, refused, grid, put-asks, done}
-use Rattle.box_get.proofs.clearing.clear.Statement.{statement}
-use Rattle.box_get.proofs.clearing.clear.Tie as tie
+use Rattle.box_clear.proofs.Cleared.{a-grid, refused, grid, put-asks, done}
+use Rattle.box_clear.proofs.clear.Statement.{statement}
+use Rattle.box_clear.proofs.clear.Tie as tie
 
 -- the tables at entry
 abbrev at-entry : tie.Start → Tables

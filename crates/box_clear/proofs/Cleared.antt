@@ -9,11 +9,11 @@ use Rattle.box_tables.specs.Meaning.Holds.{Holds}
 use Rattle.box_tables.specs.Meaning.Decide.{holds, holds-says}
 use Rattle.box_tables.specs.Meaning.Outcome.{outcome}
 use Rattle.replies.specs.declared.Count.{Count}
 use Rattle.box_get.specs.Meaning.Live.{liveSlots}
 use Rattle.box_get.specs.Inner.Live.{countBy}
 use Rattle.box_get.proofs.laws.LiveLaws.{listAnswer, listCount, list-passed, listed, listed-0, listed-no}
-use Rattle.box_get.specs.Meaning.Clear.{boxAt, cleared, wrote, clearOf}
-use Rattle.box_get.proofs.laws.ClearLaws.{clear-0, clear-no}
+use Rattle.box_clear.specs.Meaning.Clear.{boxAt, cleared, wrote, clearOf}
+use Rattle.box_clear.proofs.laws.ClearLaws.{clear-0, clear-no}
 
 -- the verdict says that the tables hold a grid
 pub a-grid : (t : Tables) (held : Bool) → held ≡ holds t → held ≡ true → Holds t

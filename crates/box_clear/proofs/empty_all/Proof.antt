@@ -1,7 +1,7 @@
--- `box_get::clearing::empty_all` meets its contract. Assumes nothing.
+-- `box_clear::empty_all` meets its contract. Assumes nothing.
 use Rattle.basics.specs.Words.{needs}
-use Rattle.box_get.proofs.clearing.empty_all.Statement.{statement}
-use Rattle.box_get.proofs.clearing.empty_all.Tie as tie
+use Rattle.box_clear.proofs.empty_all.Statement.{statement}
+use Rattle.box_clear.proofs.empty_all.Tie as tie
 
 returns : tie.Need-returns
 returns c = (c .before .before .before .empty-slots .ensures .0, cc (c .before .before .before .empty-slots .ensures .1))

@@ -10,10 +10,10 @@ use Rattle.slot_walks.specs.Meaning.Live.{objAt}
 use Rattle.box_tables.specs.Meaning.Tables.{Tables, slotsOf}
 use Rattle.box_tables.specs.Meaning.Holds.{Holds}
 use Rattle.box_tables.specs.Meaning.Outcome.{Outcome, outcome}
 use Rattle.box_get.specs.Meaning.Live.{liveSlots}
 use Rattle.box_get.proofs.laws.LiveLaws.{listAnswer, listCount, answer-of, live-count, list-counts}
-use Rattle.box_get.specs.Meaning.Clear.{cleared, boxAt, Written, wrote, clearOf}
-use Rattle.box_get.proofs.laws.ClearKeeps.{cleared-none, cleared-keeps}
+use Rattle.box_clear.specs.Meaning.Clear.{cleared, boxAt, Written, wrote, clearOf}
+use Rattle.box_clear.proofs.laws.ClearKeeps.{cleared-none, cleared-keeps}
 use Rattle.replies.specs.declared.Count.{Count}
 
 module _ (t : Tables) (boxes : List (List Float)) (objs : List ℕ) where

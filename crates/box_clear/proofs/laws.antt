@@ -1,0 +1,3 @@
+-- Laws, and what the proofs share.
+pub mod ClearLaws
+pub mod ClearKeeps

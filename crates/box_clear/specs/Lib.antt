@@ -1,0 +1,3 @@
+-- What `clear` of a box grid answers, writes and leaves.
+pub mod Meaning
+pub mod Inner
