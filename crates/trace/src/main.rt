@@ -44,7 +44,7 @@ fn answer(
     trace_blocks::answered(p, put)
 }
 
-// Each record has its answer.
+// Both grids are built; then each record has its answer.
 fn serve(
     nums: &mut [Row],
     reals: &mut [[f32; 4]],
@@ -58,6 +58,19 @@ fn serve(
     bmap: &mut [u64],
     bpool: &mut [[u64; 2]],
 ) {
+    trace_replay::start(
+        nums,
+        reals,
+        ints,
+        map,
+        pool,
+        spots,
+        cells,
+        bnums,
+        breals,
+        bmap,
+        bpool,
+    );
     let mut line = [0u8; 130];
     let mut block = [0u8; 65536];
     let mut out = [0u8; 65536];
@@ -85,47 +98,6 @@ fn serve(
     }
 }
 
-fn run(
-    nums: &mut [Row],
-    reals: &mut [[f32; 4]],
-    ints: &mut [[i32; 4]],
-    map: &mut [u64],
-    pool: &mut [[u64; 2]],
-    spots: &mut [[f32; 2]],
-    cells: &mut [[u64; 2]],
-    bnums: &mut [[u32; 4]],
-    breals: &mut [[f32; 4]],
-    bmap: &mut [u64],
-    bpool: &mut [[u64; 2]],
-) {
-    trace_replay::start(
-        nums,
-        reals,
-        ints,
-        map,
-        pool,
-        spots,
-        cells,
-        bnums,
-        breals,
-        bmap,
-        bpool,
-    );
-    serve(
-        nums,
-        reals,
-        ints,
-        map,
-        pool,
-        spots,
-        cells,
-        bnums,
-        breals,
-        bmap,
-        bpool,
-    );
-}
-
 fn main() {
     let mut nums = [[0u32; 4]; 256];
     let mut reals = [[0.0f32; 4]; 256];
@@ -138,7 +110,7 @@ fn main() {
     let mut breals = [[0.0f32; 4]; 64];
     let mut bmap = [0u64; 4];
     let mut bpool = [[0u64; 2]; 512];
-    run(
+    serve(
         &mut nums,
         &mut reals,
         &mut ints,

@@ -13,6 +13,10 @@ Inv-loop nums₀ reals₀ ints₀ map₀ pool₀ spots₀ cells₀ bnums₀ brea
 abbrev μ-loop : tie.MeasureT-loop
 μ-loop nums₀ reals₀ ints₀ map₀ pool₀ spots₀ cells₀ bnums₀ breals₀ bmap₀ bpool₀ line₀ block₀ out₀ p₀ turns₀ nums reals ints map pool spots cells bnums breals bmap bpool line block out p turns = turns
 
+-- before the loop: both grids are built
+abbrev built : tie.Else1 Inv-loop μ-loop → tie.After-start Inv-loop μ-loop
+built c = c .before .before .before .before .before .before .before .before .before .before .before .before .before .before
+
 sub-turns : tie.Need-sub-turns Inv-loop μ-loop
 sub-turns c = c .before .before .before .before .before .before .before .before .before .before .before .before .before .before .before .before .before .before .before .before .before .before .before .before .before .before .before .before .before .before .before .before .is-next .ensures (c .before .before .before .before .before .before .before .before .before .before .before .before .before .before .before .before .before .before .before .before .before .before .before .before .before .before .before .before .before .before .before .if1 .taken)
 
@@ -46,6 +50,7 @@ serve-spec =
     Inv-loop
     μ-loop
     (λ c κs. tt)
+    (λ c κs. tt)
     (λ c κs. ready-fits (c .begin .result) (c .begin .ensures))
     (λ c. (c .advance .ensures, refl, refl, refl, refl, refl, refl, refl, refl, refl, refl, refl))
     (λ c κs. tt)
@@ -54,15 +59,15 @@ serve-spec =
     sub-turns
     loop-less
     loop-again
-    (λ c. c .before .before .loop .inv .1)
+    (λ c. c .before .before .loop .inv .1 ∙ built c .start .kept .0)
     (λ c. c .before .before .loop .inv .2)
     (λ c. c .before .before .loop .inv .3)
-    (λ c. c .before .before .loop .inv .4)
+    (λ c. c .before .before .loop .inv .4 ∙ built c .start .kept .1 .1 .1 .0)
     (λ c. c .before .before .loop .inv .5)
     (λ c. c .before .before .loop .inv .6)
     (λ c. c .before .before .loop .inv .7)
-    (λ c. c .before .before .loop .inv .8)
+    (λ c. c .before .before .loop .inv .8 ∙ built c .start .kept .1 .1 .1 .1 .1 .1 .1 .0)
     (λ c. c .before .before .loop .inv .9)
-    (λ c. c .before .before .loop .inv .10)
+    (λ c. c .before .before .loop .inv .10 ∙ built c .start .kept .1 .1 .1 .1 .1 .1 .1 .1 .1 .0)
     (λ c. c .before .before .loop .inv .11)
     (λ c. tt))
