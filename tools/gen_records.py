@@ -267,7 +267,7 @@ use denote.Triple.Walked.{says}
 use Rattle.replies.specs.Meaning.Replies.{reply}
 use Rattle.point_tables.specs.Meaning.Tables.{tables}
 use Rattle.point_tables.specs.Meaning.Outcome.{outcome}
-use Rattle.point_query.specs.Meaning.Queries.{findings}
+use Rattle.point_search.specs.Meaning.Searches.{findings}
 use Rattle.records.specs.Meaning.Seen.{seen}
 '''
 CALLEES = {}
@@ -889,7 +889,7 @@ VALS['table'] = 'array-vals vals'; TELLS['table'] = 'tells-array'
 EXTRA = '''use Rattle.point_tables.specs.Meaning.Tables.{tables as tabled}
 use Rattle.point_tables.specs.Meaning.Outcome.{outcome}
 use Rattle.replies.specs.Meaning.Replies.{reply}
-use Rattle.point_query.specs.Meaning.Queries.{Findings, findings}
+use Rattle.point_search.specs.Meaning.Searches.{Findings, findings}
 use Rattle.records.specs.Meaning.Seen.{back}
 '''
 # how a call takes nums, reals, ints, map, pool, spots, cells

@@ -1,3 +1,2 @@
 -- What the queries find.
 pub mod Meaning
-pub mod Inner

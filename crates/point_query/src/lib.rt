@@ -1,78 +1,18 @@
-// The queries of a point grid: `query`, `query_around`, `query_aabb`. Each checks the tables first, in `search`.
-ghost use Rattle.basics.specs.Words.{_≡_, true};
+// The queries of a point grid: `query`, `query_around`, `query_aabb`. Each is a `search`, which checks the tables first.
+ghost use Rattle.basics.specs.Words.{_≡_};
 ghost use Rattle.basics.specs.Meaning.Lent.{was, is};
-ghost use Rattle.cells.specs.Inner.CellRule.{Reached};
 ghost use Rattle.point_tables.specs.Meaning.Lent.{before};
-ghost use Rattle.point_query.specs.Meaning.Queries.{findings, searchOf, queryOf, aroundOf, aabbOf};
-
-mod fill;
-mod gather;
-
-use cells::cell_at;
-use cells::cells_in;
-use fill::fill;
+ghost use Rattle.point_search.specs.Meaning.Searches.{findings};
+ghost use Rattle.point_query.specs.Meaning.Queries.{queryOf, aroundOf, aabbOf};
 use geometry::Position;
 use geometry::lower_corner;
 use geometry::position_in_domain;
 use geometry::radius_in_domain;
 use geometry::upper_corner;
+use point_search::Test;
+use point_search::search;
 use replies::Count;
-use slots::Handle;
 use slots::Row;
-
-// What a found position must pass, besides standing in the range: nothing, a circle of a centre and a radius, or a rectangle of two corners.
-pub enum Test {
-    Any,
-    Circle(Position, f32),
-    Rectangle(Position, Position),
-}
-
-// What a query reports of an entry.
-pub struct Finding {
-    pub handle: Handle,
-    pub position: Position,
-}
-
-// How many places a walk has collected, and the place up to which.
-pub struct Part {
-    pub number: usize,
-    pub place: usize,
-}
-
-// What the three queries are: the range from the cell of `ll` to that of `ur`, and a test. `ok` says whether the numbers that were given are in the domain.
-fn search(
-    nums: &[Row],
-    reals: &[[f32; 4]],
-    ints: &[[i32; 4]],
-    map: &[u64],
-    pool: &[[u64; 2]],
-    spots: &[[f32; 2]],
-    cells: &[[u64; 2]],
-    ok: bool,
-    ll: Position,
-    ur: Position,
-    test: Test,
-    handles: &mut [[u32; 2]],
-    places: &mut [[f32; 2]],
-) -> Count
-    requires { ⌜ (ok ≡ true → Reached ll × Reached ur) ⌝ }
-    ensures { λ r. ⌜ findings r (is handles) (is places) ≡ searchOf (before nums reals ints map pool spots cells) ok ll ur test (was handles) (was places) ⌝ }
-{
-    if !point_tables::check(nums, reals, ints, map, pool, spots, cells) {
-        return replies::refused(3);
-    }
-    if !ok {
-        return replies::refused(6);
-    }
-    let size = map[0];
-    let a = cell_at(size, ll);
-    let b = cell_at(size, ur);
-    if basics::MOST_CELLS < cells_in(a, b) {
-        return replies::refused(7);
-    }
-    let used = basics::index_of(map[1]);
-    fill(nums, pool, spots, used, a, b, test, handles, places)
-}
 
 // All entries of the range. The corners are not swapped: a reversed range is empty.
 pub fn query(

@@ -30,7 +30,7 @@ use Rattle.replies.specs.declared.Count.{Count}
 use Rattle.replies.proofs.Count as CT
 use Rattle.replies.proofs.Count.Laws as CT′
 use Rattle.point_tables.specs.Meaning.Tables.{tables}
-use Rattle.point_query.specs.Meaning.Queries.{findings}
+use Rattle.point_search.specs.Meaning.Searches.{findings}
 use Rattle.records.proofs.Lends.{to}
 use Rattle.records.proofs.Calls.{Passed, value, mutably, shared, copied, lives, shares, seens, values, asks-nothing, calls-with}
 use Rattle.record_query.specs.Inner.Calls.{aroundFor}

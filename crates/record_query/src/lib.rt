@@ -2,7 +2,7 @@
 ghost use Rattle.basics.specs.Words.{_≡_};
 ghost use Rattle.basics.specs.Meaning.Lent.{was, is};
 ghost use Rattle.point_tables.specs.Meaning.Lent.{before};
-ghost use Rattle.point_query.specs.Meaning.Queries.{findings};
+ghost use Rattle.point_search.specs.Meaning.Searches.{findings};
 ghost use Rattle.record_query.specs.Inner.Calls.{aroundFor};
 ghost use Rattle.record_query.specs.Meaning.Calls.{aroundOn, FindsIn};
 use geometry::Position;

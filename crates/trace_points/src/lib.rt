@@ -6,7 +6,7 @@ ghost use Rattle.point_tables.specs.Meaning.Lent.{after, before};
 ghost use Rattle.point_tables.specs.Meaning.Outcome.{outcome};
 ghost use Rattle.trace_points.specs.Meaning.Changes.{changeOf, movedOf, insertedOf, takenOf, markedOf, maintainedOf};
 ghost use Rattle.trace_points.specs.Meaning.Searches.{searched, findingsOf, pointSearchOf};
-ghost use Rattle.point_query.specs.Meaning.Queries.{findings};
+ghost use Rattle.point_search.specs.Meaning.Searches.{findings};
 use geometry::Position;
 use replies::Count;
 use slots::Handle;

@@ -23,7 +23,8 @@ use Rattle.point_maintain.proofs.laws.MaintainLaws.{maintain-keeps}
 use Rattle.point_deferred.specs.Meaning.Calls.{Call, callOf, tablesAfter}
 use Rattle.point_batch.specs.Meaning.Batch.{even}
 use Rattle.point_maintain.specs.Meaning.Maintain.{maintainOf}
-use Rattle.point_query.specs.Meaning.Queries.{Findings, aroundOf}
+use Rattle.point_search.specs.Meaning.Searches.{Findings}
+use Rattle.point_query.specs.Meaning.Queries.{aroundOf}
 use Rattle.trackers.specs.Meaning.Merges.{Turn, calls, Merge, NotShared, Alike, batchFor, SameBatch}
 use Rattle.trackers.proofs.laws.MergeLaws.{any-merge}
 use Rattle.trackers.proofs.laws.BatchMergeLaws.{any-merge-batch}

@@ -20,7 +20,8 @@ use Rattle.point_clear.specs.Meaning.Clear.{Written, clearOf}
 use Rattle.point_get.specs.declared.Got.{Got}
 use Rattle.replies.specs.declared.Count.{Count}
 use Rattle.point_get.specs.Meaning.{Listing, getOf, lenOf, handlesOf}
-use Rattle.point_query.specs.Meaning.Queries.{Findings, queryOf, aroundOf, aabbOf}
+use Rattle.point_search.specs.Meaning.Searches.{Findings}
+use Rattle.point_query.specs.Meaning.Queries.{queryOf, aroundOf, aabbOf}
 use Rattle.replies.specs.Meaning.Replies.{reply}
 use Rattle.box_tables.specs.Meaning.Tables as BoxTables
 use Rattle.box_tables.specs.Meaning.Outcome as Boxes

@@ -19,9 +19,10 @@ use Rattle.point_remove.specs.Meaning.RemoveMaintain.{removeMaintainOf}
 use Rattle.point_clear.specs.Meaning.Clear.{wrote, liveSlots, clearOf}
 use Rattle.point_get.specs.Meaning.{got, listing, liveHandles, getOf, lenOf, handlesTests, handlesOf}
 use Rattle.geometry.specs.Meaning.Zero.{zero-position}
-use Rattle.point_query.specs.declared.Test.{Test}
-use Rattle.point_query.specs.declared.Test.the-variants.{Any, Circle, Rectangle}
-use Rattle.point_query.specs.Meaning.Queries.{found, outputs as columns, room, findings, searchTests, searchOf, queryOf, aroundOf, aabbOf}
+use Rattle.point_search.specs.declared.Test.{Test}
+use Rattle.point_search.specs.declared.Test.the-variants.{Any, Circle, Rectangle}
+use Rattle.point_search.specs.Meaning.Searches.{found, outputs as columns, room, findings, searchTests, searchOf}
+use Rattle.point_query.specs.Meaning.Queries.{queryOf, aroundOf, aabbOf}
 use Rattle.geometry.specs.Meaning.Circle.{cornerBelow, cornerAbove}
 use Rattle.demands.proofs.laws.Tested.{Tested, tested, no-nine, at-nine}
 use Rattle.demands.specs.Meaning.Left.{outputs, none, refused}

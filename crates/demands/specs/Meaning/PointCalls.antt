@@ -20,7 +20,8 @@ use Rattle.point_clear.specs.Meaning.Clear.{Written, liveSlots, clearTests, cle
 use Rattle.point_get.specs.declared.Got.{Got}
 use Rattle.point_get.specs.Meaning.{Listing, getTests, getOf, lenTests, lenOf, handlesTests, handlesOf}
 use Rattle.geometry.specs.Meaning.Zero.{zero-position}
-use Rattle.point_query.specs.Meaning.Queries.{Findings, queryFinds, queryTests, queryOf, aroundFinds, aroundTests, aroundOf, aabbFinds, aabbTests, aabbOf}
+use Rattle.point_search.specs.Meaning.Searches.{Findings}
+use Rattle.point_query.specs.Meaning.Queries.{queryFinds, queryTests, queryOf, aroundFinds, aroundTests, aroundOf, aabbFinds, aabbTests, aabbOf}
 use Rattle.basics.specs.Meaning.Refusals.{Refusal}
 use Rattle.demands.specs.Meaning.Left.{Outputs, outputs, none, zeros, theCount, theHandle, theData, theChanges, theObject, Left, left, refused}
 

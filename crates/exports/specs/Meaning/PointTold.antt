@@ -6,7 +6,7 @@ use Rattle.point_tables.specs.Meaning.Tables.{Tables}
 use Rattle.point_tables.specs.Meaning.Lent.{before}
 use Rattle.point_batch.specs.Meaning.Batch.{Batched, batched}
 use Rattle.point_clear.specs.Meaning.Clear.{Written, wrote}
-use Rattle.point_query.specs.Meaning.Queries.{Findings, findings}
+use Rattle.point_search.specs.Meaning.Searches.{Findings, findings}
 use Rattle.point_maintain.specs.declared.Maintained as Settled
 use Rattle.point_maintain.specs.Meaning.Maintain.{maintainedCounts}
 use Rattle.exports.specs.declared.BatchReply.{BatchReply}

@@ -11,8 +11,9 @@ use Rattle.geometry.specs.Meaning.Circle.{cornerBelow, cornerAbove}
 use Rattle.cells.specs.Inner.CellRule.{Reached}
 use Rattle.cells.proofs.laws.ReachLaws.{position-reached, low-reached, high-reached}
 use Rattle.point_tables.specs.Meaning.Tables.{Tables}
-use Rattle.point_query.specs.declared.Test.the-variants.{Any, Circle, Rectangle}
-use Rattle.point_query.specs.Meaning.Queries.{Findings, searchOf, queryOf, aroundOf, aabbOf}
+use Rattle.point_search.specs.declared.Test.the-variants.{Any, Circle, Rectangle}
+use Rattle.point_search.specs.Meaning.Searches.{Findings, searchOf}
+use Rattle.point_query.specs.Meaning.Queries.{queryOf, aroundOf, aabbOf}
 
 -- both of two tests that were run
 both : (p q u v : Bool) → p ≡ u → q ≡ v → (p && q) ≡ true → T u × T v

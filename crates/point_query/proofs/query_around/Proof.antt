@@ -1,7 +1,7 @@
 -- `point_query::query_around` meets its contract. Assumes nothing.
 use Rattle.basics.specs.Words.{needs}
 use Rattle.point_tables.specs.Meaning.Tables.{Tables, tables}
-use Rattle.point_query.specs.Meaning.Queries.{findings}
+use Rattle.point_search.specs.Meaning.Searches.{findings}
 use Rattle.point_query.proofs.laws.CornerLaws.{around-reached, around-is}
 use Rattle.point_query.proofs.query_around.Statement.{statement}
 use Rattle.point_query.proofs.query_around.Tie as tie

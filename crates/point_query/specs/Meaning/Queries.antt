@@ -1,104 +1,15 @@
--- `query`, `query_around` and `query_aabb`: the entries of a range that pass a test, in range order and then in list order; a finding is
--- handle and position. Assumes nothing.
-use Rattle.basics.specs.Words.{ℕ, min, Bool, true, _&&_, List, [], _∷_, map, length, eqb, leb}
+-- `query`, `query_around` and `query_aabb`: each is the search of its corners and its test. Assumes nothing.
+use Rattle.basics.specs.Words.{ℕ, _&&_, List}
 use lib.Ieee.{Float}
-use Rattle.basics.specs.Meaning.Limits.{mostCells}
-use Rattle.basics.specs.Meaning.Refusals.{Refusal, unless, firstOf, pick, byTests}
+use Rattle.basics.specs.Meaning.Refusals.{Refusal}
 use Rattle.geometry.specs.declared.Position.{Position}
 use Rattle.geometry.specs.Meaning.Domain.{positionInDomain, radiusInDomain}
-use Rattle.geometry.specs.Meaning.Circle.{inCircle, cornerBelow, cornerAbove}
-use Rattle.geometry.specs.Meaning.Rectangle.{lowerCorner, upperCorner, inRectangle}
-use Rattle.cells.specs.Meaning.CellRule.{cellAt}
-use Rattle.cells.specs.Meaning.Range.{cellsIn}
-use Rattle.slots.specs.Meaning.Slot.{versionAt}
-use Rattle.storage.specs.Meaning.Keyed.{filter, written}
-use Rattle.storage.specs.Meaning.Entries.{Entry, entryKey}
-use Rattle.storage.specs.Meaning.Walk.{walked}
-use Rattle.point_records.specs.Meaning.Columns.{positionIn}
-use Rattle.point_tables.specs.Meaning.Tables.{Tables, sizeOf, entriesIn, slotOf}
-use Rattle.point_tables.specs.Meaning.Decide.{holds}
-use Rattle.point_query.specs.declared.Finding.{Finding}
-use Rattle.point_query.specs.declared.Test.{Test}
-use Rattle.point_query.specs.declared.Test.the-variants.{Any, Circle, Rectangle}
-use Rattle.replies.specs.declared.Count.{Count}
-use Rattle.replies.specs.Meaning.Replies.{count}
-
-abbrev pub passes : Test → Position → Bool
-passes Any p = true
-passes (Circle c r) p = inCircle p c r
-passes (Rectangle ll ur) p = inRectangle p ll ur
-
-abbrev pub positionOf : Entry → Position
-positionOf e = positionIn (e .spot)
-
--- the entries found in the range of the corners ll and ur: the position that an entry has is the recorded one
-unfoldable pub found : Tables → Position → Position → Test → List Entry
-found t ll ur test = filter (λ e. passes test (positionOf e)) (walked entryKey (cellAt (sizeOf t) ll) (cellAt (sizeOf t) ur) (entriesIn t))
-
--- ---- a finding: the handle of a slot, and a position
-abbrev pub finding : List (List ℕ) → ℕ → Position → Finding
-finding nums s p = record { handle = record { slot = s; version = versionAt nums s }; position = p }
-
--- what is reported of an entry
-abbrev pub findingOn : Tables → Entry → Finding
-findingOn t e = finding (t .nums) (slotOf e) (positionOf e)
-
--- its rows: (slot, version) and (x, y)
-abbrev pub handleRow : Finding → List ℕ
-handleRow f = f .handle .slot ∷ f .handle .version ∷ []
-
-abbrev pub placeRow : Finding → List Float
-placeRow f = f .position .x ∷ f .position .y ∷ []
-
--- ---- the outputs of a query: a column for each row of a finding
-pub record Outputs : Type 0 where
-  pub handles : List (List ℕ)
-  pub places : List (List Float)
-
-abbrev pub outputs : List (List ℕ) → List (List Float) → Outputs
-outputs h p = record { handles = h; places = p }
-
--- the places that every column has
-abbrev pub room : Outputs → ℕ
-room o = min (length (o .handles)) (length (o .places))
-
--- what is reported of each of a list, from place 0 of every column on
-abbrev pub filling : {A : Type 0} → (A → Finding) → List A → Outputs → Outputs
-filling report l o = outputs (written (map (λ a. handleRow (report a)) l) (o .handles)) (written (map (λ a. placeRow (report a)) l) (o .places))
-
--- ---- what a query returns, and its outputs after it
-pub record Findings : Type 0 where
-  pub returned : Count
-  pub outputs : Outputs
-
-abbrev pub findings : Count → List (List ℕ) → List (List Float) → Findings
-findings c h p = record { returned = c; outputs = outputs h p }
-
--- done: the number found, and the findings in the outputs
-abbrev pub reportOf : {A : Type 0} → (A → Finding) → List A → Outputs → Findings
-reportOf report l o = record { returned = count 0 (length l); outputs = filling report l o }
-
--- ---- the search that the three queries are. `ok` says whether their numbers are in the domain
-abbrev pub searchTests : Tables → Bool → Position → Position → Test → ℕ → List Refusal
-searchTests t ok ll ur test room =
-    unless (holds t) 3
-    ∷ unless ok 6
-    ∷ unless (leb (cellsIn (cellAt (sizeOf t) ll) (cellAt (sizeOf t) ur)) mostCells) 7
-    ∷ unless (leb (length (found t ll ur test)) room) 9
-    ∷ []
-
-unfoldable pub searchAnswer : Tables → Bool → Position → Position → Test → ℕ → ℕ
-unfolding found
-searchAnswer t ok ll ur test room = firstOf (searchTests t ok ll ur test room)
-
--- 9 returns the number found
-unfoldable pub searchOf : Tables → Bool → Position → Position → Test → List (List ℕ) → List (List Float) → Findings
-unfolding searchAnswer found
-searchOf t ok ll ur test handles places =
-    let es = found t ll ur test in
-    byTests (searchTests t ok ll ur test (room (outputs handles places)))
-    (reportOf (findingOn t) es (outputs handles places))
-    (λ a. findings (count a (pick (eqb a 9) (length es) 0)) handles places)
+use Rattle.geometry.specs.Meaning.Circle.{cornerBelow, cornerAbove}
+use Rattle.geometry.specs.Meaning.Rectangle.{lowerCorner, upperCorner}
+use Rattle.storage.specs.Meaning.Entries.{Entry}
+use Rattle.point_tables.specs.Meaning.Tables.{Tables}
+use Rattle.point_search.specs.declared.Test.the-variants.{Any, Circle, Rectangle}
+use Rattle.point_search.specs.Meaning.Searches.{found, outputs, room, Findings, searchTests, searchOf}
 
 -- ---- query: corners not swapped, a reversed range is empty
 abbrev pub queryFinds : Tables → Position → Position → List Entry

@@ -9,7 +9,8 @@ use Rattle.storage.proofs.laws.FilterLaws.{by-test}
 use Rattle.point_records.specs.declared.Record.{Record}
 use Rattle.point_tables.specs.Meaning.Tables.{Tables}
 use Rattle.point_deferred.specs.Meaning.Calls.{Call as Deferred, callOf, tablesAfter}
-use Rattle.point_query.specs.Meaning.Queries.{Findings, findings, aroundOf}
+use Rattle.point_search.specs.Meaning.Searches.{Findings, findings}
+use Rattle.point_query.specs.Meaning.Queries.{aroundOf}
 use Rattle.whereabouts.specs.Meaning.Report.{ReportedAt, Reports, Due}
 use Rattle.whereabouts.proofs.laws.StandsLaws.{Settled}
 use Rattle.whereabouts.specs.Meaning.Stands.{nextMaintain}

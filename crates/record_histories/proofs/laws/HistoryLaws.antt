@@ -21,7 +21,8 @@ use Rattle.point_maintain.proofs.laws.MaintainLaws.{maintain-done, maintain-kee
 use Rattle.point_maintain.proofs.laws.MaintainedLaws.{maintained-slots}
 use Rattle.point_get.specs.Meaning.{got, getOf, lenOf}
 use Rattle.geometry.specs.Meaning.Zero.{zero-position}
-use Rattle.point_query.specs.Meaning.Queries.{findings, aroundOf}
+use Rattle.point_search.specs.Meaning.Searches.{findings}
+use Rattle.point_query.specs.Meaning.Queries.{aroundOf}
 use Rattle.slots.specs.Meaning.Map.{slotIn}
 use Rattle.point_maintain.specs.declared.Maintained.{Maintained}
 use Rattle.records.specs.Meaning.Spread.{besides, recordsIn}

@@ -11,8 +11,9 @@ use Rattle.point_tables.specs.Meaning.Tables.{Tables}
 use Rattle.point_tables.specs.Meaning.Holds.{Holds}
 use Rattle.point_get.specs.Meaning.{liveHandles, getOf, lenOf}
 use Rattle.storage.specs.Meaning.Entries.{rowItem}
-use Rattle.point_query.specs.declared.Test.the-variants.{Circle}
-use Rattle.point_query.specs.Meaning.Queries.{found, findingOn, handleRow, searchAnswer, searchOf, aroundOf}
+use Rattle.point_search.specs.declared.Test.the-variants.{Circle}
+use Rattle.point_search.specs.Meaning.Searches.{found, findingOn, handleRow, searchAnswer, searchOf}
+use Rattle.point_query.specs.Meaning.Queries.{aroundOf}
 use Rattle.geometry.specs.Meaning.Circle.{cornerBelow, cornerAbove}
 use Rattle.records.specs.Inner.Alike.{Alike, withColumns}
 use Rattle.records.proofs.laws.Alike.{Reads}

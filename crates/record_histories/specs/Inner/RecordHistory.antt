@@ -18,7 +18,8 @@ use Rattle.point_maintain.specs.declared.Maintained.{Maintained}
 use Rattle.point_maintain.specs.Meaning.Maintain.{maintainOf}
 use Rattle.point_get.specs.declared.Got.{Got}
 use Rattle.point_get.specs.Meaning.{getOf, lenOf}
-use Rattle.point_query.specs.Meaning.Queries.{Findings, aroundOf}
+use Rattle.point_search.specs.Meaning.Searches.{Findings}
+use Rattle.point_query.specs.Meaning.Queries.{aroundOf}
 use Rattle.records.specs.Meaning.Spread.{besides}
 use Rattle.records.specs.Meaning.Seen.{Seen, seen}
 use Rattle.records.specs.Inner.Alike.{Alike}

@@ -6,7 +6,7 @@ use Rattle.geometry.specs.declared.Position.{Position}
 use Rattle.point_records.specs.declared.Record.{Record}
 use Rattle.point_tables.specs.Meaning.Tables.{Tables}
 use Rattle.point_deferred.specs.Meaning.Calls.{Call as Deferred}
-use Rattle.point_query.specs.Meaning.Queries.{Findings}
+use Rattle.point_search.specs.Meaning.Searches.{Findings}
 use Rattle.record_query.specs.Meaning.Calls.{aroundOn}
 use Rattle.record_histories.specs.Inner.RecordHistory.{RecordCall, setPosition, remove, maintain, tableAfter, besidesAfter}
 

@@ -49,7 +49,7 @@ use Rattle.records.proofs.laws.SpreadLaws.{laid-length}
 use Rattle.record_query.specs.Inner.Calls.{aroundFor}
 use Rattle.point_tables.specs.Meaning.Tables.{tables as tabled}
 use Rattle.point_tables.specs.Meaning.Outcome.{outcome}
-use Rattle.point_query.specs.Meaning.Queries.{Findings, findings}
+use Rattle.point_search.specs.Meaning.Searches.{Findings, findings}
 use Rattle.records.proofs.AllRecords.{Spread, calls-spread-own}
 use Rattle.record_query.proofs.CoreCalls.{QueryAroundFor, calls-query-around-for}
 use Rattle.records.proofs.spread.Symbol as spread-def

@@ -5,7 +5,8 @@ use lib.Ieee.{Float}
 use Rattle.geometry.specs.declared.Position.{Position}
 use Rattle.replies.specs.Meaning.Replies.{count}
 use Rattle.point_tables.specs.Meaning.Tables.{Tables}
-use Rattle.point_query.specs.Meaning.Queries.{Findings, findings, aroundOf}
+use Rattle.point_search.specs.Meaning.Searches.{Findings, findings}
+use Rattle.point_query.specs.Meaning.Queries.{aroundOf}
 use Rattle.records.specs.Meaning.Seen.{sized}
 
 -- the outputs stay as they are where it is refused

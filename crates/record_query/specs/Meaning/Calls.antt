@@ -9,7 +9,8 @@ use Rattle.point_records.specs.declared.Record.{Record}
 use Rattle.point_tables.specs.Meaning.Tables.{Tables}
 use Rattle.point_tables.specs.Meaning.Lent.{before, after}
 use Rattle.point_tables.specs.Meaning.Outcome.{Outcome, outcome}
-use Rattle.point_query.specs.Meaning.Queries.{Findings, findings, aroundOf}
+use Rattle.point_search.specs.Meaning.Searches.{Findings, findings}
+use Rattle.point_query.specs.Meaning.Queries.{aroundOf}
 use Rattle.records.specs.Meaning.Seen.{readRecords}
 
 abbrev pub aroundOn : List Record → Tables → Position → Float → List (List ℕ) → List (List Float) → Outcome Findings

@@ -20,8 +20,9 @@ use Rattle.point_remove.specs.Meaning.RemoveMaintain.{removeMaintainOf}
 use Rattle.point_maintain.specs.Meaning.Maintain.{maintainOf}
 use Rattle.trace_sixteenths.specs.Meaning.Sixteenth.{sixteenth}
 use Rattle.trace_telling.specs.Meaning.Places.{placeOf}
-use Rattle.point_query.specs.declared.Test.{Test}
-use Rattle.point_query.specs.declared.Test.the-variants.{Any, Circle, Rectangle}
+use Rattle.point_search.specs.declared.Test.{Test}
+use Rattle.point_search.specs.declared.Test.the-variants.{Any, Circle, Rectangle}
+use Rattle.point_search.specs.Meaning.Searches as searches
 use Rattle.point_query.specs.Meaning.Queries as query
 use Rattle.trace_printing.specs.declared.Said.the-variants.{Refused, Done, One, Two, Points}
 use Rattle.trace_printing.specs.Inner.Said.{Told}
@@ -41,10 +42,10 @@ use Rattle.trace_points.specs.Meaning.Searches.{Searched, pointSearchSai
 abbrev pub IsTold : ℕ → Searched → Type 0
 IsTold boxes s = Told (s .tells) (length (s .handles)) (length (s .places)) boxes
 
-room-of : (t : Tables) (ok : Bool) (ll ur : Position) (test : Test) (room : ℕ) → query.searchAnswer t ok ll ur test room ≡ 0 → length (query.found t ll ur test) ≤ room
-unfolding query.searchAnswer
+room-of : (t : Tables) (ok : Bool) (ll ur : Position) (test : Test) (room : ℕ) → searches.searchAnswer t ok ll ur test room ≡ 0 → length (searches.found t ll ur test) ≤ room
+unfolding searches.searchAnswer
 room-of t ok ll ur test room h =
-    let n = length (query.found t ll ur test) in
+    let n = length (searches.found t ll ur test) in
     leb-true n room (had-room (holds t) ok (leb (cellsIn (cellAt (sizeOf t) ll) (cellAt (sizeOf t) ur)) mostCells) (leb n room) h)
 
 module _ (boxes : ℕ) (handles : List (List ℕ)) (places : List (List Float)) (few : length handles ≤ 256) where
@@ -56,16 +57,16 @@ module _ (boxes : ℕ) (handles : List (List ℕ)) (places : List (List Float)) 
       (omega arith, omega (arith, length-written (map f es) handles (omega (arith, length-map es f))), omega (arith, length-written (map g es) places (omega (arith, length-map es g))))
 
   module _ (t : Tables) (ok : Bool) (ll ur : Position) (test : Test) where
-    told-search : IsTold boxes (pointSearchSaid (query.searchOf t ok ll ur test handles places))
-    unfolding query.searchOf
+    told-search : IsTold boxes (pointSearchSaid (searches.searchOf t ok ll ur test handles places))
+    unfolding searches.searchOf
     told-search = go (eqb a 0) refl
       where
         a : ℕ
-        a = query.searchAnswer t ok ll ur test (query.room (query.outputs handles places))
+        a = searches.searchAnswer t ok ll ur test (searches.room (searches.outputs handles places))
 
-        go : (x : Bool) → eqb a 0 ≡ x → IsTold boxes (pointSearchSaid (pick x (query.reportOf (query.findingOn t) (query.found t ll ur test) (query.outputs handles places)) (query.findings (count a (pick (eqb a 9) (length (query.found t ll ur test)) 0)) handles places)))
-        go true h = told-found (query.found t ll ur test) (λ e. query.handleRow (query.findingOn t e)) (λ e. query.placeRow (query.findingOn t e)) (room-of t ok ll ur test (query.room (query.outputs handles places)) (eqb-true a 0 h))
-        go false h = subst (λ (x : Bool). Told (pick x (Points (pick (eqb a 9) (length (query.found t ll ur test)) 0)) (Refused a)) (length handles) (length places) boxes) (sym h) tt
+        go : (x : Bool) → eqb a 0 ≡ x → IsTold boxes (pointSearchSaid (pick x (searches.reportOf (searches.findingOn t) (searches.found t ll ur test) (searches.outputs handles places)) (searches.findings (count a (pick (eqb a 9) (length (searches.found t ll ur test)) 0)) handles places)))
+        go true h = told-found (searches.found t ll ur test) (λ e. searches.handleRow (searches.findingOn t e)) (λ e. searches.placeRow (searches.findingOn t e)) (room-of t ok ll ur test (searches.room (searches.outputs handles places)) (eqb-true a 0 h))
+        go false h = subst (λ (x : Bool). Told (pick x (Points (pick (eqb a 9) (length (searches.found t ll ur test)) 0)) (Refused a)) (length handles) (length places) boxes) (sym h) tt
 
   pub told : (t : Tables) (s : PointSearch) (p q : Spot) (far : ℤ) → IsTold boxes (pointSearchOf t s p q far handles places)
   unfolding findingsOf query.aroundOf query.aabbOf query.queryOf

@@ -3,7 +3,8 @@ use Rattle.basics.specs.Words.{ℕ, List, ℤ}
 use lib.Ieee.{Float}
 use Rattle.geometry.specs.declared.Position.{Position}
 use Rattle.point_tables.specs.Meaning.Tables.{Tables}
-use Rattle.point_query.specs.Meaning.Queries.{Findings, queryOf, aroundOf, aabbOf}
+use Rattle.point_search.specs.Meaning.Searches.{Findings}
+use Rattle.point_query.specs.Meaning.Queries.{queryOf, aroundOf, aabbOf}
 use Rattle.trace_printing.specs.declared.Said.{Said}
 use Rattle.trace_sixteenths.specs.Meaning.Sixteenth.{sixteenth}
 use Rattle.trace_lines.specs.declared.Spot.{Spot}

@@ -26,13 +26,13 @@ use Rattle.point_tables.specs.Meaning.Holds.{Holds}
 use Rattle.point_tables.specs.Meaning.Decide.{holds}
 use Rattle.point_deferred.specs.Meaning.Calls.{Call}
 use Rattle.point_deferred.proofs.laws.MovesLaws.{Named, named}
-use Rattle.point_query.specs.declared.Test.{Test}
-use Rattle.point_query.specs.declared.Test.the-variants.{Circle}
-use Rattle.point_query.specs.Meaning.Queries.{positionOf, found, findingOn, handleRow, placeRow, outputs, room, Findings, reportOf, searchAnswer, searchOf}
+use Rattle.point_search.specs.declared.Test.{Test}
+use Rattle.point_search.specs.declared.Test.the-variants.{Circle}
+use Rattle.point_search.specs.Meaning.Searches.{positionOf, found, findingOn, handleRow, placeRow, outputs, room, Findings, reportOf, searchAnswer, searchOf}
 use Rattle.point_query.specs.Meaning.Queries.{aroundOf}
-use Rattle.point_query.proofs.laws.FoundLaws.{Standing}
-use Rattle.point_query.proofs.laws.OnceLaws.{Once, standing-good, found-once, found-standing, finds}
-use Rattle.point_query.proofs.laws.ScanLaws.{circle-scan}
+use Rattle.point_search.proofs.laws.FoundLaws.{Standing}
+use Rattle.point_search.proofs.laws.OnceLaws.{Once, standing-good, found-once, found-standing, finds}
+use Rattle.point_search.proofs.laws.ScanLaws.{circle-scan}
 use Rattle.whereabouts.proofs.laws.StandsLaws.{Settled, next-holds, stands, stands-at}
 use Rattle.whereabouts.specs.Meaning.Stands.{nextMaintain}
 use Rattle.whereabouts.specs.Meaning.Report.{ReportedAt, Reports, Due}

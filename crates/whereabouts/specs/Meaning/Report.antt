@@ -8,7 +8,7 @@ use Rattle.slots.specs.declared.Handle.{Handle}
 use Rattle.slots.specs.Meaning.Slot.{good}
 use Rattle.point_tables.specs.Meaning.Tables.{Tables, recordOn}
 use Rattle.point_deferred.specs.Meaning.Calls.{Call, replies}
-use Rattle.point_query.specs.Meaning.Queries.{Findings}
+use Rattle.point_search.specs.Meaning.Searches.{Findings}
 use Rattle.whereabouts.specs.Meaning.Whereabouts.{removedBy, lastAt}
 
 -- place j of the outputs is one of those that were filled, and has the handle g and the position p
