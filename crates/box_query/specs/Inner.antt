@@ -1,6 +1,2 @@
 -- What only inner contracts cite.
-pub mod Collected
-pub mod Gather
 pub mod Look
-pub mod Marks
-pub mod Put

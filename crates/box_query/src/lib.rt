@@ -5,19 +5,14 @@ ghost use Rattle.basics.specs.Meaning.Lent.{was, is};
 ghost use Rattle.box_tables.specs.Meaning.Lent.{before};
 ghost use Rattle.box_query.specs.Meaning.Queries.{handlesOf, broadOf, findings, queryOf};
 ghost use Rattle.box_query.specs.Inner.Look.{Looked};
-
-mod gather;
-mod keep;
-mod put;
-
+use box_search::gather;
+use box_search::keep;
+use box_search::put_findings;
+use box_search::put_handles;
 use box_tables::span_of;
 use cells::key_of;
-use gather::gather;
 use geometry::Aabb;
 use geometry::aabb_in_domain;
-use keep::keep;
-use put::put_findings;
-use put::put_handles;
 use replies::Count;
 use slots::Row;
 

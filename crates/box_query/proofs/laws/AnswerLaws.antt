@@ -9,7 +9,8 @@ use Rattle.storage.specs.Meaning.Keyed.{written}
 use Rattle.box_tables.specs.Meaning.Tables.{Tables, sizeOf, covers, objOn}
 use Rattle.box_tables.specs.Meaning.Decide.{holds}
 use Rattle.replies.specs.declared.Count.{Count}
-use Rattle.box_query.specs.Meaning.Queries.{broad, narrow, boxRow, lookAnswer, Handles, handlesOf, broadOf, Findings, findings, roomOf, queryOf}
+use Rattle.box_search.specs.Meaning.Search.{broad, narrow, boxRow}
+use Rattle.box_query.specs.Meaning.Queries.{lookAnswer, Handles, handlesOf, broadOf, Findings, findings, roomOf, queryOf}
 use Rattle.box_query.specs.Inner.Look.{earlyOf}
 use Rattle.replies.specs.Meaning.Replies.{count}
 use Rattle.slot_walks.specs.Meaning.Live.{handleAt}

@@ -9,11 +9,12 @@ use Rattle.storage.proofs.laws.FilterLaws.{all-at}
 use Rattle.box_tables.specs.Meaning.Tables.{Tables, slotsOf, aabbOn, objOn}
 use Rattle.box_tables.specs.Meaning.Decide.{holds-says}
 use Rattle.replies.specs.declared.Count.{Count}
-use Rattle.box_query.specs.Meaning.Queries.{broad, narrow, boxRow, handlesOf, broadOf, findings, roomOf, queryOf}
-use Rattle.box_query.specs.Inner.Put.{Found}
+use Rattle.box_search.specs.Meaning.Search.{broad, narrow, boxRow}
+use Rattle.box_query.specs.Meaning.Queries.{handlesOf, broadOf, findings, roomOf, queryOf}
+use Rattle.box_search.specs.Inner.Put.{Found}
 use Rattle.box_query.specs.Inner.Look.{earlyOf, Looked}
 use Rattle.box_query.proofs.laws.AnswerLaws.{early-passed, broad-early, broad-9, broad-0, query-early, query-9, query-0}
-use Rattle.box_query.proofs.laws.BroadLaws.{query-filter, broad-all, narrow-all}
+use Rattle.box_search.proofs.laws.BroadLaws.{query-filter, broad-all, narrow-all}
 use Rattle.replies.specs.Meaning.Replies.{count}
 use Rattle.slot_walks.specs.Meaning.Live.{handleAt}
 

@@ -11,12 +11,13 @@ use Rattle.slots.specs.Meaning.Slot.{live, phaseAt}
 use Rattle.box_tables.specs.Meaning.Tables.{Tables, sizeOf, slotsOf, aabbOn, covers}
 use Rattle.box_tables.specs.Meaning.Holds.{Holds}
 use Rattle.box_tables.specs.Meaning.Decide.{holds}
-use Rattle.box_query.specs.Meaning.Queries.{broad, narrow, handlesOf, broadOf, findings, queryOf}
-use Rattle.box_query.proofs.laws.Shared.{ranged}
+use Rattle.box_search.specs.Meaning.Search.{broad, narrow}
+use Rattle.box_query.specs.Meaning.Queries.{handlesOf, broadOf, findings, queryOf}
+use Rattle.box_search.proofs.laws.Shared.{ranged}
 use Rattle.box_query.specs.Inner.Look.{earlyOf}
 use Rattle.box_query.proofs.laws.AnswerLaws.{early-7, early-0, broad-early, query-early}
-use Rattle.box_query.proofs.laws.BroadLaws.{broad-met, query-exactly}
-use Rattle.box_query.proofs.laws.SharedLaws.{broad-ranged, ranged-broad}
+use Rattle.box_search.proofs.laws.BroadLaws.{broad-met, query-exactly}
+use Rattle.box_search.proofs.laws.SharedLaws.{broad-ranged, ranged-broad}
 use Rattle.box_query.proofs.laws.Cases.{stored, asked, square, wider}
 use Rattle.replies.specs.Meaning.Replies.{count}
 

@@ -7,7 +7,7 @@ use Rattle.geometry.specs.Meaning.Intersects.{overlaps, intersects}
 use Rattle.cells.specs.Meaning.CellRule.{cellOf}
 use Rattle.cells.specs.Meaning.Range.{cellsIn}
 use Rattle.box_tables.specs.Meaning.Tables.{covers}
-use Rattle.box_query.proofs.laws.Shared.{ranged}
+use Rattle.box_search.proofs.laws.Shared.{ranged}
 
 -- lower left and upper right
 abbrev pub box : ℕ → ℕ → ℕ → ℕ → Aabb

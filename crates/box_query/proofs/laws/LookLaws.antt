@@ -7,11 +7,11 @@ use Rattle.cells.specs.Meaning.Key.{keyOf}
 use Rattle.box_tables.specs.Meaning.Tables.{Tables, sizeOf, usedOf, lowCell, highCell, covers, slotOf}
 use Rattle.box_tables.specs.Meaning.Decide.{holds, holds-says}
 use Rattle.replies.specs.declared.Count.{Count}
-use Rattle.box_query.specs.Meaning.Firsts.{firsts}
-use Rattle.box_query.specs.Inner.Gather.{inside}
+use Rattle.box_search.specs.Meaning.Firsts.{firsts}
+use Rattle.box_search.specs.Inner.Gather.{inside}
 use Rattle.box_query.specs.Inner.Look.{earlyOf, Looked}
 use Rattle.box_query.proofs.laws.AnswerLaws.{early-3, early-6, early-7, early-0}
-use Rattle.box_query.proofs.laws.WalkLaws.{gathered-broad}
+use Rattle.box_search.proofs.laws.WalkLaws.{gathered-broad}
 use Rattle.replies.specs.Meaning.Replies.{count}
 
 module _ (t : Tables) (q : Aabb) (found : List ℕ) (size : length found ≡ 256) where

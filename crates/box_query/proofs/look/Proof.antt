@@ -9,7 +9,7 @@ use Rattle.box_tables.specs.Meaning.Tables.{Tables, tables, sizeOf, covers}
 use Rattle.box_tables.specs.Meaning.Holds.{Holds}
 use Rattle.box_tables.specs.Meaning.Decide.{holds, holds-says}
 use Rattle.box_tables.proofs.laws.HoldsLaws.{entries-sorted}
-use Rattle.box_query.proofs.laws.WalkLaws.{slots-few}
+use Rattle.box_search.proofs.laws.WalkLaws.{slots-few}
 use Rattle.box_query.proofs.laws.LookLaws.{looked-3, looked-6, looked-7, looked-0}
 use Rattle.box_query.proofs.look.Statement.{statement}
 use Rattle.box_query.proofs.look.Tie as tie

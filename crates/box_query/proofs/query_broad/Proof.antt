@@ -1,7 +1,7 @@
 -- `box_query::query_broad` meets its contract. Assumes nothing.
 use Rattle.basics.specs.Words.{sym, subst, length, needs}
 use Rattle.box_tables.specs.Meaning.Tables.{Tables, tables}
-use Rattle.box_query.specs.Inner.Put.{Found}
+use Rattle.box_search.specs.Inner.Put.{Found}
 use Rattle.box_query.proofs.laws.CallLaws.{broad-refused, looked-found, broad-short, broad-done}
 use Rattle.box_query.proofs.query_broad.Statement.{statement}
 use Rattle.box_query.proofs.query_broad.Tie as tie

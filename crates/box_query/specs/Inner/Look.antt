@@ -4,7 +4,8 @@ use Rattle.basics.specs.Meaning.Limits.{mostBoxes}
 use Rattle.geometry.specs.declared.Aabb.{Aabb}
 use Rattle.box_tables.specs.Meaning.Tables.{Tables}
 use Rattle.replies.specs.declared.Count.{Count}
-use Rattle.box_query.specs.Meaning.Queries.{lookAnswer, broad}
+use Rattle.box_search.specs.Meaning.Search.{broad}
+use Rattle.box_query.specs.Meaning.Queries.{lookAnswer}
 
 -- nothing needs no room: the answers 3, 6 and 7
 abbrev pub earlyOf : Tables → Aabb → ℕ

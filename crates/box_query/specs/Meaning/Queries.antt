@@ -6,35 +6,13 @@ use Rattle.basics.specs.Meaning.Limits.{mostCells}
 use Rattle.basics.specs.Meaning.Refusals.{Refusal, unless, firstOf, pick, byTests}
 use Rattle.geometry.specs.declared.Aabb.{Aabb}
 use Rattle.geometry.specs.Meaning.Domain.{aabbInDomain}
-use Rattle.geometry.specs.Meaning.Intersects.{intersects}
-use Rattle.storage.specs.Meaning.Keyed.{filter, written}
-use Rattle.storage.specs.Meaning.Entries.{rowKey}
-use Rattle.storage.specs.Meaning.Walk.{walked}
-use Rattle.box_tables.specs.Meaning.Tables.{Tables, sizeOf, entriesIn, aabbAt, aabbOn, objOn, lowCell, highCell, covers, slotOf, cornersOf}
+use Rattle.storage.specs.Meaning.Keyed.{written}
+use Rattle.box_tables.specs.Meaning.Tables.{Tables, sizeOf, objOn, covers}
 use Rattle.box_tables.specs.Meaning.Decide.{holds}
 use Rattle.replies.specs.declared.Count.{Count}
-use Rattle.box_query.specs.Meaning.Firsts.{firsts}
+use Rattle.box_search.specs.Meaning.Search.{broad, narrow, boxRow}
 use Rattle.replies.specs.Meaning.Replies.{count}
 use Rattle.slot_walks.specs.Meaning.Live.{handleAt}
-
--- ---- what is found
--- the entries of the cells of the query box, in range order and then in list order
-unfoldable pub rangeEntries : Tables → Aabb → List (List ℕ)
-rangeEntries t q = walked rowKey (lowCell (sizeOf t) q) (highCell (sizeOf t) q) (entriesIn t)
-
--- their slots, each once, at its first place in the walk
-unfoldable pub broad : Tables → Aabb → List ℕ
-unfolding rangeEntries
-broad t q = firsts (map slotOf (rangeEntries t q))
-
--- those whose box the query box intersects, in binary32
-unfoldable pub narrow : Tables → Aabb → List ℕ
-unfolding broad
-narrow t q = filter (λ s. intersects q (aabbOn t s)) (broad t q)
-
--- ---- a finding in the outputs: a row (slot, version), a row of the four numbers of the box, and the data
-abbrev pub boxRow : List (List Float) → ℕ → List Float
-boxRow reals s = cornersOf (aabbAt reals s)
 
 -- ---- the tests, where `number` are found and the outputs have `room`
 abbrev pub lookTests : Tables → Aabb → ℕ → ℕ → List Refusal

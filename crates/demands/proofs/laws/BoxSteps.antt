@@ -14,7 +14,8 @@ use Rattle.box_get.specs.Meaning.Reads.{got, listing, getOf, lenOf, handlesOf}
 use Rattle.geometry.specs.Meaning.Zero.{zero-aabb}
 use Rattle.box_clear.specs.Meaning.Clear.{wrote, clearOf}
 use Rattle.box_query.specs.Meaning.Queries
-use Rattle.box_query.specs.Meaning.Queries.{findings, broad, narrow, broadOf, queryOf}
+use Rattle.box_search.specs.Meaning.Search.{broad, narrow}
+use Rattle.box_query.specs.Meaning.Queries.{findings, broadOf, queryOf}
 use Rattle.demands.proofs.laws.Tested.{Tested, tested, no-nine, at-nine}
 use Rattle.demands.specs.Meaning.Left.{outputs, none}
 use Rattle.demands.specs.Meaning.BoxCalls.{BoxCall, new, insert, setAabb, remove, clear, get, len, handles, queryBroad, query}

@@ -18,7 +18,8 @@ use Rattle.box_get.specs.Meaning.Live.{liveSlots}
 use Rattle.box_get.specs.Meaning.Reads.{Listing, getTests, getOf, lenTests, lenOf, handlesTests, handlesOf}
 use Rattle.geometry.specs.Meaning.Zero.{zero-aabb}
 use Rattle.box_clear.specs.Meaning.Clear.{Written, clearTests, clearOf}
-use Rattle.box_query.specs.Meaning.Queries.{Handles, Findings, broad, narrow, broadTests, broadOf, queryTests, queryOf}
+use Rattle.box_search.specs.Meaning.Search.{broad, narrow}
+use Rattle.box_query.specs.Meaning.Queries.{Handles, Findings, broadTests, broadOf, queryTests, queryOf}
 use Rattle.basics.specs.Meaning.Refusals.{Refusal}
 use Rattle.demands.specs.Meaning.Left.{Outputs, outputs, none, zeros, theCount, theHandle, theData, theObject, Left, left, refused}
 

@@ -14,6 +14,7 @@ use Rattle.box_insert.specs.Meaning.Insert.{insertOf}
 use Rattle.box_set.specs.Meaning.SetAabb.{setAabbOf}
 use Rattle.box_remove.specs.Meaning.Remove.{removeOf}
 use Rattle.trace_telling.specs.Meaning.Places.{boxOf}
+use Rattle.box_search.specs.Meaning.Search as search
 use Rattle.box_query.specs.Meaning.Queries as query
 use Rattle.trace_printing.specs.declared.Said.the-variants.{Refused, Done, One, Two, Boxes}
 use Rattle.trace_printing.specs.Inner.Said.{Told}
@@ -50,13 +51,13 @@ module _ (places : ℕ) (handles : List (List ℕ)) (corners : List (List Float)
   told-query t q = go (eqb a 0) refl
     where
       ss : List ℕ
-      ss = query.narrow t q
+      ss = search.narrow t q
 
       a : ℕ
       a = query.lookAnswer t q (length ss) (query.roomOf handles corners objs)
 
-      go : (x : Bool) → eqb a 0 ≡ x → IsTold places (boxSearchSaid (pick x (query.findings (count 0 (length ss)) (written (map (handleAt (t .nums)) ss) handles) (written (map (query.boxRow (t .reals)) ss) corners) (written (map (objOn t) ss) objs)) (query.findings (count a (pick (eqb a 9) (length ss) 0)) handles corners objs)))
-      go true h = told-found ss (handleAt (t .nums)) (query.boxRow (t .reals)) (room-of t q (length ss) (query.roomOf handles corners objs) (eqb-true a 0 h))
+      go : (x : Bool) → eqb a 0 ≡ x → IsTold places (boxSearchSaid (pick x (query.findings (count 0 (length ss)) (written (map (handleAt (t .nums)) ss) handles) (written (map (search.boxRow (t .reals)) ss) corners) (written (map (objOn t) ss) objs)) (query.findings (count a (pick (eqb a 9) (length ss) 0)) handles corners objs)))
+      go true h = told-found ss (handleAt (t .nums)) (search.boxRow (t .reals)) (room-of t q (length ss) (query.roomOf handles corners objs) (eqb-true a 0 h))
       go false h = subst (λ (x : Bool). Told (pick x (Boxes (pick (eqb a 9) (length ss) 0)) (Refused a)) (length handles) places (length corners)) (sym h) tt
 
   pub told : (t : Tables) (p q : Spot) → IsTold places (boxSearchOf t p q handles corners objs)
