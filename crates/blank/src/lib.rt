@@ -1,15 +1,15 @@
 // Slots that are all free: what building a grid starts from, whatever the tables held.
-ghost use Rattle.basics.specs.Words.{_+_, _≤_, _≡_, [], _∷_, _++_, length, take, drop};
+ghost use Rattle.basics.specs.Words.{_+_, _≤_, _≡_, _∷_, _++_, length, take, drop};
 ghost use Rattle.basics.specs.Meaning.Limits.{mostSlots};
 ghost use Rattle.basics.specs.Meaning.Lent.{was, is};
-ghost use Rattle.basics.specs.Meaning.Refusals.{unless, firstOf};
+ghost use Rattle.basics.specs.Meaning.Refusals.{firstOf};
 ghost use Rattle.slots.specs.Meaning.Map.{wordsFor};
-ghost use Rattle.blank.specs.Meaning.Blank.{freeWord, freeWords, blankNums, blankMap, sizeOk};
+ghost use Rattle.blank.specs.Meaning.Blank.{freeWord, freeWords, blankNums, blankMap, buildTests};
 use slots::Row;
 
 // The answer of building: 3 where the tables have not the lengths of a grid, 2 for a size of cells outside its limits, else 0.
 pub fn answer(sized: bool, size: u32) -> u32
-    ensures { λ r. ⌜ r ≡ firstOf (unless sized 3 ∷ unless (sizeOk size) 2 ∷ []) ⌝ }
+    ensures { λ r. ⌜ r ≡ firstOf (buildTests sized size) ⌝ }
 {
     if !sized {
         return 3;

@@ -1,2 +1,3 @@
 -- What the queries find.
 pub mod Meaning
+pub mod Inner

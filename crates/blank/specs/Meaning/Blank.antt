@@ -1,6 +1,6 @@
 -- Slots that are all free: every row at version 1, every bit of the map set and none past the last slot. Assumes nothing.
 use Rattle.basics.specs.Words.{ℕ, zero, suc, _-_, _^_, Bool, _&&_, List, [], _∷_, replicate, leb}
-use Rattle.basics.specs.Meaning.Refusals.{pick}
+use Rattle.basics.specs.Meaning.Refusals.{Refusal, unless, pick}
 use Rattle.slots.specs.Meaning.Map.{wordsFor}
 use Rattle.slots.specs.Meaning.Slot.{free}
 
@@ -24,3 +24,7 @@ blankMap n size = size ∷ 0 ∷ 0 ∷ freeWords (wordsFor n) n
 -- whether a cell size is in its limits
 abbrev pub sizeOk : ℕ → Bool
 sizeOk size = leb 1 size && leb size 1048576
+
+-- the tests of building, for tables that have the lengths of a grid or not
+abbrev pub buildTests : Bool → ℕ → List Refusal
+buildTests sized size = unless sized 3 ∷ unless (sizeOk size) 2 ∷ []

@@ -1,7 +1,7 @@
 -- Building: every slot is free at version 1, no list has an entry. It looks at lengths only for 3. Assumes nothing.
-use Rattle.basics.specs.Words.{ℕ, List, [], _∷_}
-use Rattle.basics.specs.Meaning.Refusals.{Refusal, unless, firstOf, byTests}
-use Rattle.blank.specs.Meaning.Blank.{blankNums, blankMap, sizeOk}
+use Rattle.basics.specs.Words.{ℕ, List}
+use Rattle.basics.specs.Meaning.Refusals.{Refusal, firstOf, byTests}
+use Rattle.blank.specs.Meaning.Blank.{blankNums, blankMap, buildTests}
 use Rattle.point_tables.specs.Meaning.Tables.{Tables, tables, slotsOf}
 use Rattle.point_tables.specs.Meaning.Decide.{sized}
 use Rattle.point_tables.specs.Meaning.Outcome.{Outcome, outcome}
@@ -10,7 +10,7 @@ unfoldable pub built : Tables → ℕ → Tables
 built t size = tables (blankNums (slotsOf t)) (t .reals) (t .ints) (blankMap (slotsOf t) size) (t .pool) (t .spots) (t .cells)
 
 abbrev pub newTests : Tables → ℕ → List Refusal
-newTests t size = unless (sized t) 3 ∷ unless (sizeOk size) 2 ∷ []
+newTests t size = buildTests (sized t) size
 
 unfoldable pub newAnswer : Tables → ℕ → ℕ
 newAnswer t size = firstOf (newTests t size)

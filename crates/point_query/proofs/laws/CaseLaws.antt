@@ -13,7 +13,7 @@ use Rattle.point_tables.specs.Meaning.Decide.{holds}
 use Rattle.point_search.specs.declared.Test.the-variants.{Any}
 use Rattle.point_search.specs.Meaning.Searches.{found, outputs, room, Findings, findings, searchOf}
 use Rattle.point_query.specs.Meaning.Queries.{queryOf}
-use Rattle.point_search.specs.Inner.Cases.{origin, square, wider}
+use Rattle.point_query.specs.Inner.Cases.{origin, square, wider}
 use Rattle.point_search.proofs.laws.FindLaws.{search-7, search-9, search-0}
 use Rattle.point_query.proofs.laws.CornerLaws.{query-is}
 use Rattle.replies.specs.Meaning.Replies.{count}

@@ -1,0 +1,2 @@
+-- What only further theorems cite.
+pub mod Cases
