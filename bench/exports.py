@@ -2,6 +2,7 @@
 # NAME is the public call; NAME_bare is the same call over crates whose check is `true`, written to FOLDER/bare: it cannot be proved, and is only compiled.
 import os
 import re
+import shutil
 import sys
 
 POINTS = {'nums': '[[u32; 4]]', 'reals': '[[f32; 4]]', 'ints': '[[i32; 4]]', 'map': '[u64]', 'pool': '[[u64; 2]]', 'spots': '[[f32; 2]]', 'cells': '[[u64; 2]]'}
@@ -62,7 +63,7 @@ def unchecked(folder, crate):
     with open(f'crates/{crate}/src/lib.rt') as f:
         text, n = re.subn(r'(\npub fn check\(.*?\n\{\n).*?\n\}\n', r'\1    true\n}\n', f.read(), flags=re.S)
     assert n == 1, crate
-    os.makedirs(f'{folder}/bare/{crate}', exist_ok=True)
+    shutil.copytree(f'crates/{crate}/src', f'{folder}/bare/{crate}', dirs_exist_ok=True)
     with open(f'{folder}/bare/{crate}/lib.rt', 'w') as f:
         f.write(text)
 
