@@ -1,9 +1,9 @@
 -- `box_insert::building::new` meets its contract. Assumes nothing.
-use Rattle.basics.specs.Words.{_≡_, sym, ap, _∙_, [], _∷_, arith, needs}
-use Rattle.basics.specs.Meaning.Refusals.{unless, firstOf}
+use Rattle.basics.specs.Words.{_≡_, sym, ap, _∙_, arith, needs}
+use Rattle.basics.specs.Meaning.Refusals.{firstOf}
 use Rattle.basics.specs.Meaning.Outcome.{outcome}
 use Rattle.basics.proofs.laws.Says.{says-same}
-use Rattle.blank.specs.Meaning.Blank.{sizeOk}
+use Rattle.blank.specs.Meaning.Blank.{sizeOk, buildTests}
 use Rattle.blank.proofs.laws.BuildLaws.{build-sized, build-refused, build-done}
 use Rattle.box_tables.specs.Meaning.Tables.{Tables, tables}
 use Rattle.box_tables.specs.Meaning.Decide.{sized, sized-says}
@@ -24,7 +24,7 @@ module _ (a : tie.After-answer) where
   unfolding newAnswer
   answered =
       a .answer .ensures
-      ∙ ap (λ q. firstOf (unless q 3 ∷ unless (sizeOk (start .args .size)) 2 ∷ [])) (says-same _ _ (a .before .lengths-ok .ensures) (sized-says (at-entry start)))
+      ∙ ap (λ q. firstOf (buildTests q (start .args .size))) (says-same _ _ (a .before .lengths-ok .ensures) (sized-says (at-entry start)))
 
 returns : tie.Need-returns
 unfolding newOf newAnswer built
