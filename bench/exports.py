@@ -10,7 +10,7 @@ BOXES = {name: POINTS[name] for name in ('nums', 'reals', 'map', 'pool')}
 HANDLE = 'slot: u32, version: u32'
 AT = 'x: f32, y: f32'
 BOX = 'left: f32, low: f32, right: f32, high: f32'
-FOUND = 'found: &mut [[u32; 2]], places: &mut [[f32; 2]]'
+FOUND = 'found: &mut [[u32; 2]], places: &mut [[f32; 2]], objs: &mut [u32]'
 LISTS = 'kinds: &[u32], handles: &[[u32; 2]], positions: &[[f32; 2]], out: &mut [[u32; 2]]'
 BOXES_FOUND = 'found: &mut [[u32; 2]], boxes: &mut [[f32; 4]], objs: &mut [u32]'
 # How several parameters become one argument.

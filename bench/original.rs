@@ -70,7 +70,7 @@ fn batch(grid: &mut Points, handles: &[GridHandle], to: &[Spot]) -> usize {
     0
 }
 
-/// The findings are written to a list, as the port writes them to its outputs.
+/// The findings are written to a list, as the port writes them to its outputs; the data, which the port writes too, this query does not give.
 #[inline(never)]
 fn around(grid: &Points, centre: Spot, radius: f32, found: &mut Vec<(GridHandle, Spot)>) -> usize {
     found.clear();

@@ -24,7 +24,7 @@ static uint32_t picked[PICKS];
 static Slice nums, reals, ints, map, pool, spots, cells, kinds_, handles_, found_, places_, objs_, found_boxes_;
 #define POINTS &nums, &reals, &ints, &map, &pool, &spots, &cells
 #define BOXES &nums, &reals, &map, &pool
-#define QUERY &found_, &places_
+#define QUERY &found_, &places_, &objs_
 
 /* One region, over `times` calls; `k` counts them. Their results are added up. */
 #define COUNT(label, times, call)                               \
@@ -79,7 +79,8 @@ static uint32_t around_bare(Spot c, float r) { return points_query_around_bare(P
 static void proved_frame(Slice to) {
   COUNT("batch proved", 1, chavrupas_points_batch(ALL_POINTS, LENT(kinds_), LENT(handles_), LENT(to), LENT(found_)).answer);
   COUNT("maintain proved", 1, chavrupas_points_maintain(ALL_POINTS).moved);
-  UNDONE("circles proved", PICKS, chavrupas_points_query_around(ALL_POINTS, centres[k][0], centres[k][1], 60, LENT(found_), LENT(places_)).count);
+  UNDONE("circles proved", PICKS,
+         chavrupas_points_query_around(ALL_POINTS, centres[k][0], centres[k][1], 60, LENT(found_), LENT(places_), LENT(objs_)).count);
 }
 static void proved_boxes(void) {
   UNDONE("set_aabb other proved", PICKS, chavrupas_boxes_set_aabb(ALL_BOXES, picked[k], 1, other[k][0], other[k][1], other[k][2], other[k][3]));

@@ -42,11 +42,14 @@ static void circle(float x, float y, float radius)
 {
     chavrupas_handle found[SLOTS];
     chavrupas_position places[SLOTS];
-    chavrupas_count r = chavrupas_points_query_around(CHAVRUPAS_POINTS(desk), x, y, radius, CHAVRUPAS_ALL(found), CHAVRUPAS_ALL(places));
+    uint32_t objs[SLOTS];
+    chavrupas_count r = chavrupas_points_query_around(CHAVRUPAS_POINTS(desk), x, y, radius, CHAVRUPAS_ALL(found), CHAVRUPAS_ALL(places),
+        CHAVRUPAS_ALL(objs));
     done(r.answer, "query_around");
     printf("within %g of (%g, %g): %u\n", radius, x, y, (unsigned)r.count);
     for (uint32_t i = 0; i < r.count; i++)
-        printf("  slot %u version %u at (%g, %g)\n", (unsigned)found[i].slot, (unsigned)found[i].version, places[i].x, places[i].y);
+        printf("  slot %u version %u at (%g, %g) data %u\n", (unsigned)found[i].slot, (unsigned)found[i].version, places[i].x, places[i].y,
+            (unsigned)objs[i]);
 }
 
 int main(void)

@@ -203,30 +203,34 @@ chavrupas_count chavrupas_points_handles(
     const chavrupas_position *spots, size_t spots_n, const chavrupas_cell_row *cells, size_t cells_n,
     chavrupas_handle *out, size_t out_n);
 
-/* Every object of the cells from that of (left, low) to that of (right, high): handles, and recorded positions beside them. Reversed corners find
-   nothing.
+/* Every object of the cells from that of (left, low) to that of (right, high): handles, and beside them recorded positions and data. The shortest of
+   the three outputs counts. Reversed corners find nothing.
    Answers 3, 6, 7, 9 with the number found. */
 chavrupas_count chavrupas_points_query(
     const chavrupas_point_nums *nums, size_t nums_n, const chavrupas_point_reals *reals, size_t reals_n,
     const chavrupas_point_ints *ints, size_t ints_n, const uint64_t *map, size_t map_n, const chavrupas_pool_row *pool, size_t pool_n,
     const chavrupas_position *spots, size_t spots_n, const chavrupas_cell_row *cells, size_t cells_n,
-    float left, float low, float right, float high, chavrupas_handle *found, size_t found_n, chavrupas_position *places, size_t places_n);
+    float left, float low, float right, float high, chavrupas_handle *found, size_t found_n, chavrupas_position *places, size_t places_n,
+    uint32_t *objs, size_t objs_n);
 
-/* The objects strictly nearer to (x, y) than `radius`, which is from 0 to 1,048,576; the test is in float, each operation rounded once.
+/* The objects strictly nearer to (x, y) than `radius`, which is from 0 to 1,048,576; the test is in float, each operation rounded once. Writes handles,
+   recorded positions and data, as `query` does.
    Answers 3, 6, 7, 9 with the number found. */
 chavrupas_count chavrupas_points_query_around(
     const chavrupas_point_nums *nums, size_t nums_n, const chavrupas_point_reals *reals, size_t reals_n,
     const chavrupas_point_ints *ints, size_t ints_n, const uint64_t *map, size_t map_n, const chavrupas_pool_row *pool, size_t pool_n,
     const chavrupas_position *spots, size_t spots_n, const chavrupas_cell_row *cells, size_t cells_n,
-    float x, float y, float radius, chavrupas_handle *found, size_t found_n, chavrupas_position *places, size_t places_n);
+    float x, float y, float radius, chavrupas_handle *found, size_t found_n, chavrupas_position *places, size_t places_n,
+    uint32_t *objs, size_t objs_n);
 
-/* The objects of a rectangle, edges included; its corners may come in any order.
+/* The objects of a rectangle, edges included; its corners may come in any order. Writes handles, recorded positions and data, as `query` does.
    Answers 3, 6, 7, 9 with the number found. */
 chavrupas_count chavrupas_points_query_aabb(
     const chavrupas_point_nums *nums, size_t nums_n, const chavrupas_point_reals *reals, size_t reals_n,
     const chavrupas_point_ints *ints, size_t ints_n, const uint64_t *map, size_t map_n, const chavrupas_pool_row *pool, size_t pool_n,
     const chavrupas_position *spots, size_t spots_n, const chavrupas_cell_row *cells, size_t cells_n,
-    float left, float low, float right, float high, chavrupas_handle *found, size_t found_n, chavrupas_position *places, size_t places_n);
+    float left, float low, float right, float high, chavrupas_handle *found, size_t found_n, chavrupas_position *places, size_t places_n,
+    uint32_t *objs, size_t objs_n);
 
 /* ---- boxes: n slots and p entries, so n rows each of nums and reals, CHAVRUPAS_MAP_WORDS(n) words of map, and p rows of pool. An output of n
    places is always long enough. A box is left, low, right, high. */

@@ -59,6 +59,7 @@ ELEM = {
     'f4': ('F4', 'List Float', 'ArrayOf (plain (λ _. f32)) (λ _. tt) 4'),
     'z4': ('Z4', 'List ℤ', 'ArrayOf (plain (λ _. i32)) (λ _. tt) 4'),
     'u64': ('u64', 'ℕ', 'plain (λ _. u64)'),
+    'u32': ('u32', 'ℕ', 'plain (λ _. u32)'),
     'n2': ('N2', 'List ℕ', 'ArrayOf (plain (λ _. u64)) (λ _. tt) 2'),
     'f2': ('F2', 'List Float', 'ArrayOf (plain (λ _. f32)) (λ _. tt) 2'),
     'u2': ('U2', 'List ℕ', 'ArrayOf (plain (λ _. u32)) (λ _. tt) 2'),
@@ -267,7 +268,7 @@ use denote.Triple.Walked.{says}
 use Rattle.replies.specs.Meaning.Replies.{reply}
 use Rattle.point_tables.specs.Meaning.Tables.{tables}
 use Rattle.point_tables.specs.Meaning.Outcome.{outcome}
-use Rattle.point_search.specs.Meaning.Searches.{findings}
+use Rattle.point_search.specs.Meaning.Searches.{findings, outputs}
 use Rattle.records.specs.Meaning.Seen.{seen}
 '''
 CALLEES = {}
@@ -288,11 +289,11 @@ TAB = ('n4', 'f4', 'z4', 'u64', 'n2', 'f2', 'n2')
 def core(crate, name, modes, values, result, spec, outputs=(), said='{r}'):
     """the call of the core on columns of n rows. outputs: elements of the slices that it fills, after the values. said: what its result is, of r"""
     nv = len(values); ns = 7 + len(outputs)
-    sv = ''.join(f' v{SUB(k + 1)}' for k in range(nv)) + ''.join(f' y{SUB(7 + j)}' for j in range(len(outputs)))
+    out = range(7, 7 + len(outputs)); sv = ''.join(f' v{SUB(k + 1)}' for k in range(nv)) + (' (outputs ' + ' '.join(f'y{SUB(j)}' for j in out) + ')' if outputs else '')
     muts = [j for j in range(7) if modes[j] == 'mut']
     def fact(r, z):
         right = f'{spec}For v₀ (tables y₀ y₁ y₂ y₃ y₄ y₅ y₆){sv}'; left = said.replace('{r}', r)
-        if outputs: return f'findings {r} ({z(7)}) ({z(8)}) ≡ {right}'
+        if outputs: return f'findings {r} (outputs ' + ' '.join(f'({z(j)})' for j in out) + f') ≡ {right}'
         if not muts: return f'{left} ≡ {right}'
         return f'outcome {left} (tables ' + ' '.join(f'({z(j)})' if j in muts else f'y{SUB(j)}' for j in range(7)) + f') ≡ {right}'
     params = [('v', 'usize')] + [('s', m, e) for m, e in zip(modes, TAB)] + [('v', v) for v in values] + [('s', 'mut', e) for e in outputs]
@@ -695,7 +696,7 @@ class Thin(Fn):
     def after(self, j): return self.z(j) if j in self.cm else self.mid(j)
     def equation(self):
         """what the core's call says, in the caller's names"""
-        m = {f'y{SUB(j)}': f'({self.mid(j + 1)})' for j in range(9)}; m['v₀'] = '(length y₀)'
+        m = {f'y{SUB(j)}': f'({self.mid(j + 1)})' for j in range(7 + len(self.outs))}; m['v₀'] = '(length y₀)'
         for k in range(len(self.vs)): m[f'v{SUB(k + 1)}'] = f'v{SUB(k)}'
         t = self.callee.fact('r', self.callee.z).replace('(tables ', '(tabled ')
         return re.sub(r'[yv][₀-₉]+', lambda x: m[x.group(0)], t)
@@ -889,7 +890,7 @@ VALS['table'] = 'array-vals vals'; TELLS['table'] = 'tells-array'
 EXTRA = '''use Rattle.point_tables.specs.Meaning.Tables.{tables as tabled}
 use Rattle.point_tables.specs.Meaning.Outcome.{outcome}
 use Rattle.replies.specs.Meaning.Replies.{reply}
-use Rattle.point_search.specs.Meaning.Searches.{Findings, findings}
+use Rattle.point_search.specs.Meaning.Searches.{Findings, findings, outputs}
 use Rattle.records.specs.Meaning.Seen.{back}
 '''
 # how a call takes nums, reals, ints, map, pool, spots, cells
@@ -906,7 +907,7 @@ CALLS = [
     ('record_get', 'len', READS, [], 'Count', 'len'),
     ('record_query', 'query_around', READS, ['Position', 'f32'], 'Count', 'around'),
 ]
-OUTPUTS = {'query_around': ['u2', 'f2']}
+OUTPUTS = {'query_around': ['u2', 'f2', 'u32']}
 SAID = {'set_position': '(reply {r} 0)'}
 
 IN_TWO = ['maintain', 'get']

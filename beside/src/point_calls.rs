@@ -5,7 +5,7 @@ use crate::point_reading::{Deferred, Filled, Finding, Points};
 use crate::port::{BatchLists, Corners};
 use crate::rules::*;
 use crate::slots::Handle;
-use crate::tables::{Out, PointTables};
+use crate::tables::{Out, Outs, PointTables};
 
 #[derive(Clone, Debug)]
 pub enum PointCall {
@@ -21,8 +21,8 @@ pub enum PointCall {
     Len,
     Handles(usize),
     Clear(usize, usize),
-    Query(Corners, Spot, Spot, usize, usize),
-    Around(Spot, f32, usize, usize),
+    Query(Corners, Spot, Spot, [usize; 3]),
+    Around(Spot, f32, [usize; 3]),
 }
 
 impl PointCall {
@@ -73,13 +73,13 @@ impl PointCall {
                 let (mut spots, mut objs) = (Out::new(*places), Out::new(*more));
                 (t.call_clear(&mut spots, &mut objs), vec![spots.words(), objs.words()])
             }
-            PointCall::Query(kind, ll, ur, places, more) => {
-                let (mut found, mut spots) = (Out::new(*places), Out::new(*more));
-                (t.call_query(*kind, *ll, *ur, &mut found, &mut spots), vec![found.words(), spots.words()])
+            PointCall::Query(kind, ll, ur, lens) => {
+                let mut outs = Outs::new(*lens);
+                (t.call_query(*kind, *ll, *ur, &mut outs), outs.words())
             }
-            PointCall::Around(centre, r, places, more) => {
-                let (mut found, mut spots) = (Out::new(*places), Out::new(*more));
-                (t.call_query_around(*centre, *r, &mut found, &mut spots), vec![found.words(), spots.words()])
+            PointCall::Around(centre, r, lens) => {
+                let mut outs = Outs::new(*lens);
+                (t.call_query_around(*centre, *r, &mut outs), outs.words())
             }
             _ => (t.call_len(), vec![]),
         };
@@ -139,12 +139,9 @@ impl PointCall {
                 let objs = filled(*more, r.out.iter().map(|(_, data)| [*data]));
                 Outcome { answer: r.answer, numbers: vec![r.count], outs: vec![spots, objs] }
             }
-            PointCall::Query(kind, ll, ur, places, more) => {
-                let least = (*places).min(*more);
-                let sorted = *kind == Corners::Sorted;
-                found(if sorted { grid.query_aabb(*ll, *ur, least) } else { grid.query(*ll, *ur, least) }, *places, *more)
-            }
-            PointCall::Around(centre, r, places, more) => found(grid.query_around(*centre, *r, (*places).min(*more)), *places, *more),
+            PointCall::Query(Corners::Cells, ll, ur, lens) => found(grid.query(*ll, *ur, *lens.iter().min().unwrap()), lens),
+            PointCall::Query(Corners::Sorted, ll, ur, lens) => found(grid.query_aabb(*ll, *ur, *lens.iter().min().unwrap()), lens),
+            PointCall::Around(centre, r, lens) => found(grid.query_around(*centre, *r, *lens.iter().min().unwrap()), lens),
             _ => plain(DONE, vec![grid.slots.len() as u64]),
         }
     }
@@ -158,8 +155,8 @@ impl PointCall {
             PointCall::Get(_) => (3, vec![]),
             PointCall::Batch(_, _, places) | PointCall::Handles(places) => (1, vec![untouched::<2>(*places)]),
             PointCall::Clear(places, more) => (1, vec![untouched::<2>(*places), untouched::<1>(*more)]),
-            PointCall::Query(_, _, _, places, more) | PointCall::Around(_, _, places, more) => {
-                (1, vec![untouched::<2>(*places), untouched::<2>(*more)])
+            PointCall::Query(_, _, _, [a, b, c]) | PointCall::Around(_, _, [a, b, c]) => {
+                (1, vec![untouched::<2>(*a), untouched::<2>(*b), untouched::<1>(*c)])
             }
         };
         refused(answer, numbers, words)
@@ -178,8 +175,9 @@ impl PointCall {
     }
 }
 
-fn found(r: Filled<Finding>, places: usize, more: usize) -> Outcome {
-    let handles = filled(places, r.out.iter().map(|f| [f.handle.slot, f.handle.version]));
-    let spots = filled(more, r.out.iter().map(|f| f.at.bits()));
-    Outcome { answer: r.answer, numbers: vec![r.count], outs: vec![handles, spots] }
+fn found(r: Filled<Finding>, lens: &[usize; 3]) -> Outcome {
+    let handles = filled(lens[0], r.out.iter().map(|f| [f.handle.slot, f.handle.version]));
+    let spots = filled(lens[1], r.out.iter().map(|f| f.at.bits()));
+    let objs = filled(lens[2], r.out.iter().map(|f| [f.data]));
+    Outcome { answer: r.answer, numbers: vec![r.count], outs: vec![handles, spots, objs] }
 }

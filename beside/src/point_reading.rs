@@ -31,6 +31,7 @@ pub struct Points {
 pub struct Finding {
     pub handle: Handle,
     pub at: Spot,
+    pub data: u32,
 }
 
 /// An answer, a number beside it, and what the output is filled with.
@@ -209,9 +210,9 @@ impl Points {
             for y in range.low.y..=range.high.y {
                 let row = Cell { y, x: range.low.x }..=Cell { y, x: range.high.x };
                 for slot in self.lists.range(row).flat_map(|(_, list)| list) {
-                    let at = self.slots.live(*slot).unwrap().at;
-                    if test(at) {
-                        out.push(Finding { handle: self.slots.handle(*slot as usize), at });
+                    let object = self.slots.live(*slot).unwrap();
+                    if test(object.at) {
+                        out.push(Finding { handle: self.slots.handle(*slot as usize), at: object.at, data: object.data });
                     }
                 }
             }

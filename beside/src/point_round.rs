@@ -9,7 +9,7 @@ use crate::port::{BatchLists, BatchReply, Corners, Count, Inserted, Maintained, 
 use crate::random::Rng;
 use crate::rules::*;
 use crate::slots::Handle;
-use crate::tables::{Out, PointTables};
+use crate::tables::{Out, Outs, PointTables};
 use std::collections::HashMap;
 
 pub struct PointRound<'a> {
@@ -225,13 +225,27 @@ impl<'a> PointRound<'a> {
         self.after(wanted.answer == DONE, true);
     }
 
+    /// Places of a query's three outputs: each by itself; or for every slot, since the port writes then as it walks and else collects first.
+    fn lens(&mut self, needed: usize) -> [usize; 3] {
+        let n = self.tables.nums.len();
+        let mut lens = [places(needed, &mut self.rng), places(needed, &mut self.rng), places(needed, &mut self.rng)];
+        if self.rng.once_in(4) {
+            lens = [n; 3];
+        }
+        let short = lens.map(|places| places < needed);
+        self.log.note("queries with a place for every slot", u64::from(lens == [n; 3]));
+        self.log.note("queries with too few places for the data alone", u64::from(short == [false, false, true]));
+        lens
+    }
+
     /// A query's answer held to document 01 with its order, and to the original by data number and without order.
-    fn found(&mut self, name: &'static str, got: Count, wanted: Filled<Finding>, old: Vec<(u32, [u32; 2])>, outs: (Out<2>, Out<2>)) {
+    fn found(&mut self, name: &'static str, got: Count, wanted: Filled<Finding>, old: Vec<(u32, [u32; 2])>, outs: Outs) {
         self.log.call(name, got.answer);
         let same = u64::from(got.count) == wanted.count && got.answer == wanted.answer;
         self.log.hold(same, || format!("{name} gave {got:?}, 01 says {} {}", wanted.answer, wanted.count));
-        let rows = wanted.out.iter().map(|f| [f.handle.slot, f.handle.version]);
-        let filled = outs.0.holds(rows) && outs.1.holds(wanted.out.iter().map(|f| f.at.bits()));
+        let filled = outs.found.holds(wanted.out.iter().map(|f| [f.handle.slot, f.handle.version]))
+            && outs.spots.holds(wanted.out.iter().map(|f| f.at.bits()))
+            && outs.objs.holds(wanted.out.iter().map(|f| [f.data]));
         self.log.hold(filled, || format!("{name} filled its outputs otherwise than 01 says: {:?}", wanted.out));
         if got.answer == DONE || got.answer == OUTPUT {
             self.log.hold(got.count as usize == old.len(), || format!("{name} found {}, the original {}", got.count, old.len()));
@@ -240,9 +254,10 @@ impl<'a> PointRound<'a> {
             let count = got.count as usize;
             self.log.note("queries that found something", u64::from(count > 0));
             self.log.note("findings", count as u64);
-            let pairs = outs.0.rows(count).iter().zip(outs.1.rows(count));
-            let mut all: Vec<_> = pairs.map(|(h, at)| (self.given.get(&(h[0], h[1])).copied().unwrap_or(0), *at)).collect();
-            let mut old = old;
+            // The data that is written, and beside it the data that the handle was given with: the original's own, both of them.
+            let rows = outs.objs.rows(count).iter().zip(outs.spots.rows(count)).zip(outs.found.rows(count));
+            let mut all: Vec<_> = rows.map(|((data, at), h)| (data[0], *at, self.given.get(&(h[0], h[1])).copied())).collect();
+            let mut old: Vec<_> = old.into_iter().map(|(data, at)| (data, at, Some(data))).collect();
             all.sort_unstable();
             old.sort_unstable();
             self.log.hold(all == old, || format!("{name} gave {all:?}, the original {old:?}"));
@@ -253,11 +268,11 @@ impl<'a> PointRound<'a> {
     pub fn query(&mut self, kind: Corners, ll: Spot, ur: Spot) {
         let sorted = kind == Corners::Sorted;
         let all = if sorted { self.reading.query_aabb(ll, ur, usize::MAX) } else { self.reading.query(ll, ur, usize::MAX) };
-        let (places, more) = (places(all.out.len(), &mut self.rng), places(all.out.len(), &mut self.rng));
+        let lens = self.lens(all.out.len());
         let accepted = all.answer == DONE;
-        let wanted = if accepted { Filled::fitted(all.out, places.min(more)) } else { all };
-        let mut outs = (Out::new(places), Out::new(more));
-        let got = self.tables.call_query(kind, ll, ur, &mut outs.0, &mut outs.1);
+        let wanted = if accepted { Filled::fitted(all.out, *lens.iter().min().unwrap()) } else { all };
+        let mut outs = Outs::new(lens);
+        let got = self.tables.call_query(kind, ll, ur, &mut outs);
         let old = match (accepted, kind) {
             (false, _) => vec![],
             (true, Corners::Cells) => self.old.query(ll, ur),
@@ -268,11 +283,11 @@ impl<'a> PointRound<'a> {
 
     pub fn query_around(&mut self, centre: Spot, r: f32) {
         let all = self.reading.query_around(centre, r, usize::MAX);
-        let (places, more) = (places(all.out.len(), &mut self.rng), places(all.out.len(), &mut self.rng));
+        let lens = self.lens(all.out.len());
         let accepted = all.answer == DONE;
-        let wanted = if accepted { Filled::fitted(all.out, places.min(more)) } else { all };
-        let mut outs = (Out::new(places), Out::new(more));
-        let got = self.tables.call_query_around(centre, r, &mut outs.0, &mut outs.1);
+        let wanted = if accepted { Filled::fitted(all.out, *lens.iter().min().unwrap()) } else { all };
+        let mut outs = Outs::new(lens);
+        let got = self.tables.call_query_around(centre, r, &mut outs);
         let old = if accepted { self.old.query_around(centre, r) } else { vec![] };
         self.found("points query_around", got, wanted, old, outs);
     }

@@ -155,7 +155,7 @@ impl PointRound<'_> {
         let across = Spot::new(self.ground.across(from.x, &mut self.rng), self.ground.across(from.y, &mut self.rng));
         let r = self.ground.radius(from, at, &mut self.rng);
         let most = self.reading.slots.len() + 2;
-        let (fewer, more) = (places(most, &mut self.rng), places(most, &mut self.rng));
+        let lens = [places(most, &mut self.rng), places(most, &mut self.rng), places(most, &mut self.rng)];
         let calls: Vec<_> = (0..self.rng.below(4)).map(|_| self.deferred()).collect();
         let uneven = usize::from(self.rng.once_in(8));
         let batch = PointCall::Batch(calls.clone(), uneven, places(calls.len(), &mut self.rng));
@@ -163,17 +163,17 @@ impl PointRound<'_> {
         vec![
             PointCall::Len,
             PointCall::Get(h),
-            PointCall::Handles(fewer),
-            PointCall::Query(Corners::Cells, from, across, fewer, more),
-            PointCall::Query(Corners::Sorted, across, from, fewer, more),
-            PointCall::Around(from, r, fewer, more),
+            PointCall::Handles(lens[0]),
+            PointCall::Query(Corners::Cells, from, across, lens),
+            PointCall::Query(Corners::Sorted, across, from, lens),
+            PointCall::Around(from, r, lens),
             PointCall::Insert(to, data),
             PointCall::SetPosition(h, at),
             PointCall::Remove(h),
             batch,
             PointCall::RemoveMaintain(h),
             PointCall::Maintain,
-            PointCall::Clear(fewer, more),
+            PointCall::Clear(lens[0], lens[1]),
             PointCall::New(size),
         ]
     }

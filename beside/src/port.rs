@@ -4,7 +4,7 @@ use crate::point_reading::Deferred;
 use crate::random::Rng;
 use crate::rules::Spot;
 use crate::slots::Handle;
-use crate::tables::{BoxTables, Out, PointTables};
+use crate::tables::{BoxTables, Out, Outs, PointTables};
 
 #[repr(C)]
 #[derive(Clone, Copy, Debug, PartialEq)]
@@ -106,13 +106,16 @@ over_points! {
     fn chavrupas_points_len() -> Count;
     fn chavrupas_points_handles(out: Rows<2>, out_len: usize) -> Count;
     fn chavrupas_points_query(
-        left: f32, low: f32, right: f32, high: f32, found: Rows<2>, found_len: usize, places: Rows<2>, places_len: usize
+        left: f32, low: f32, right: f32, high: f32, found: Rows<2>, found_len: usize,
+        places: Rows<2>, places_len: usize, objs: Rows<1>, objs_len: usize
     ) -> Count;
     fn chavrupas_points_query_around(
-        x: f32, y: f32, radius: f32, found: Rows<2>, found_len: usize, places: Rows<2>, places_len: usize
+        x: f32, y: f32, radius: f32, found: Rows<2>, found_len: usize,
+        places: Rows<2>, places_len: usize, objs: Rows<1>, objs_len: usize
     ) -> Count;
     fn chavrupas_points_query_aabb(
-        left: f32, low: f32, right: f32, high: f32, found: Rows<2>, found_len: usize, places: Rows<2>, places_len: usize
+        left: f32, low: f32, right: f32, high: f32, found: Rows<2>, found_len: usize,
+        places: Rows<2>, places_len: usize, objs: Rows<1>, objs_len: usize
     ) -> Count;
 }
 
@@ -239,17 +242,19 @@ impl PointTables {
         with_points!(self, chavrupas_points_handles(out.pointer(), out.places))
     }
 
-    pub fn call_query(&mut self, kind: Corners, ll: Spot, ur: Spot, found: &mut Out<2>, places: &mut Out<2>) -> Count {
-        let (f, fl, p, pl) = (found.pointer(), found.places, places.pointer(), places.places);
+    pub fn call_query(&mut self, kind: Corners, ll: Spot, ur: Spot, outs: &mut Outs) -> Count {
+        let (f, fl, p, pl) = (outs.found.pointer(), outs.found.places, outs.spots.pointer(), outs.spots.places);
+        let (o, ol) = (outs.objs.pointer(), outs.objs.places);
         match kind {
-            Corners::Cells => with_points!(self, chavrupas_points_query(ll.x, ll.y, ur.x, ur.y, f, fl, p, pl)),
-            Corners::Sorted => with_points!(self, chavrupas_points_query_aabb(ll.x, ll.y, ur.x, ur.y, f, fl, p, pl)),
+            Corners::Cells => with_points!(self, chavrupas_points_query(ll.x, ll.y, ur.x, ur.y, f, fl, p, pl, o, ol)),
+            Corners::Sorted => with_points!(self, chavrupas_points_query_aabb(ll.x, ll.y, ur.x, ur.y, f, fl, p, pl, o, ol)),
         }
     }
 
-    pub fn call_query_around(&mut self, centre: Spot, r: f32, found: &mut Out<2>, places: &mut Out<2>) -> Count {
-        let (f, fl, p, pl) = (found.pointer(), found.places, places.pointer(), places.places);
-        with_points!(self, chavrupas_points_query_around(centre.x, centre.y, r, f, fl, p, pl))
+    pub fn call_query_around(&mut self, centre: Spot, r: f32, outs: &mut Outs) -> Count {
+        let (f, fl, p, pl) = (outs.found.pointer(), outs.found.places, outs.spots.pointer(), outs.spots.places);
+        let (o, ol) = (outs.objs.pointer(), outs.objs.places);
+        with_points!(self, chavrupas_points_query_around(centre.x, centre.y, r, f, fl, p, pl, o, ol))
     }
 }
 

@@ -150,7 +150,7 @@ impl Sample {
         };
         let mut answer = format!("0,{}", found.len());
         for (data, [x, y]) in found {
-            answer += &format!(",{},1,{},{}", self.point_slots[&data], sixteenths(x), sixteenths(y));
+            answer += &format!(",{},1,{},{},{data}", self.point_slots[&data], sixteenths(x), sixteenths(y));
         }
         self.line(record, answer)
     }

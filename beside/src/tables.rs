@@ -131,3 +131,20 @@ impl<const W: usize> Out<W> {
         self.rows.concat()
     }
 }
+
+/// The outputs of a point query: handles, recorded positions, data.
+pub struct Outs {
+    pub found: Out<2>,
+    pub spots: Out<2>,
+    pub objs: Out<1>,
+}
+
+impl Outs {
+    pub fn new(lens: [usize; 3]) -> Self {
+        Outs { found: Out::new(lens[0]), spots: Out::new(lens[1]), objs: Out::new(lens[2]) }
+    }
+
+    pub fn words(&self) -> Vec<Vec<u32>> {
+        vec![self.found.words(), self.spots.words(), self.objs.words()]
+    }
+}

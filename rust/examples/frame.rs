@@ -17,7 +17,7 @@ fn circle(desk: &mut Grid, [x, y]: [f32; 2], radius: f32) -> Result<(), Refusal>
     let found = desk.query_around([x, y], radius)?;
     println!("within {radius} of ({x}, {y}): {}", found.len());
     for f in found {
-        println!("  slot {} version {} at ({}, {})", f.handle.slot, f.handle.version, f.position[0], f.position[1]);
+        println!("  slot {} version {} at ({}, {}) data {}", f.handle.slot, f.handle.version, f.position[0], f.position[1], f.obj);
     }
     Ok(())
 }

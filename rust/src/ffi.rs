@@ -281,6 +281,8 @@ extern "C" {
         found_n: usize,
         places: *mut [f32; 2],
         places_n: usize,
+        objs: *mut u32,
+        objs_n: usize,
     ) -> Count;
 
     pub fn chavrupas_points_query_around(
@@ -305,6 +307,8 @@ extern "C" {
         found_n: usize,
         places: *mut [f32; 2],
         places_n: usize,
+        objs: *mut u32,
+        objs_n: usize,
     ) -> Count;
 
     pub fn chavrupas_points_query_aabb(
@@ -330,6 +334,8 @@ extern "C" {
         found_n: usize,
         places: *mut [f32; 2],
         places_n: usize,
+        objs: *mut u32,
+        objs_n: usize,
     ) -> Count;
 
     pub fn chavrupas_boxes_new(

@@ -226,7 +226,9 @@ impl Grid {
             self.found.as_mut_ptr(),
             self.found.len(),
             self.places.as_mut_ptr(),
-            self.places.len()
+            self.places.len(),
+            self.objs.as_mut_ptr(),
+            self.objs.len()
         );
         self.findings(r)
     }
@@ -243,7 +245,9 @@ impl Grid {
             self.found.as_mut_ptr(),
             self.found.len(),
             self.places.as_mut_ptr(),
-            self.places.len()
+            self.places.len(),
+            self.objs.as_mut_ptr(),
+            self.objs.len()
         );
         self.findings(r)
     }
@@ -261,16 +265,17 @@ impl Grid {
             self.found.as_mut_ptr(),
             self.found.len(),
             self.places.as_mut_ptr(),
-            self.places.len()
+            self.places.len(),
+            self.objs.as_mut_ptr(),
+            self.objs.len()
         );
         self.findings(r)
     }
 
-    // column 2 of `nums` is the data
     fn findings(&self, r: Count) -> Result<impl ExactSizeIterator<Item = Found> + '_, Refusal> {
         let n = answered(r.answer, r.count as usize)?;
-        let found = self.found[..n].iter().zip(&self.places[..n]);
-        Ok(found.map(|(&handle, &position)| Found { handle, position, obj: self.nums[handle.slot as usize][2] }))
+        let found = self.found[..n].iter().zip(&self.places[..n]).zip(&self.objs[..n]);
+        Ok(found.map(|((&handle, &position), &obj)| Found { handle, position, obj }))
     }
 }
 

@@ -1,8 +1,13 @@
 //! What a new user gets wrong: each is refused by name, and nothing changes.
 use chavrupas::Refusal::*;
-use chavrupas::{Aabb, AabbGrid, Grid, Handle, Kind, Refusal, Reply};
+use chavrupas::{Aabb, AabbGrid, Found, Grid, Handle, Kind, Refusal, Reply};
 
 const NAN: f32 = f32::NAN;
+
+// The exports themselves: a grid's own outputs have a place for each slot, and are never too short for a query.
+#[allow(dead_code)]
+#[path = "../src/ffi.rs"]
+mod ffi;
 
 /// Everything that the calls tell of a grid.
 fn told(g: &mut Grid) -> Vec<(Handle, [f32; 2], u32)> {
@@ -49,11 +54,66 @@ fn points() {
         assert_eq!(g.set_position(h, [0.0; 2]), Err(BadHandle));
         assert_eq!((g.remove(h), g.remove_maintain(h), g.get(h).err()), (Err(BadHandle), Err(BadHandle), Some(BadHandle)));
     }
-    assert_eq!(g.query([0.0; 2], [63.0; 2]).unwrap().len(), 1);
+    let found: Vec<_> = g.query([0.0; 2], [63.0; 2]).unwrap().collect();
+    assert_eq!(found, [Found { handle: a, position: [3.0, 4.0], obj: 1 }]);
     assert_eq!(g.query([0.0; 2], [64.0, 63.0]).err(), Some(TooManyCells));
     assert_eq!(g.query_around([0.0; 2], -0.0).unwrap().len(), 0);
     assert_eq!(g.query([9.0; 2], [0.0; 2]).unwrap().len(), 0);
     assert_eq!(told(&mut g), before);
+}
+
+/// The tables of a point grid of two slots, lent as C lends them.
+#[derive(Default)]
+struct Lent {
+    nums: [[u32; 4]; 2],
+    reals: [[f32; 4]; 2],
+    ints: [[i32; 4]; 2],
+    map: [u64; 4],
+    pool: [[u64; 2]; 2],
+    spots: [[f32; 2]; 2],
+    cells: [[u64; 2]; 2],
+}
+
+macro_rules! call {
+    ($export:ident, $t:expr $(, $arg:expr)*) => {
+        unsafe {
+            ffi::$export(
+                $t.nums.as_mut_ptr(), 2, $t.reals.as_mut_ptr(), 2, $t.ints.as_mut_ptr(), 2, $t.map.as_mut_ptr(), 4,
+                $t.pool.as_mut_ptr(), 2, $t.spots.as_mut_ptr(), 2, $t.cells.as_mut_ptr(), 2 $(, $arg)*
+            )
+        }
+    };
+}
+
+/// Answer and count of each query that finds both points, with outputs of 2, 2 and this many places, which are marked before; and the outputs.
+fn queried(t: &mut Lent, places: usize) -> Vec<([u32; 2], [Handle; 2], [[f32; 2]; 2], Vec<u32>)> {
+    let mark = Handle { slot: 77, version: 77 };
+    (0..3)
+        .map(|which| {
+            let (mut found, mut at, mut objs) = ([mark; 2], [[0.5; 2]; 2], vec![77; places]);
+            let (f, p, o) = (found.as_mut_ptr(), at.as_mut_ptr(), objs.as_mut_ptr());
+            let r = match which {
+                0 => call!(chavrupas_points_query, t, 0.0, 0.0, 9.0, 9.0, f, 2, p, 2, o, places),
+                1 => call!(chavrupas_points_query_aabb, t, 0.0, 0.0, 9.0, 9.0, f, 2, p, 2, o, places),
+                _ => call!(chavrupas_points_query_around, t, 0.0, 0.0, 8.0, f, 2, p, 2, o, places),
+            };
+            ([r.answer, r.count], found, at, objs)
+        })
+        .collect()
+}
+
+#[test]
+fn outputs() {
+    let mut t = Lent::default();
+    assert_eq!(call!(chavrupas_points_new, t, 10), 0);
+    assert_eq!(call!(chavrupas_points_insert, t, 1.0, 2.0, 5).answer, 0);
+    assert_eq!(call!(chavrupas_points_insert, t, 3.0, 4.0, u32::MAX).answer, 0);
+    // too few places for the data alone: 9 with the number found, and nothing is written
+    let mark = Handle { slot: 77, version: 77 };
+    assert_eq!(queried(&mut t, 1), vec![([9, 2], [mark; 2], [[0.5; 2]; 2], vec![77]); 3]);
+    // a place too many is left as it was
+    let handles = [Handle { slot: 0, version: 1 }, Handle { slot: 1, version: 1 }];
+    assert_eq!(queried(&mut t, 3), vec![([0, 2], handles, [[1.0, 2.0], [3.0, 4.0]], vec![5, u32::MAX, 77]); 3]);
 }
 
 #[test]

@@ -3,6 +3,7 @@ pub mod BoxDemands
 pub mod BoxSteps
 pub mod Demands
 pub mod Determined
+pub mod FindingLaws
 pub mod Lengths
 pub mod PointSteps
 pub mod Tested

@@ -4,3 +4,4 @@ pub mod BoxDemands
 pub mod Demands
 pub mod Left
 pub mod PointCalls
+pub mod Queries

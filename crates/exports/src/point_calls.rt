@@ -9,12 +9,13 @@ ghost use Rattle.point_batch.specs.Meaning.Batch.{batchOf};
 ghost use Rattle.point_remove.specs.Meaning.RemoveMaintain.{removeMaintainOf};
 ghost use Rattle.point_clear.specs.Meaning.Clear.{clearOf};
 ghost use Rattle.point_get.specs.Meaning.{got, getOf, lenOf, handlesOf, listing};
+ghost use Rattle.point_search.specs.Meaning.Lent.{Finds};
 ghost use Rattle.point_query.specs.Meaning.Queries.{queryOf, aroundOf, aabbOf};
 ghost use Rattle.point_maintain.specs.Meaning.Maintain.{maintainOf};
 ghost use Rattle.replies.specs.Meaning.Replies.{reply};
 ghost use Rattle.exports.specs.Meaning.Made.{handle, position};
 ghost use Rattle.exports.specs.Meaning.Told.{toldInserted, toldReply, toldCount};
-ghost use Rattle.exports.specs.Meaning.PointTold.{toldBatched, toldMaintained, toldWritten, Finds};
+ghost use Rattle.exports.specs.Meaning.PointTold.{toldBatched, toldMaintained, toldWritten};
 use crate::BatchReply;
 use crate::Count;
 use crate::Inserted;
@@ -336,8 +337,9 @@ pub extern "C" fn chavrupas_points_query(
     high: f32,
     found: &mut [[u32; 2]],
     places: &mut [[f32; 2]],
+    objs: &mut [u32],
 ) -> Count
-    ensures { λ r. ⌜ Finds (λ t. queryOf t (position left low) (position right high)) r found places nums reals ints map pool spots cells ⌝ }
+    ensures { λ r. ⌜ Finds (λ t. queryOf t (position left low) (position right high)) (toldCount r) found places objs nums reals ints map pool spots cells ⌝ }
 {
     let r = points::query(
         nums,
@@ -351,6 +353,7 @@ pub extern "C" fn chavrupas_points_query(
         Position { x: right, y: high },
         found,
         places,
+        objs,
     );
     Count {
         answer: r.answer,
@@ -373,8 +376,9 @@ pub extern "C" fn chavrupas_points_query_around(
     radius: f32,
     found: &mut [[u32; 2]],
     places: &mut [[f32; 2]],
+    objs: &mut [u32],
 ) -> Count
-    ensures { λ r. ⌜ Finds (λ t. aroundOf t (position x y) radius) r found places nums reals ints map pool spots cells ⌝ }
+    ensures { λ r. ⌜ Finds (λ t. aroundOf t (position x y) radius) (toldCount r) found places objs nums reals ints map pool spots cells ⌝ }
 {
     let r = points::query_around(
         nums,
@@ -388,6 +392,7 @@ pub extern "C" fn chavrupas_points_query_around(
         radius,
         found,
         places,
+        objs,
     );
     Count {
         answer: r.answer,
@@ -411,8 +416,9 @@ pub extern "C" fn chavrupas_points_query_aabb(
     high: f32,
     found: &mut [[u32; 2]],
     places: &mut [[f32; 2]],
+    objs: &mut [u32],
 ) -> Count
-    ensures { λ r. ⌜ Finds (λ t. aabbOf t (position left low) (position right high)) r found places nums reals ints map pool spots cells ⌝ }
+    ensures { λ r. ⌜ Finds (λ t. aabbOf t (position left low) (position right high)) (toldCount r) found places objs nums reals ints map pool spots cells ⌝ }
 {
     let r = points::query_aabb(
         nums,
@@ -426,6 +432,7 @@ pub extern "C" fn chavrupas_points_query_aabb(
         Position { x: right, y: high },
         found,
         places,
+        objs,
     );
     Count {
         answer: r.answer,

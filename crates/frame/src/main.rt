@@ -2,19 +2,44 @@
 // numbers.
 use geometry::Position;
 use libc::STDOUT_FILENO;
+use replies::Count;
 
 fn say(what: &[u8]) {
     io::write_all(STDOUT_FILENO, what);
 }
 
+fn number(n: u32) {
+    io::print_decimal(STDOUT_FILENO, n as u64);
+}
+
 fn line(what: &[u8], answer: u32, a: u32, b: u32) {
     say(what);
-    io::print_decimal(STDOUT_FILENO, answer as u64);
+    number(answer);
     say(b",");
-    io::print_decimal(STDOUT_FILENO, a as u64);
+    number(a);
     say(b",");
-    io::print_decimal(STDOUT_FILENO, b as u64);
+    number(b);
     say(b"\n");
+}
+
+fn longer_line(what: &[u8], answer: u32, a: u32, b: u32, c: u32) {
+    say(what);
+    number(answer);
+    say(b",");
+    number(a);
+    say(b",");
+    number(b);
+    say(b",");
+    number(c);
+    say(b"\n");
+}
+
+// A position that is still the mark is shown as 77, another as 0.
+fn mark_of(p: [f32; 2]) -> u32 {
+    if p[0] == 77.0 {
+        return 77;
+    }
+    0
 }
 
 // A point comes in: answer, slot, version.
@@ -50,8 +75,8 @@ fn list(
     line(b"handles ", r.answer, r.count, kept[0]);
 }
 
-// A circle of radius 8 round the origin: answer, how many it finds, the slot of the last.
-fn circle(
+// A circle of radius 8 round the origin.
+fn around(
     nums: &[[u32; 4]; 2],
     reals: &[[f32; 4]; 2],
     ints: &[[i32; 4]; 2],
@@ -59,11 +84,12 @@ fn circle(
     pool: &[[u64; 2]; 2],
     spots: &[[f32; 2]; 2],
     cells: &[[u64; 2]; 2],
-) {
-    let mut found = [[7u32; 2]; 2];
-    let mut places = [[0.0f32; 2]; 2];
+    found: &mut [[u32; 2]],
+    places: &mut [[f32; 2]],
+    objs: &mut [u32],
+) -> Count {
     let centre = Position { x: 0.0, y: 0.0 };
-    let r = points::query_around(
+    points::query_around(
         nums,
         reals,
         ints,
@@ -73,11 +99,110 @@ fn circle(
         cells,
         centre,
         8.0,
+        found,
+        places,
+        objs,
+    )
+}
+
+// Its answer, how many it finds, the slot and the data of the last. The outputs are marked with 77 before.
+fn circle(
+    nums: &[[u32; 4]; 2],
+    reals: &[[f32; 4]; 2],
+    ints: &[[i32; 4]; 2],
+    map: &[u64; 4],
+    pool: &[[u64; 2]; 2],
+    spots: &[[f32; 2]; 2],
+    cells: &[[u64; 2]; 2],
+) {
+    let mut found = [[77u32; 2]; 2];
+    let mut places = [[77.0f32; 2]; 2];
+    let mut objs = [77u32; 2];
+    let r = around(
+        nums,
+        reals,
+        ints,
+        map,
+        pool,
+        spots,
+        cells,
         &mut found,
         &mut places,
+        &mut objs,
     );
     let last = found[1];
-    line(b"circle ", r.answer, r.count, last[0]);
+    longer_line(b"circle ", r.answer, r.count, last[0], objs[1]);
+}
+
+// The same with too few places for the data alone: answer, how many it finds, and the marks, which stand in all three outputs.
+fn short_circle(
+    nums: &[[u32; 4]; 2],
+    reals: &[[f32; 4]; 2],
+    ints: &[[i32; 4]; 2],
+    map: &[u64; 4],
+    pool: &[[u64; 2]; 2],
+    spots: &[[f32; 2]; 2],
+    cells: &[[u64; 2]; 2],
+) {
+    let mut found = [[77u32; 2]; 2];
+    let mut places = [[77.0f32; 2]; 2];
+    let mut objs = [77u32; 1];
+    let r = around(
+        nums,
+        reals,
+        ints,
+        map,
+        pool,
+        spots,
+        cells,
+        &mut found,
+        &mut places,
+        &mut objs,
+    );
+    let a = found[0];
+    let b = found[1];
+    line(b"short ", r.answer, r.count, objs[0]);
+    longer_line(b"kept ", a[0], b[0], mark_of(places[0]), mark_of(places[1]));
+}
+
+// The same with a place too many for the data: answer, how many it finds, the data of the last, and the mark behind it.
+fn long_circle(
+    nums: &[[u32; 4]; 2],
+    reals: &[[f32; 4]; 2],
+    ints: &[[i32; 4]; 2],
+    map: &[u64; 4],
+    pool: &[[u64; 2]; 2],
+    spots: &[[f32; 2]; 2],
+    cells: &[[u64; 2]; 2],
+) {
+    let mut found = [[77u32; 2]; 2];
+    let mut places = [[77.0f32; 2]; 2];
+    let mut objs = [77u32; 3];
+    let r = around(
+        nums,
+        reals,
+        ints,
+        map,
+        pool,
+        spots,
+        cells,
+        &mut found,
+        &mut places,
+        &mut objs,
+    );
+    longer_line(b"long ", r.answer, r.count, objs[1], objs[2]);
+}
+
+// The answer of the batch, and what its five calls got.
+fn told(answer: u32, out: [[u32; 2]; 5]) {
+    let a = out[0];
+    let b = out[1];
+    let c = out[2];
+    let d = out[3];
+    let e = out[4];
+    line(b"batch ", answer, a[0], b[0]);
+    line(b"removed ", b[1], c[0], c[1]);
+    line(b"refused ", d[0], e[0], e[1]);
 }
 
 // Five deferred calls with one check: far moves, two removals of one object, a move of what is removed, a handle that is not good.
@@ -113,15 +238,22 @@ fn frame(
         &positions,
         &mut out,
     );
-    let a = out[0];
-    let b = out[1];
-    let c = out[2];
-    let d = out[3];
-    let e = out[4];
-    line(b"batch ", r.answer, a[0], b[0]);
-    line(b"removed ", b[1], c[0], c[1]);
-    line(b"refused ", d[0], e[0], e[1]);
+    told(r.answer, out);
+}
+
+// What is pending is not seen yet.
+fn look(
+    nums: &[[u32; 4]; 2],
+    reals: &[[f32; 4]; 2],
+    ints: &[[i32; 4]; 2],
+    map: &[u64; 4],
+    pool: &[[u64; 2]; 2],
+    spots: &[[f32; 2]; 2],
+    cells: &[[u64; 2]; 2],
+) {
     circle(nums, reals, ints, map, pool, spots, cells);
+    short_circle(nums, reals, ints, map, pool, spots, cells);
+    long_circle(nums, reals, ints, map, pool, spots, cells);
     list(nums, reals, ints, map, pool, spots, cells);
 }
 
@@ -170,6 +302,7 @@ fn run(
 ) {
     open(nums, reals, ints, map, pool, spots, cells);
     frame(nums, reals, ints, map, pool, spots, cells);
+    look(nums, reals, ints, map, pool, spots, cells);
     // a table in the place of another is found out
     list(nums, reals, ints, map, cells, spots, cells);
     settle(nums, reals, ints, map, pool, spots, cells);

@@ -1,8 +1,5 @@
 // The queries of a point grid: `query`, `query_around`, `query_aabb`. Each is a `search`, which checks the tables first.
-ghost use Rattle.basics.specs.Words.{_≡_};
-ghost use Rattle.basics.specs.Meaning.Lent.{was, is};
-ghost use Rattle.point_tables.specs.Meaning.Lent.{before};
-ghost use Rattle.point_search.specs.Meaning.Searches.{findings};
+ghost use Rattle.point_search.specs.Meaning.Lent.{Finds};
 ghost use Rattle.point_query.specs.Meaning.Queries.{queryOf, aroundOf, aabbOf};
 use geometry::Position;
 use geometry::lower_corner;
@@ -27,8 +24,9 @@ pub fn query(
     ur: Position,
     found: &mut [[u32; 2]],
     places: &mut [[f32; 2]],
+    objs: &mut [u32],
 ) -> Count
-    ensures { λ r. ⌜ findings r (is found) (is places) ≡ queryOf (before nums reals ints map pool spots cells) ll ur (was found) (was places) ⌝ }
+    ensures { λ r. ⌜ Finds (λ t. queryOf t ll ur) r found places objs nums reals ints map pool spots cells ⌝ }
 {
     let ok = position_in_domain(ll) & position_in_domain(ur);
     search(
@@ -45,6 +43,7 @@ pub fn query(
         Test::Any,
         found,
         places,
+        objs,
     )
 }
 
@@ -61,8 +60,9 @@ pub fn query_around(
     radius: f32,
     found: &mut [[u32; 2]],
     places: &mut [[f32; 2]],
+    objs: &mut [u32],
 ) -> Count
-    ensures { λ r. ⌜ findings r (is found) (is places) ≡ aroundOf (before nums reals ints map pool spots cells) centre radius (was found) (was places) ⌝ }
+    ensures { λ r. ⌜ Finds (λ t. aroundOf t centre radius) r found places objs nums reals ints map pool spots cells ⌝ }
 {
     let ok = position_in_domain(centre) & radius_in_domain(radius);
     let ll = Position {
@@ -87,6 +87,7 @@ pub fn query_around(
         Test::Circle(centre, radius),
         found,
         places,
+        objs,
     )
 }
 
@@ -103,8 +104,9 @@ pub fn query_aabb(
     b: Position,
     found: &mut [[u32; 2]],
     places: &mut [[f32; 2]],
+    objs: &mut [u32],
 ) -> Count
-    ensures { λ r. ⌜ findings r (is found) (is places) ≡ aabbOf (before nums reals ints map pool spots cells) a b (was found) (was places) ⌝ }
+    ensures { λ r. ⌜ Finds (λ t. aabbOf t a b) r found places objs nums reals ints map pool spots cells ⌝ }
 {
     let ok = position_in_domain(a) & position_in_domain(b);
     let ll = lower_corner(a, b);
@@ -123,5 +125,6 @@ pub fn query_aabb(
         Test::Rectangle(ll, ur),
         found,
         places,
+        objs,
     )
 }

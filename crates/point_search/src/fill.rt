@@ -1,12 +1,13 @@
 // Writing what a search found into the outputs.
-ghost use Rattle.basics.specs.Words.{_≤_, _<_, _≡_, length, set, take};
+ghost use Rattle.basics.specs.Words.{_≤_, _<_, min, _≡_, length, set, take};
 ghost use Rattle.basics.specs.Meaning.Limits.{mostSlots};
 ghost use Rattle.basics.specs.Meaning.Lent.{was, is};
 ghost use Rattle.storage.specs.Meaning.Keyed.{written};
 ghost use Rattle.point_search.specs.Meaning.Searches.{handleRow, placeRow, findings};
+ghost use Rattle.point_search.specs.Meaning.Lent.{lentOutputs, outputsBefore, outputsAfter};
 ghost use Rattle.point_search.specs.Inner.Fill.{findingOf, filled};
-ghost use Rattle.point_search.specs.Inner.Asked.{Searchable, searchFills, BegunBy, Reportable, Reported, SearchReported, StretchReportable};
-ghost use Rattle.point_search.specs.Inner.Asked.{StretchReported};
+ghost use Rattle.point_search.specs.Inner.Asked.{Searchable, searchFills, BegunBy, Reportable, Reported, RoomFor, SearchReported};
+ghost use Rattle.point_search.specs.Inner.Asked.{StretchReportable, StretchReported};
 use crate::Finding;
 use crate::Part;
 use crate::Test;
@@ -19,7 +20,7 @@ use replies::Count;
 use slots::Handle;
 use slots::Row;
 
-// What is reported of an entry: the handle of its slot, and its position.
+// What is reported of an entry: the handle of its slot, its position, and the data that stands in the slot's row.
 fn finding_of(nums: &[Row], e: Entry) -> Finding
     requires { ⌜ (e .slot < length (now nums)) × (length (now nums) ≤ mostSlots) ⌝ }
     ensures { λ r. ⌜ r ≡ findingOf (was nums) e ⌝ }
@@ -33,18 +34,35 @@ fn finding_of(nums: &[Row], e: Entry) -> Finding
             version: n[0],
         },
         position,
+        obj: n[2],
     }
 }
 
+// The places that every output has.
+fn room(handles: usize, places: usize, objs: usize) -> usize
+    ensures { λ r. ⌜ r ≡ min handles (min places objs) ⌝ }
+{
+    lesser(handles, lesser(places, objs))
+}
+
 // A finding goes to place k of the outputs.
-fn put_finding(handles: &mut [[u32; 2]], places: &mut [[f32; 2]], k: usize, f: Finding)
-    requires { ⌜ (k < length (now handles)) × (k < length (now places)) ⌝ }
-    ensures { λ _. ⌜ (is handles ≡ set (was handles) k (handleRow f)) × (is places ≡ set (was places) k (placeRow f)) ⌝ }
+fn put_finding(
+    handles: &mut [[u32; 2]],
+    places: &mut [[f32; 2]],
+    objs: &mut [u32],
+    k: usize,
+    f: Finding,
+)
+    requires { ⌜ (k < length (now handles)) × (k < length (now places)) × (k < length (now objs)) ⌝ }
+    ensures handles { λ _. ⌜ is handles ≡ set (was handles) k (handleRow f) ⌝ }
+    ensures places { λ _. ⌜ is places ≡ set (was places) k (placeRow f) ⌝ }
+    ensures objs { λ _. ⌜ is objs ≡ set (was objs) k (f .obj) ⌝ }
 {
     let h = f.handle;
     let p = f.position;
     handles[k] = [h.slot, h.version];
     places[k] = [p.x, p.y];
+    objs[k] = f.obj;
 }
 
 // Writes what is reported of the entries at the first r places found, from place 0 of the outputs on.
@@ -56,16 +74,17 @@ fn put_findings(
     r: usize,
     handles: &mut [[u32; 2]],
     places: &mut [[f32; 2]],
+    objs: &mut [u32],
 )
-    requires { ⌜ Reportable (now nums) (now pool) (now spots) (now found) r × (r ≤ length (now handles)) × (r ≤ length (now places)) ⌝ }
-    ensures { λ _. ⌜ Reported (was nums) (was pool) (was spots) (take r (was found)) (was handles) (was places) (is handles) (is places) ⌝ }
+    requires { ⌜ Reportable (now nums) (now pool) (now spots) (now found) r × RoomFor r (lentOutputs handles places objs) ⌝ }
+    ensures { λ _. ⌜ Reported (was nums) (was pool) (was spots) (take r (was found)) (outputsBefore handles places objs) (outputsAfter handles places objs) ⌝ }
 {
     let mut k = 0;
     while k < r {
         let j = basics::wide(found[k]);
         let e = point_records::entry_at(pool, spots, j);
         let f = finding_of(nums, e);
-        put_finding(handles, places, k, f);
+        put_finding(handles, places, objs, k, f);
         k += 1;
     }
 }
@@ -79,24 +98,19 @@ fn report(
     r: usize,
     handles: &mut [[u32; 2]],
     places: &mut [[f32; 2]],
+    objs: &mut [u32],
 ) -> Count
     requires { ⌜ Reportable (now nums) (now pool) (now spots) (now found) r × (r ≤ mostSlots) ⌝ }
-    ensures { λ c. ⌜ findings c (is handles) (is places) ≡ filled (was nums) (was pool) (was spots) (take r (was found)) (was handles) (was places) ⌝ }
+    ensures { λ c. ⌜ findings c (outputsAfter handles places objs) ≡ filled (was nums) (was pool) (was spots) (take r (was found)) (outputsBefore handles places objs) ⌝ }
 {
     let number = r as u32;
-    if handles.len() < r {
+    if room(handles.len(), places.len(), objs.len()) < r {
         return Count {
             answer: 9,
             count: number,
         };
     }
-    if places.len() < r {
-        return Count {
-            answer: 9,
-            count: number,
-        };
-    }
-    put_findings(nums, pool, spots, found, r, handles, places);
+    put_findings(nums, pool, spots, found, r, handles, places, objs);
     Count {
         answer: 0,
         count: number,
@@ -128,14 +142,15 @@ fn fill_many(
     part: Part,
     handles: &mut [[u32; 2]],
     places: &mut [[f32; 2]],
+    objs: &mut [u32],
 ) -> Count
     requires { ⌜ Searchable a b (now nums) (now pool) (now spots) used × (part .place ≤ used) × BegunBy a b test (now pool) (now spots) part (now few) ⌝ }
-    ensures { λ r. ⌜ findings r (is handles) (is places) ≡ searchFills a b test (was nums) (was pool) (was spots) used (was handles) (was places) ⌝ }
+    ensures { λ r. ⌜ findings r (outputsAfter handles places objs) ≡ searchFills a b test (was nums) (was pool) (was spots) used (outputsBefore handles places objs) ⌝ }
 {
     let mut all: [u32; basics::MOST_SLOTS] = [0; basics::MOST_SLOTS];
     copy(few, part.number, &mut all);
     let whole = gather(pool, spots, used, a, b, test, part, &mut all);
-    report(nums, pool, spots, &all, whole.number, handles, places)
+    report(nums, pool, spots, &all, whole.number, handles, places, objs)
 }
 
 // An output has not room for all entries in use: the places are collected in one pass, in a small array as long as they fit, before any is written.
@@ -149,9 +164,10 @@ fn fill_few(
     test: Test,
     handles: &mut [[u32; 2]],
     places: &mut [[f32; 2]],
+    objs: &mut [u32],
 ) -> Count
     requires { ⌜ Searchable a b (now nums) (now pool) (now spots) used ⌝ }
-    ensures { λ r. ⌜ findings r (is handles) (is places) ≡ searchFills a b test (was nums) (was pool) (was spots) used (was handles) (was places) ⌝ }
+    ensures { λ r. ⌜ findings r (outputsAfter handles places objs) ≡ searchFills a b test (was nums) (was pool) (was spots) used (outputsBefore handles places objs) ⌝ }
 {
     let mut few: [u32; 256] = [0; 256];
     let start = Part {
@@ -160,7 +176,7 @@ fn fill_few(
     };
     let part = gather(pool, spots, used, a, b, test, start, &mut few);
     if part.place == used {
-        return report(nums, pool, spots, &few, part.number, handles, places);
+        return report(nums, pool, spots, &few, part.number, handles, places, objs);
     }
     fill_many(
         nums,
@@ -174,6 +190,7 @@ fn fill_few(
         part,
         handles,
         places,
+        objs,
     )
 }
 
@@ -188,9 +205,10 @@ fn put_run(
     n: usize,
     handles: &mut [[u32; 2]],
     places: &mut [[f32; 2]],
+    objs: &mut [u32],
 ) -> usize
-    requires { ⌜ StretchReportable (now nums) (now pool) (now spots) from to n (now handles) (now places) ⌝ }
-    ensures { λ r. ⌜ StretchReported test (was nums) (was pool) (was spots) from to n (was handles) (was places) r (is handles) (is places) ⌝ }
+    requires { ⌜ StretchReportable (now nums) (now pool) (now spots) from to n (lentOutputs handles places objs) ⌝ }
+    ensures { λ r. ⌜ StretchReported test (was nums) (was pool) (was spots) from to n (outputsBefore handles places objs) r (outputsAfter handles places objs) ⌝ }
 {
     let mut k = n;
     let mut j = from;
@@ -199,7 +217,7 @@ fn put_run(
         let p = e.position;
         if passes(test, p) {
             let f = finding_of(nums, e);
-            put_finding(handles, places, k, f);
+            put_finding(handles, places, objs, k, f);
             k += 1;
         }
         j += 1;
@@ -218,9 +236,10 @@ fn put_range(
     test: Test,
     handles: &mut [[u32; 2]],
     places: &mut [[f32; 2]],
+    objs: &mut [u32],
 ) -> usize
-    requires { ⌜ Searchable a b (now nums) (now pool) (now spots) used × (used ≤ length (now handles)) × (used ≤ length (now places)) ⌝ }
-    ensures { λ r. ⌜ SearchReported a b test (was nums) (was pool) (was spots) used (was handles) (was places) r (is handles) (is places) ⌝ }
+    requires { ⌜ Searchable a b (now nums) (now pool) (now spots) used × RoomFor used (lentOutputs handles places objs) ⌝ }
+    ensures { λ r. ⌜ SearchReported a b test (was nums) (was pool) (was spots) used (outputsBefore handles places objs) r (outputsAfter handles places objs) ⌝ }
 {
     let low = cells::key_of(a);
     let high = cells::key_of(b);
@@ -238,6 +257,7 @@ fn put_range(
             n,
             handles,
             places,
+            objs,
         );
         i = run.to;
     }
@@ -255,14 +275,15 @@ pub fn fill(
     test: Test,
     handles: &mut [[u32; 2]],
     places: &mut [[f32; 2]],
+    objs: &mut [u32],
 ) -> Count
     requires { ⌜ Searchable a b (now nums) (now pool) (now spots) used ⌝ }
-    ensures { λ r. ⌜ findings r (is handles) (is places) ≡ searchFills a b test (was nums) (was pool) (was spots) used (was handles) (was places) ⌝ }
+    ensures { λ r. ⌜ findings r (outputsAfter handles places objs) ≡ searchFills a b test (was nums) (was pool) (was spots) used (outputsBefore handles places objs) ⌝ }
 {
-    if lesser(handles.len(), places.len()) < used {
-        return fill_few(nums, pool, spots, used, a, b, test, handles, places);
+    if room(handles.len(), places.len(), objs.len()) < used {
+        return fill_few(nums, pool, spots, used, a, b, test, handles, places, objs);
     }
-    let r = put_range(nums, pool, spots, used, a, b, test, handles, places);
+    let r = put_range(nums, pool, spots, used, a, b, test, handles, places, objs);
     Count {
         answer: 0,
         count: r as u32,

@@ -1,9 +1,8 @@
 // The search that the three queries of a point grid are: the entries of a range that pass a test, written into the outputs. It checks the tables first.
 ghost use Rattle.basics.specs.Words.{_≡_, true};
-ghost use Rattle.basics.specs.Meaning.Lent.{was, is};
 ghost use Rattle.cells.specs.Inner.CellRule.{Reached};
-ghost use Rattle.point_tables.specs.Meaning.Lent.{before};
-ghost use Rattle.point_search.specs.Meaning.Searches.{findings, searchOf};
+ghost use Rattle.point_search.specs.Meaning.Searches.{searchOf};
+ghost use Rattle.point_search.specs.Meaning.Lent.{Finds};
 
 mod fill;
 mod gather;
@@ -27,6 +26,7 @@ pub enum Test {
 pub struct Finding {
     pub handle: Handle,
     pub position: Position,
+    pub obj: u32,
 }
 
 // How many places a walk has collected, and the place up to which.
@@ -50,9 +50,10 @@ pub fn search(
     test: Test,
     handles: &mut [[u32; 2]],
     places: &mut [[f32; 2]],
+    objs: &mut [u32],
 ) -> Count
     requires { ⌜ (ok ≡ true → Reached ll × Reached ur) ⌝ }
-    ensures { λ r. ⌜ findings r (is handles) (is places) ≡ searchOf (before nums reals ints map pool spots cells) ok ll ur test (was handles) (was places) ⌝ }
+    ensures { λ r. ⌜ Finds (λ t. searchOf t ok ll ur test) r handles places objs nums reals ints map pool spots cells ⌝ }
 {
     if !point_tables::check(nums, reals, ints, map, pool, spots, cells) {
         return replies::refused(3);
@@ -67,5 +68,5 @@ pub fn search(
         return replies::refused(7);
     }
     let used = basics::index_of(map[1]);
-    fill(nums, pool, spots, used, a, b, test, handles, places)
+    fill(nums, pool, spots, used, a, b, test, handles, places, objs)
 }

@@ -60,20 +60,20 @@ pub use point_get::len;
 //     // found[j] is [slot, version] for j below r.count
 pub use point_get::handles;
 
-// All entries of the range from the cell of ll to that of ur: handles, and positions beside them. Refusals: 3, 6, 7, 9 with the number found.
+// All entries of the range from the cell of ll to that of ur: handles, and beside them positions and data. Refusals: 3, 6, 7, 9 with the number found.
 //     let ll = Position { x: 0.0, y: 0.0 };
-//     let r = points::query(nums, reals, ints, map, pool, spots, cells, ll, Position { x: 319.0, y: 239.0 }, found, places);
-//     // found[j] and places[j] for j below r.count: all of the cells, so also some outside the corners
+//     let r = points::query(nums, reals, ints, map, pool, spots, cells, ll, Position { x: 319.0, y: 239.0 }, found, places, objs);
+//     // found[j], places[j] and objs[j] for j below r.count: all of the cells, so also some outside the corners
 pub use point_query::query;
 
 // The entries strictly inside a circle. Refusals: 3, 6, 7, 9 with the number found.
 //     let wrist = Position { x: 640.0, y: 360.0 };
-//     let r = points::query_around(nums, reals, ints, map, pool, spots, cells, wrist, 60.0, found, places);
-//     // found[j] and places[j] for j below r.count; nothing at distance 60 itself
+//     let r = points::query_around(nums, reals, ints, map, pool, spots, cells, wrist, 60.0, found, places, objs);
+//     // found[j], places[j] and objs[j] for j below r.count; nothing at distance 60 itself
 pub use point_query::query_around;
 
 // The entries of a rectangle, whatever the order of its corners, edges included. Refusals: 3, 6, 7, 9 with the number found.
 //     let corner = Position { x: 700.0, y: 300.0 };
-//     let r = points::query_aabb(nums, reals, ints, map, pool, spots, cells, corner, Position { x: 580.0, y: 420.0 }, found, places);
-//     // found[j] and places[j] for j below r.count; the edges belong to it
+//     let r = points::query_aabb(nums, reals, ints, map, pool, spots, cells, corner, Position { x: 580.0, y: 420.0 }, found, places, objs);
+//     // found[j], places[j] and objs[j] for j below r.count; the edges belong to it
 pub use point_query::query_aabb;

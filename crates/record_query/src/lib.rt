@@ -1,8 +1,5 @@
 // `query_around` on a table of records, in the form of `record_get`.
-ghost use Rattle.basics.specs.Words.{_≡_};
-ghost use Rattle.basics.specs.Meaning.Lent.{was, is};
-ghost use Rattle.point_tables.specs.Meaning.Lent.{before};
-ghost use Rattle.point_search.specs.Meaning.Searches.{findings};
+ghost use Rattle.point_search.specs.Meaning.Lent.{Finds};
 ghost use Rattle.record_query.specs.Inner.Calls.{aroundFor};
 ghost use Rattle.record_query.specs.Meaning.Calls.{aroundOn, FindsIn};
 use geometry::Position;
@@ -24,8 +21,9 @@ pub fn query_around_for(
     radius: f32,
     found: &mut [[u32; 2]],
     places: &mut [[f32; 2]],
+    objs: &mut [u32],
 ) -> Count
-    ensures { λ r. ⌜ findings r (is found) (is places) ≡ aroundFor n (before nums reals ints map pool spots cells) centre radius (was found) (was places) ⌝ }
+    ensures { λ r. ⌜ Finds (λ t. aroundFor n t centre radius) r found places objs nums reals ints map pool spots cells ⌝ }
 {
     if n != nums.len() {
         return Count {
@@ -45,6 +43,7 @@ pub fn query_around_for(
         radius,
         found,
         places,
+        objs,
     )
 }
 
@@ -62,8 +61,9 @@ pub fn query_around(
     radius: f32,
     found: &mut [[u32; 2]],
     places: &mut [[f32; 2]],
+    objs: &mut [u32],
 ) -> Count
-    ensures { λ r. ⌜ FindsIn (λ rs t. aroundOn rs t centre radius) r found places records nums reals ints map pool spots cells ⌝ }
+    ensures { λ r. ⌜ FindsIn (λ rs t. aroundOn rs t centre radius) r found places objs records nums reals ints map pool spots cells ⌝ }
 {
     records::spread(records, nums, reals, ints);
     let n = records.len();
@@ -80,6 +80,7 @@ pub fn query_around(
         radius,
         found,
         places,
+        objs,
     );
     r
 }

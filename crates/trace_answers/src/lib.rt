@@ -45,7 +45,7 @@ pub fn cell(
     done_both(a, b)
 }
 
-// One request. The findings of a query are in its outputs.
+// One request. The findings of a query are in its outputs; points and boxes share that of the data, `objs`.
 pub fn answer(
     nums: &mut [Row],
     reals: &mut [[f32; 4]],
@@ -100,6 +100,7 @@ pub fn answer(
             r.far,
             handles,
             places,
+            objs,
         ),
         Line::BoxChange(k) => change_boxes(bnums, breals, bmap, bpool, k, r.h, r.p, r.q, r.n),
         Line::BoxSearch => {

@@ -1,12 +1,11 @@
 // What the point grid of the trace answers to a line: each is one call of the grid.
 ghost use Rattle.basics.specs.Words.{_≡_};
-ghost use Rattle.basics.specs.Meaning.Lent.{was, is};
 ghost use Rattle.trace_lines.specs.Inner.Texts.{SpotInRange, CountInRange};
 ghost use Rattle.point_tables.specs.Meaning.Lent.{after, before};
 ghost use Rattle.point_tables.specs.Meaning.Outcome.{outcome};
 ghost use Rattle.trace_points.specs.Meaning.Changes.{changeOf, movedOf, insertedOf, takenOf, markedOf, maintainedOf};
 ghost use Rattle.trace_points.specs.Meaning.Searches.{searched, findingsOf, pointSearchOf};
-ghost use Rattle.point_search.specs.Meaning.Searches.{findings};
+ghost use Rattle.point_search.specs.Meaning.Lent.{outputsBefore, outputsAfter, Finds};
 use geometry::Position;
 use replies::Count;
 use slots::Handle;
@@ -143,8 +142,9 @@ fn find(
     far: f32,
     handles: &mut [[u32; 2]],
     places: &mut [[f32; 2]],
+    objs: &mut [u32],
 ) -> Count
-    ensures { λ r. ⌜ findings r (is handles) (is places) ≡ findingsOf (before nums reals ints map pool spots cells) s p q far (was handles) (was places) ⌝ }
+    ensures { λ r. ⌜ Finds (λ t. findingsOf t s p q far) r handles places objs nums reals ints map pool spots cells ⌝ }
 {
     match s {
         PointSearch::Cir => {
@@ -160,6 +160,7 @@ fn find(
                 far,
                 handles,
                 places,
+                objs,
             )
         }
         PointSearch::Rec => {
@@ -175,6 +176,7 @@ fn find(
                 q,
                 handles,
                 places,
+                objs,
             )
         }
         PointSearch::Cel => {
@@ -190,6 +192,7 @@ fn find(
                 q,
                 handles,
                 places,
+                objs,
             )
         }
     }
@@ -210,9 +213,10 @@ pub fn search_points(
     far: i32,
     handles: &mut [[u32; 2]],
     places: &mut [[f32; 2]],
+    objs: &mut [u32],
 ) -> Said
     requires { ⌜ (SpotInRange p × SpotInRange q) × CountInRange far ⌝ }
-    ensures { λ said. ⌜ searched said (is handles) (is places) ≡ pointSearchOf (before nums reals ints map pool spots cells) s p q far (was handles) (was places) ⌝ }
+    ensures { λ said. ⌜ searched said (outputsAfter handles places objs) ≡ pointSearchOf (before nums reals ints map pool spots cells) s p q far (outputsBefore handles places objs) ⌝ }
 {
     let a = trace_telling::place(p);
     let b = trace_telling::place(q);
@@ -231,6 +235,7 @@ pub fn search_points(
         radius,
         handles,
         places,
+        objs,
     );
     trace_telling::points(r.answer, r.count)
 }

@@ -7,8 +7,8 @@ ghost use Rattle.trace_printing.specs.Inner.Said.{longestSaid, Told};
 ghost use Rattle.trace_printing.specs.Inner.Puts.{Puts};
 ghost use Rattle.trace_decimals.specs.Meaning.Text.{decimal};
 
-// No record of an answer is longer.
-pub const LONGEST: usize = 12000;
+// No record of an answer is longer: 256 findings with five numbers each need 14,615 bytes at most, and with one more number each 17,431.
+pub const LONGEST: usize = 18000;
 
 // What a request got: its answer, and after a 0 what there is to tell. Points and Boxes are findings, so many of them.
 pub enum Said {
@@ -70,12 +70,13 @@ fn put_corners(out: &mut [u8], at: usize, b: [f32; 4]) -> usize
     put_corner(out, next, b[2], b[3])
 }
 
-fn put_point(out: &mut [u8], at: usize, h: [u32; 2], p: [f32; 2]) -> usize
-    requires { ⌜ at + 46 ≤ length (now out) ⌝ }
-    ensures { λ r. ⌜ Puts (was out) at (is out) r (handleText h ++ placeText p) 46 ⌝ }
+fn put_point(out: &mut [u8], at: usize, h: [u32; 2], p: [f32; 2], d: u32) -> usize
+    requires { ⌜ at + 57 ≤ length (now out) ⌝ }
+    ensures { λ r. ⌜ Puts (was out) at (is out) r (handleText h ++ (placeText p ++ numberField d)) 57 ⌝ }
 {
     let next = put_handle(out, at, h);
-    put_corner(out, next, p[0], p[1])
+    let end = put_corner(out, next, p[0], p[1]);
+    put_number(out, end, d)
 }
 
 fn put_box(out: &mut [u8], at: usize, h: [u32; 2], b: [f32; 4]) -> usize
@@ -92,15 +93,16 @@ fn put_points(
     at: usize,
     handles: &[[u32; 2]],
     places: &[[f32; 2]],
+    objs: &[u32],
     n: usize,
 ) -> usize
-    requires { ⌜ (n ≤ length (now handles)) × (n ≤ length (now places)) × (at + n * 46 ≤ length (now out)) ⌝ }
-    ensures { λ r. ⌜ Puts (was out) at (is out) r (pointsText (was handles) (was places) n) (n * 46) ⌝ }
+    requires { ⌜ (n ≤ length (now handles)) × (n ≤ length (now places)) × (n ≤ length (now objs)) × (at + n * 57 ≤ length (now out)) ⌝ }
+    ensures { λ r. ⌜ Puts (was out) at (is out) r (pointsText (was handles) (was places) (was objs) n) (n * 57) ⌝ }
 {
     let mut next = at;
     let mut i = 0;
     while i < n {
-        next = put_point(out, next, handles[i], places[i]);
+        next = put_point(out, next, handles[i], places[i], objs[i]);
         i += 1;
     }
     next
@@ -136,9 +138,10 @@ fn put_said(
     handles: &[[u32; 2]],
     places: &[[f32; 2]],
     boxes: &[[f32; 4]],
+    objs: &[u32],
 ) -> usize
-    requires { ⌜ Told said (length (now handles)) (length (now places)) (length (now boxes)) × (at + longestSaid ≤ length (now out)) ⌝ }
-    ensures { λ r. ⌜ Puts (was out) at (is out) r (saidText said (was handles) (was places) (was boxes)) longestSaid ⌝ }
+    requires { ⌜ Told said (length (now handles)) (length (now places)) (length (now boxes)) (length (now objs)) × (at + longestSaid ≤ length (now out)) ⌝ }
+    ensures { λ r. ⌜ Puts (was out) at (is out) r (saidText said (was handles) (was places) (was boxes) (was objs)) longestSaid ⌝ }
 {
     match said {
         Said::Refused(a) => put_first(out, at, a),
@@ -150,7 +153,7 @@ fn put_said(
         }
         Said::Points(n) => {
             let next = put_one(out, at, n);
-            put_points(out, next, handles, places, basics::wide(n))
+            put_points(out, next, handles, places, objs, basics::wide(n))
         }
         Said::Boxes(n) => {
             let next = put_one(out, at, n);
@@ -167,11 +170,12 @@ pub fn put_record(
     handles: &[[u32; 2]],
     places: &[[f32; 2]],
     boxes: &[[f32; 4]],
+    objs: &[u32],
 ) -> usize
-    requires { ⌜ Told said (length (now handles)) (length (now places)) (length (now boxes)) × (at + longest ≤ length (now out)) ⌝ }
-    ensures { λ r. ⌜ Puts (was out) at (is out) r (recordText said (was handles) (was places) (was boxes)) longest ⌝ }
+    requires { ⌜ Told said (length (now handles)) (length (now places)) (length (now boxes)) (length (now objs)) × (at + longest ≤ length (now out)) ⌝ }
+    ensures { λ r. ⌜ Puts (was out) at (is out) r (recordText said (was handles) (was places) (was boxes) (was objs)) longest ⌝ }
 {
-    let next = put_said(out, at, said, handles, places, boxes);
+    let next = put_said(out, at, said, handles, places, boxes, objs);
     let end = trace_decimals::put_byte(out, next, 13);
     trace_decimals::put_byte(out, end, 10)
 }

@@ -65,7 +65,7 @@ pub fn answer_record(
     let mut handles = [[0u32; 2]; 256];
     let mut places = [[0.0f32; 2]; 256];
     let mut corners = [[0.0f32; 4]; 64];
-    let mut objs = [0u32; 64];
+    let mut objs = [0u32; 256];
     let request = trace_lines::read(line, len);
     let said = trace_answers::answer(
         nums,
@@ -85,5 +85,5 @@ pub fn answer_record(
         &mut objs,
         request,
     );
-    trace_printing::put_record(out, at, said, &handles, &places, &corners)
+    trace_printing::put_record(out, at, said, &handles, &places, &corners, &objs)
 }

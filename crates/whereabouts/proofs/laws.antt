@@ -1,5 +1,6 @@
 -- The laws.
 pub mod CallLaws
 pub mod MovedLaws
+pub mod ShownLaws
 pub mod ReportLaws
 pub mod StandsLaws

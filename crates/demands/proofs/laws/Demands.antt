@@ -9,7 +9,7 @@ use Rattle.geometry.specs.declared.Position.{Position}
 use Rattle.geometry.specs.Meaning.Circle.{inCircle}
 use Rattle.slots.specs.declared.Handle.{Handle}
 use Rattle.storage.specs.Meaning.Keyed.{All}
-use Rattle.point_tables.specs.Meaning.Tables.{Tables}
+use Rattle.point_tables.specs.Meaning.Tables.{Tables, recordOn}
 use Rattle.point_tables.specs.Meaning.Holds.{Holds}
 use Rattle.point_tables.specs.Meaning.Decide.{sized-says, holds, holds-says}
 use Rattle.point_insert.specs.Meaning.New.{newOf}
@@ -23,7 +23,7 @@ use Rattle.point_maintain.proofs.laws.MaintainLaws.{maintain-keeps}
 use Rattle.point_deferred.specs.Meaning.Calls.{Call, callOf, tablesAfter}
 use Rattle.point_batch.specs.Meaning.Batch.{even}
 use Rattle.point_maintain.specs.Meaning.Maintain.{maintainOf}
-use Rattle.point_search.specs.Meaning.Searches.{Findings}
+use Rattle.point_search.specs.Meaning.Searches.{Outputs, Findings}
 use Rattle.point_query.specs.Meaning.Queries.{aroundOf}
 use Rattle.trackers.specs.Meaning.Merges.{Turn, calls, Merge, NotShared, Alike, batchFor, SameBatch}
 use Rattle.trackers.proofs.laws.MergeLaws.{any-merge}
@@ -68,9 +68,9 @@ holding-three t (clear ps os) h = rw (holds-says t .no h)
 holding-three t (get g) h = rw (holds-says t .no h)
 holding-three t len h = rw (holds-says t .no h)
 holding-three t (handles out) h = rw (holds-says t .no h)
-holding-three t (query ll ur hs ps) h = rw (holds-says t .no h)
-holding-three t (queryAround c r hs ps) h = rw (holds-says t .no h)
-holding-three t (queryAabb a b hs ps) h = rw (holds-says t .no h)
+holding-three t (query ll ur o) h = rw (holds-says t .no h)
+holding-three t (queryAround c r o) h = rw (holds-says t .no h)
+holding-three t (queryAabb a b o) h = rw (holds-says t .no h)
 
 pub never-three : (t : Tables) (c : PointCall) → Holds t → eqb (leaves t c .answer) 3 ≡ uneven c
 never-three t c h = ap (λ (a : ℕ). eqb a 3) (demand-1-answer t c) ∙ three-first (refusals t c) ∙ holding-three t c h
@@ -94,29 +94,29 @@ module _ (before : Tables) (a : maintainOf before .result .answer ≡ 0) (l : �
   demand-3-maintain m = next-accepted t (maintain-settles before a) (calls m)
 
   -- what the circle leaves after the calls cs and the next maintain
-  abbrev reportAfter : List Call → Position → Float → List (List ℕ) → List (List Float) → Findings
-  reportAfter cs centre radius hs ps = aroundOf (nextMaintain t cs .after) centre radius hs ps
+  abbrev reportAfter : List Call → Position → Float → Outputs → Findings
+  reportAfter cs centre radius o = aroundOf (nextMaintain t cs .after) centre radius o
 
-  module _ (m : List Turn) (p : Merge l m) (centre : Position) (radius : Float) (hs : List (List ℕ)) (ps : List (List Float)) where
+  module _ (m : List Turn) (p : Merge l m) (centre : Position) (radius : Float) (o : Outputs) where
     abbrev report : Findings
-    report = reportAfter (calls m) centre radius hs ps
+    report = reportAfter (calls m) centre radius o
 
     module _ (b : report .returned .answer ≡ 0) where
-      pub demand-3-exactly : (g : Handle) (at : Position)
-          → (Reports report g at → Due t (calls m) centre radius g at) × (Due t (calls m) centre radius g at → Reports report g at)
-      demand-3-exactly g at = circle-reports t (maintain-settles before a) (calls m) centre radius hs ps b g at
+      -- with its data
+      pub demand-3-exactly : (g : Handle) (at : Position) (obj : ℕ)
+          → (Reports report g at obj → Due t (calls m) centre radius g at obj) × (Due t (calls m) centre radius g at obj → Reports report g at obj)
+      demand-3-exactly = circle-reports t (maintain-settles before a) (calls m) centre radius o b
 
-      pub demand-3-once : (i j : ℕ) (g k : Handle) (x y : Position) → ReportedAt report i g x → ReportedAt report j k y → g .slot ≡ k .slot → i ≡ j
-      demand-3-once i j g k x y r q e = reports-once t (maintain-settles before a) (calls m) centre radius hs ps b i j g k x y r q e
+      pub demand-3-once : (i j : ℕ) (g k : Handle) (x y : Position) (d e : ℕ) → ReportedAt report i g x d → ReportedAt report j k y e → g .slot ≡ k .slot → i ≡ j
+      demand-3-once = reports-once t (maintain-settles before a) (calls m) centre radius o b
 
   -- ---- the historic failure: a point that an accepted set_position moved last, by any distance within the domain, and that lies strictly
-  -- inside the circle, is in the report. The calls are xs, then c, then ys, and none of ys has its handle.
+  -- inside the circle, is in the report, with its data. The calls are xs, then c, then ys, and none of ys has its handle.
   pub no-hand-is-lost : (xs : List Call) (c : Call) (ys : List Call)
       → c .kind ≡ 0 → callOf (tablesAfter t xs) c .result .answer ≡ 0 → All (Other (c .handle)) ys
-      → (centre : Position) (radius : Float) (hs : List (List ℕ)) (ps : List (List Float))
-      → reportAfter (xs ++ (c ∷ ys)) centre radius hs ps .returned .answer ≡ 0
-      → inCircle (c .at) centre radius ≡ true → Reports (reportAfter (xs ++ (c ∷ ys)) centre radius hs ps) (c .handle) (c .at)
-  no-hand-is-lost xs c ys k e o centre radius hs ps b n = moved-found t (maintain-settles before a) xs c ys k e o centre radius hs ps b n
+      → (centre : Position) (radius : Float) (o : Outputs) → reportAfter (xs ++ (c ∷ ys)) centre radius o .returned .answer ≡ 0
+      → inCircle (c .at) centre radius ≡ true → Reports (reportAfter (xs ++ (c ∷ ys)) centre radius o) (c .handle) (c .at) (recordOn t (c .handle .slot) .obj)
+  no-hand-is-lost xs c ys k e last centre radius o b n = moved-found t (maintain-settles before a) xs c ys k e last centre radius o b n
 
 -- ---- tables built and changed only by these calls always hold a grid and are never refused as not holding one: on tables of any content that
 -- `new` accepts, any history of public calls, accepted or refused, in which the grid may be built anew
@@ -136,9 +136,9 @@ keeps-a-grid t (clear ps os) h = clear-holds t ps os h
 keeps-a-grid t (get g) h = h
 keeps-a-grid t len h = h
 keeps-a-grid t (handles out) h = h
-keeps-a-grid t (query ll ur hs ps) h = h
-keeps-a-grid t (queryAround c r hs ps) h = h
-keeps-a-grid t (queryAabb a b hs ps) h = h
+keeps-a-grid t (query ll ur o) h = h
+keeps-a-grid t (queryAround c r o) h = h
+keeps-a-grid t (queryAabb a b o) h = h
 
 all-keep : (t : Tables) (cs : List PointCall) → Holds t → Holds (afterCalls t cs)
 unfolding afterCalls

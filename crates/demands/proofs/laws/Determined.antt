@@ -20,7 +20,7 @@ use Rattle.point_clear.specs.Meaning.Clear.{Written, clearOf}
 use Rattle.point_get.specs.declared.Got.{Got}
 use Rattle.replies.specs.declared.Count.{Count}
 use Rattle.point_get.specs.Meaning.{Listing, getOf, lenOf, handlesOf}
-use Rattle.point_search.specs.Meaning.Searches.{Findings}
+use Rattle.point_search.specs.Meaning.Searches.{Outputs, Findings}
 use Rattle.point_query.specs.Meaning.Queries.{queryOf, aroundOf, aabbOf}
 use Rattle.replies.specs.Meaning.Replies.{reply}
 use Rattle.box_tables.specs.Meaning.Tables as BoxTables
@@ -82,17 +82,17 @@ module _ (t : Tables) where
   pub handles-determined : (out : List (List ℕ)) (r₁ r₂ : Listing) → r₁ ≡ handlesOf t out → r₂ ≡ handlesOf t out → r₁ ≡ r₂
   handles-determined out r₁ r₂ e f = one e f
 
-  pub query-determined : (ll ur : Position) (hs : List (List ℕ)) (ps : List (List Float)) (r₁ r₂ : Findings)
-      → r₁ ≡ queryOf t ll ur hs ps → r₂ ≡ queryOf t ll ur hs ps → r₁ ≡ r₂
-  query-determined ll ur hs ps r₁ r₂ e f = one e f
+  pub query-determined : (ll ur : Position) (o : Outputs) (r₁ r₂ : Findings)
+      → r₁ ≡ queryOf t ll ur o → r₂ ≡ queryOf t ll ur o → r₁ ≡ r₂
+  query-determined ll ur o r₁ r₂ e f = one e f
 
-  pub around-determined : (c : Position) (r : Float) (hs : List (List ℕ)) (ps : List (List Float)) (r₁ r₂ : Findings)
-      → r₁ ≡ aroundOf t c r hs ps → r₂ ≡ aroundOf t c r hs ps → r₁ ≡ r₂
-  around-determined c r hs ps r₁ r₂ e f = one e f
+  pub around-determined : (c : Position) (r : Float) (o : Outputs) (r₁ r₂ : Findings)
+      → r₁ ≡ aroundOf t c r o → r₂ ≡ aroundOf t c r o → r₁ ≡ r₂
+  around-determined c r o r₁ r₂ e f = one e f
 
-  pub aabb-determined : (a b : Position) (hs : List (List ℕ)) (ps : List (List Float)) (r₁ r₂ : Findings)
-      → r₁ ≡ aabbOf t a b hs ps → r₂ ≡ aabbOf t a b hs ps → r₁ ≡ r₂
-  aabb-determined a b hs ps r₁ r₂ e f = one e f
+  pub aabb-determined : (a b : Position) (o : Outputs) (r₁ r₂ : Findings)
+      → r₁ ≡ aabbOf t a b o → r₂ ≡ aabbOf t a b o → r₁ ≡ r₂
+  aabb-determined a b o r₁ r₂ e f = one e f
 
 -- ---- the box grid
 boxed : {R : Type 0} {o : Boxes.Outcome R} {r₁ r₂ : R} {t₁ t₂ : BoxTables.Tables} → Boxes.outcome r₁ t₁ ≡ o → Boxes.outcome r₂ t₂ ≡ o → (r₁ ≡ r₂) × (t₁ ≡ t₂)

@@ -1,7 +1,6 @@
 -- Each call of the point grid makes its tests one after the other: it is done if they pass, and else leaves what a call refused with the
 -- first number leaves. Assumes nothing.
 use Rattle.basics.specs.Words.{ℕ, _≡_, refl, subst, Bool, _&&_, List, [], length, length-map, eqb}
-use lib.Ieee.{Float}
 use Rattle.basics.specs.Meaning.Refusals.{pick}
 use Rattle.replies.specs.Meaning.Replies.{count, inserted, reply}
 use Rattle.geometry.specs.declared.Position.{Position}
@@ -21,7 +20,7 @@ use Rattle.point_get.specs.Meaning.{got, listing, liveHandles, getOf, lenOf, ha
 use Rattle.geometry.specs.Meaning.Zero.{zero-position}
 use Rattle.point_search.specs.declared.Test.{Test}
 use Rattle.point_search.specs.declared.Test.the-variants.{Any, Circle, Rectangle}
-use Rattle.point_search.specs.Meaning.Searches.{found, outputs as columns, room, findings, searchTests, searchOf}
+use Rattle.point_search.specs.Meaning.Searches.{found, Outputs as Columns, room, findings, searchTests, searchOf}
 use Rattle.point_query.specs.Meaning.Queries.{queryOf, aroundOf, aabbOf}
 use Rattle.geometry.specs.Meaning.Circle.{cornerBelow, cornerAbove}
 use Rattle.demands.proofs.laws.Tested.{Tested, tested, no-nine, at-nine}
@@ -29,20 +28,20 @@ use Rattle.demands.specs.Meaning.Left.{outputs, none, refused}
 use Rattle.demands.specs.Meaning.PointCalls.{PointCall, new, insert, setPosition, remove, batch, maintain, removeMaintain, clear}
 use Rattle.demands.specs.Meaning.PointCalls.{get, len, handles, query, queryAround, queryAabb}
 use Rattle.demands.specs.Meaning.PointCalls.{ofNumber, ofInserted, ofReply, ofBatched, ofMaintained, ofWritten, ofGot, ofCount, ofListing}
-use Rattle.demands.specs.Meaning.PointCalls.{ofFindings}
+use Rattle.demands.specs.Meaning.PointCalls.{ofColumns, ofFindings}
 use Rattle.demands.specs.Meaning.PointCalls.{Leaves, leaves, refusals, numberFound, refusedWith}
 
 -- the three queries are one search
-module _ (t : Tables) (ok : Bool) (ll ur : Position) (test : Test) (hs : List (List ℕ)) (ps : List (List Float)) where
+module _ (t : Tables) (ok : Bool) (ll ur : Position) (test : Test) (o : Columns) where
   abbrev finds : ℕ
   finds = length (found t ll ur test)
 
   abbrev refusal : ℕ → Leaves
-  refusal = refused zero-position finds t (outputs hs ps [])
+  refusal = refused zero-position finds t (ofColumns o)
 
-  search : Tested (searchTests t ok ll ur test (room (columns hs ps))) refusal (ofFindings t (searchOf t ok ll ur test hs ps))
+  search : Tested (searchTests t ok ll ur test (room o)) refusal (ofFindings t (searchOf t ok ll ur test o))
   unfolding searchOf
-  search = tested (ofFindings t) _ (λ a. findings (count a (pick (eqb a 9) finds 0)) hs ps) refl (at-nine zero-position t (outputs hs ps []) finds) _ refl
+  search = tested (ofFindings t) _ (λ a. findings (count a (pick (eqb a 9) finds 0)) o) refl (at-nine zero-position t (ofColumns o) finds) _ refl
 
 -- `handles` has a row for each object: as many as `clear` has
 module _ (t : Tables) (out : List (List ℕ)) where
@@ -79,9 +78,9 @@ step t (clear ps os) =
 step t (get h) = unfold getOf in tested (ofGot t) _ (λ a. got a zero-position 0) refl (no-nine zero-position t none) _ refl
 step t len = unfold lenOf in tested (ofCount t) _ (λ a. count a 0) refl (no-nine zero-position t none) _ refl
 step t (handles out) = subst (listedBy t out) (as-many t out) (listed t out)
-step t (query ll ur hs ps) = unfold queryOf in search t (positionInDomain ll && positionInDomain ur) ll ur Any hs ps
-step t (queryAround c r hs ps) =
-    unfold aroundOf in search t (positionInDomain c && radiusInDomain r) (cornerBelow c r) (cornerAbove c r) (Circle c r) hs ps
-step t (queryAabb a b hs ps) =
+step t (query ll ur o) = unfold queryOf in search t (positionInDomain ll && positionInDomain ur) ll ur Any o
+step t (queryAround c r o) =
+    unfold aroundOf in search t (positionInDomain c && radiusInDomain r) (cornerBelow c r) (cornerAbove c r) (Circle c r) o
+step t (queryAabb a b o) =
     unfold aabbOf in
-    search t (positionInDomain a && positionInDomain b) (lowerCorner a b) (upperCorner a b) (Rectangle (lowerCorner a b) (upperCorner a b)) hs ps
+    search t (positionInDomain a && positionInDomain b) (lowerCorner a b) (upperCorner a b) (Rectangle (lowerCorner a b) (upperCorner a b)) o

@@ -20,7 +20,7 @@ use Rattle.point_clear.specs.Meaning.Clear.{Written, liveSlots, clearTests, cle
 use Rattle.point_get.specs.declared.Got.{Got}
 use Rattle.point_get.specs.Meaning.{Listing, getTests, getOf, lenTests, lenOf, handlesTests, handlesOf}
 use Rattle.geometry.specs.Meaning.Zero.{zero-position}
-use Rattle.point_search.specs.Meaning.Searches.{Findings}
+use Rattle.point_search.specs.Meaning.Searches.{Outputs as Columns, Findings}
 use Rattle.point_query.specs.Meaning.Queries.{queryFinds, queryTests, queryOf, aroundFinds, aroundTests, aroundOf, aabbFinds, aabbTests, aabbOf}
 use Rattle.basics.specs.Meaning.Refusals.{Refusal}
 use Rattle.demands.specs.Meaning.Left.{Outputs, outputs, none, zeros, theCount, theHandle, theData, theChanges, theObject, Left, left, refused}
@@ -37,9 +37,13 @@ pub data PointCall : Type 0 where
   get : Handle → PointCall
   len : PointCall
   handles : List (List ℕ) → PointCall
-  query : Position → Position → List (List ℕ) → List (List Float) → PointCall
-  queryAround : Position → Float → List (List ℕ) → List (List Float) → PointCall
-  queryAabb : Position → Position → List (List ℕ) → List (List Float) → PointCall
+  query : Position → Position → Columns → PointCall
+  queryAround : Position → Float → Columns → PointCall
+  queryAabb : Position → Position → Columns → PointCall
+
+-- the outputs of a query
+abbrev pub ofColumns : Columns → Outputs
+ofColumns o = outputs (o .handles) (o .places) (o .objs)
 
 -- the outputs as they are lent
 abbrev pub lentTo : PointCall → Outputs
@@ -54,9 +58,9 @@ lentTo (clear ps os) = outputs [] ps os
 lentTo (get h) = none
 lentTo len = none
 lentTo (handles out) = outputs out [] []
-lentTo (query ll ur hs ps) = outputs hs ps []
-lentTo (queryAround c r hs ps) = outputs hs ps []
-lentTo (queryAabb a b hs ps) = outputs hs ps []
+lentTo (query ll ur o) = ofColumns o
+lentTo (queryAround c r o) = ofColumns o
+lentTo (queryAabb a b o) = ofColumns o
 
 -- ---- what is left, by the kind of what a call gives
 abbrev pub Leaves : Type 0
@@ -92,7 +96,7 @@ abbrev pub ofListing : Tables → Listing → Leaves
 ofListing t l = left (l .returned .answer) (theCount zero-position (l .returned .count)) t (outputs (l .out) [] [])
 
 abbrev pub ofFindings : Tables → Findings → Leaves
-ofFindings t f = left (f .returned .answer) (theCount zero-position (f .returned .count)) t (outputs (f .outputs .handles) (f .outputs .places) [])
+ofFindings t f = left (f .returned .answer) (theCount zero-position (f .returned .count)) t (ofColumns (f .outputs))
 
 unfoldable pub leaves : Tables → PointCall → Leaves
 leaves t (new size) = ofNumber (newOf t size)
@@ -106,9 +110,9 @@ leaves t (clear ps os) = ofWritten (clearOf t ps os)
 leaves t (get h) = ofGot t (getOf t h)
 leaves t len = ofCount t (lenOf t)
 leaves t (handles out) = ofListing t (handlesOf t out)
-leaves t (query ll ur hs ps) = ofFindings t (queryOf t ll ur hs ps)
-leaves t (queryAround c r hs ps) = ofFindings t (aroundOf t c r hs ps)
-leaves t (queryAabb a b hs ps) = ofFindings t (aabbOf t a b hs ps)
+leaves t (query ll ur o) = ofFindings t (queryOf t ll ur o)
+leaves t (queryAround c r o) = ofFindings t (aroundOf t c r o)
+leaves t (queryAabb a b o) = ofFindings t (aabbOf t a b o)
 
 -- ---- document 01's refusals of each call: its tests, which stand beside its outcome
 unfoldable pub refusals : Tables → PointCall → List Refusal
@@ -123,9 +127,9 @@ refusals t (clear ps os) = clearTests t ps os
 refusals t (get h) = getTests t h
 refusals t len = lenTests t
 refusals t (handles out) = handlesTests t out
-refusals t (query ll ur hs ps) = queryTests t ll ur hs ps
-refusals t (queryAround c r hs ps) = aroundTests t c r hs ps
-refusals t (queryAabb a b hs ps) = aabbTests t a b hs ps
+refusals t (query ll ur o) = queryTests t ll ur o
+refusals t (queryAround c r o) = aroundTests t c r o
+refusals t (queryAabb a b o) = aabbTests t a b o
 
 -- ---- the number found: the findings, for `clear` and `handles` the objects, for a batch its calls; of the others none answers 9
 unfoldable pub numberFound : Tables → PointCall → ℕ
@@ -140,9 +144,9 @@ numberFound t (clear ps os) = length (liveSlots t)
 numberFound t (get h) = 0
 numberFound t len = 0
 numberFound t (handles out) = length (liveSlots t)
-numberFound t (query ll ur hs ps) = length (queryFinds t ll ur)
-numberFound t (queryAround c r hs ps) = length (aroundFinds t c r)
-numberFound t (queryAabb a b hs ps) = length (aabbFinds t a b)
+numberFound t (query ll ur o) = length (queryFinds t ll ur)
+numberFound t (queryAround c r o) = length (aroundFinds t c r)
+numberFound t (queryAabb a b o) = length (aabbFinds t a b)
 
 -- what a call leaves if it is refused with number n
 abbrev pub refusedWith : Tables → PointCall → ℕ → Leaves
@@ -161,6 +165,6 @@ uneven (clear ps os) = false
 uneven (get h) = false
 uneven len = false
 uneven (handles out) = false
-uneven (query ll ur hs ps) = false
-uneven (queryAround c r hs ps) = false
-uneven (queryAabb a b hs ps) = false
+uneven (query ll ur o) = false
+uneven (queryAround c r o) = false
+uneven (queryAabb a b o) = false

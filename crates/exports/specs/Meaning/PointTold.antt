@@ -1,12 +1,9 @@
 -- What the calls of the point grid tell, with the lent outputs after them. Assumes nothing.
-use Rattle.basics.specs.Words.{ℕ, _≡_, List, ℤ}
+use Rattle.basics.specs.Words.{ℕ, List}
 use lib.Ieee.{Float}
-use Rattle.basics.specs.Meaning.Lent.{Lent, was, is}
-use Rattle.point_tables.specs.Meaning.Tables.{Tables}
-use Rattle.point_tables.specs.Meaning.Lent.{before}
+use Rattle.basics.specs.Meaning.Lent.{Lent, is}
 use Rattle.point_batch.specs.Meaning.Batch.{Batched, batched}
 use Rattle.point_clear.specs.Meaning.Clear.{Written, wrote}
-use Rattle.point_search.specs.Meaning.Searches.{Findings, findings}
 use Rattle.point_maintain.specs.declared.Maintained as Settled
 use Rattle.point_maintain.specs.Meaning.Maintain.{maintainedCounts}
 use Rattle.exports.specs.declared.BatchReply.{BatchReply}
@@ -22,8 +19,3 @@ toldMaintained r = maintainedCounts (r .answer) (r .moved) (r .removed)
 
 abbrev pub toldWritten : Count → Lent (List (List Float)) → Lent (List ℕ) → Written
 toldWritten r places objs = wrote (toldCount r) (is places) (is objs)
-
--- what is told and the outputs after the call are what `query` gives of the tables and the outputs before it
-abbrev pub Finds : (Tables → List (List ℕ) → List (List Float) → Findings) → Count → Lent (List (List ℕ)) → Lent (List (List Float))
-    → Lent (List (List ℕ)) → Lent (List (List Float)) → Lent (List (List ℤ)) → Lent (List ℕ) → Lent (List (List ℕ)) → Lent (List (List Float)) → Lent (List (List ℕ)) → Type 0
-Finds query r found places a b c d e f g = findings (toldCount r) (is found) (is places) ≡ query (before a b c d e f g) (was found) (was places)

@@ -1,6 +1,6 @@
 -- The corners of the three queries: where the numbers that were given are in the domain, the cell rule may be asked of the corners; and
 -- each query is the search of its corners and its test. Assumes nothing.
-use Rattle.basics.specs.Words.{ℕ, _≡_, sym, _∙_, subst, Bool, true, _&&_, List, T}
+use Rattle.basics.specs.Words.{_≡_, sym, _∙_, subst, Bool, true, _&&_, T}
 use lib.Ieee.{Float}
 use Rattle.basics.proofs.laws.Says.{both-true, says-t}
 use Rattle.geometry.specs.declared.Position.{Position}
@@ -12,7 +12,7 @@ use Rattle.cells.specs.Inner.CellRule.{Reached}
 use Rattle.cells.proofs.laws.ReachLaws.{position-reached, low-reached, high-reached}
 use Rattle.point_tables.specs.Meaning.Tables.{Tables}
 use Rattle.point_search.specs.declared.Test.the-variants.{Any, Circle, Rectangle}
-use Rattle.point_search.specs.Meaning.Searches.{Findings, searchOf}
+use Rattle.point_search.specs.Meaning.Searches.{Outputs, Findings, searchOf}
 use Rattle.point_query.specs.Meaning.Queries.{queryOf, aroundOf, aabbOf}
 
 -- both of two tests that were run
@@ -35,18 +35,18 @@ module _ (p q : Bool) where
         subst Reached (sym eu) (position-reached (upperCorner a b) (upper-in-domain a b x y)),
       )
 
-  -- o is what the search came to
-  module _ (t : Tables) (handles : List (List ℕ)) (places : List (List Float)) (o : Findings) where
-    pub query-is : (ll ur : Position) → p ≡ positionInDomain ll → q ≡ positionInDomain ur → o ≡ searchOf t (p && q) ll ur Any handles places → o ≡ queryOf t ll ur handles places
+  -- r is what the search came to
+  module _ (t : Tables) (o : Outputs) (r : Findings) where
+    pub query-is : (ll ur : Position) → p ≡ positionInDomain ll → q ≡ positionInDomain ur → r ≡ searchOf t (p && q) ll ur Any o → r ≡ queryOf t ll ur o
     unfolding queryOf
-    query-is ll ur e f h = h ∙ (λ z. searchOf t (e z && f z) ll ur Any handles places)
+    query-is ll ur e f h = h ∙ (λ z. searchOf t (e z && f z) ll ur Any o)
 
-    pub around-is : (c : Position) (r : Float) → p ≡ positionInDomain c → q ≡ radiusInDomain r
-        → o ≡ searchOf t (p && q) (cornerBelow c r) (cornerAbove c r) (Circle c r) handles places → o ≡ aroundOf t c r handles places
+    pub around-is : (c : Position) (d : Float) → p ≡ positionInDomain c → q ≡ radiusInDomain d
+        → r ≡ searchOf t (p && q) (cornerBelow c d) (cornerAbove c d) (Circle c d) o → r ≡ aroundOf t c d o
     unfolding aroundOf
-    around-is c r e f h = h ∙ (λ z. searchOf t (e z && f z) (cornerBelow c r) (cornerAbove c r) (Circle c r) handles places)
+    around-is c d e f h = h ∙ (λ z. searchOf t (e z && f z) (cornerBelow c d) (cornerAbove c d) (Circle c d) o)
 
     pub aabb-is : (a b ll ur : Position) → ll ≡ lowerCorner a b → ur ≡ upperCorner a b → p ≡ positionInDomain a → q ≡ positionInDomain b
-        → o ≡ searchOf t (p && q) ll ur (Rectangle ll ur) handles places → o ≡ aabbOf t a b handles places
+        → r ≡ searchOf t (p && q) ll ur (Rectangle ll ur) o → r ≡ aabbOf t a b o
     unfolding aabbOf
-    aabb-is a b ll ur el eu e f h = h ∙ (λ z. searchOf t (e z && f z) (el z) (eu z) (Rectangle (el z) (eu z)) handles places)
+    aabb-is a b ll ur el eu e f h = h ∙ (λ z. searchOf t (e z && f z) (el z) (eu z) (Rectangle (el z) (eu z)) o)

@@ -1,5 +1,5 @@
 -- `query`, `query_around` and `query_aabb`: each is the search of its corners and its test. Assumes nothing.
-use Rattle.basics.specs.Words.{ℕ, _&&_, List}
+use Rattle.basics.specs.Words.{_&&_, List}
 use lib.Ieee.{Float}
 use Rattle.basics.specs.Meaning.Refusals.{Refusal}
 use Rattle.geometry.specs.declared.Position.{Position}
@@ -9,16 +9,16 @@ use Rattle.geometry.specs.Meaning.Rectangle.{lowerCorner, upperCorner}
 use Rattle.storage.specs.Meaning.Entries.{Entry}
 use Rattle.point_tables.specs.Meaning.Tables.{Tables}
 use Rattle.point_search.specs.declared.Test.the-variants.{Any, Circle, Rectangle}
-use Rattle.point_search.specs.Meaning.Searches.{found, outputs, room, Findings, searchTests, searchOf}
+use Rattle.point_search.specs.Meaning.Searches.{found, Outputs, room, Findings, searchTests, searchOf}
 
 -- ---- query: corners not swapped, a reversed range is empty
 abbrev pub queryFinds : Tables → Position → Position → List Entry
 queryFinds t ll ur = found t ll ur Any
 
-abbrev pub queryTests : Tables → Position → Position → List (List ℕ) → List (List Float) → List Refusal
-queryTests t ll ur hs ps = searchTests t (positionInDomain ll && positionInDomain ur) ll ur Any (room (outputs hs ps))
+abbrev pub queryTests : Tables → Position → Position → Outputs → List Refusal
+queryTests t ll ur o = searchTests t (positionInDomain ll && positionInDomain ur) ll ur Any (room o)
 
-unfoldable pub queryOf : Tables → Position → Position → List (List ℕ) → List (List Float) → Findings
+unfoldable pub queryOf : Tables → Position → Position → Outputs → Findings
 unfolding searchOf
 queryOf t ll ur = searchOf t (positionInDomain ll && positionInDomain ur) ll ur Any
 
@@ -26,10 +26,10 @@ queryOf t ll ur = searchOf t (positionInDomain ll && positionInDomain ur) ll ur 
 abbrev pub aroundFinds : Tables → Position → Float → List Entry
 aroundFinds t c r = found t (cornerBelow c r) (cornerAbove c r) (Circle c r)
 
-abbrev pub aroundTests : Tables → Position → Float → List (List ℕ) → List (List Float) → List Refusal
-aroundTests t c r hs ps = searchTests t (positionInDomain c && radiusInDomain r) (cornerBelow c r) (cornerAbove c r) (Circle c r) (room (outputs hs ps))
+abbrev pub aroundTests : Tables → Position → Float → Outputs → List Refusal
+aroundTests t c r o = searchTests t (positionInDomain c && radiusInDomain r) (cornerBelow c r) (cornerAbove c r) (Circle c r) (room o)
 
-unfoldable pub aroundOf : Tables → Position → Float → List (List ℕ) → List (List Float) → Findings
+unfoldable pub aroundOf : Tables → Position → Float → Outputs → Findings
 unfolding searchOf
 aroundOf t c r = searchOf t (positionInDomain c && radiusInDomain r) (cornerBelow c r) (cornerAbove c r) (Circle c r)
 
@@ -37,11 +37,11 @@ aroundOf t c r = searchOf t (positionInDomain c && radiusInDomain r) (cornerBelo
 abbrev pub aabbFinds : Tables → Position → Position → List Entry
 aabbFinds t a b = found t (lowerCorner a b) (upperCorner a b) (Rectangle (lowerCorner a b) (upperCorner a b))
 
-abbrev pub aabbTests : Tables → Position → Position → List (List ℕ) → List (List Float) → List Refusal
-aabbTests t a b hs ps =
-    searchTests t (positionInDomain a && positionInDomain b) (lowerCorner a b) (upperCorner a b) (Rectangle (lowerCorner a b) (upperCorner a b)) (room (outputs hs ps))
+abbrev pub aabbTests : Tables → Position → Position → Outputs → List Refusal
+aabbTests t a b o =
+    searchTests t (positionInDomain a && positionInDomain b) (lowerCorner a b) (upperCorner a b) (Rectangle (lowerCorner a b) (upperCorner a b)) (room o)
 
-unfoldable pub aabbOf : Tables → Position → Position → List (List ℕ) → List (List Float) → Findings
+unfoldable pub aabbOf : Tables → Position → Position → Outputs → Findings
 unfolding searchOf
 aabbOf t a b =
     searchOf t (positionInDomain a && positionInDomain b) (lowerCorner a b) (upperCorner a b) (Rectangle (lowerCorner a b) (upperCorner a b))

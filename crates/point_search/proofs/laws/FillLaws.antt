@@ -16,7 +16,8 @@ use Rattle.point_tables.specs.Meaning.Holds.{Holds}
 use Rattle.point_tables.specs.Meaning.Decide.{holds, holds-says}
 use Rattle.point_search.specs.declared.Finding.{Finding}
 use Rattle.point_search.specs.declared.Test.{Test}
-use Rattle.point_search.specs.Meaning.Searches.{found, findingOn, handleRow, placeRow, outputs, room, filling, Findings, findings, reportOf, searchOf}
+use Rattle.point_search.specs.Meaning.Searches.{found, findingOn, handleRow, placeRow, Outputs, outputs, room, filling, Findings, findings, reportOf}
+use Rattle.point_search.specs.Meaning.Searches.{searchOf}
 use Rattle.point_search.specs.Inner.Places.{wantedAt, placesOf}
 use Rattle.point_search.proofs.laws.PlacesLaws.{places-inside}
 use Rattle.point_search.specs.Inner.Fill.{findingAt, filled, Stocked, Findable}
@@ -25,27 +26,30 @@ use Rattle.point_search.proofs.laws.FindLaws.{search-9, search-0}
 use Rattle.replies.specs.Meaning.Replies.{count}
 use Rattle.point_tables.specs.Inner.Entry.{entryAt}
 
-module _ (nums pool : List (List ℕ)) (spots : List (List Float)) (js : List ℕ) (handles : List (List ℕ)) (places : List (List Float)) where
-  filled-0 : length js ≤ room (outputs handles places) → reportOf (findingAt nums pool spots) js (outputs handles places) ≡ filled nums pool spots js handles places
+module _ (nums pool : List (List ℕ)) (spots : List (List Float)) (js : List ℕ) (o : Outputs) where
+  filled-0 : length js ≤ room o → reportOf (findingAt nums pool spots) js o ≡ filled nums pool spots js o
   unfolding filled
-  filled-0 l = simp (le-leb (length js) (room (outputs handles places)) l)
+  filled-0 l = simp (le-leb (length js) (room o) l)
 
-  pub filled-9 : room (outputs handles places) < length js → findings (count 9 (length js)) handles places ≡ filled nums pool spots js handles places
+  pub filled-9 : room o < length js → findings (count 9 (length js)) o ≡ filled nums pool spots js o
   unfolding filled
-  filled-9 l = simp (lt-leb (length js) (room (outputs handles places)) l)
+  filled-9 l = simp (lt-leb (length js) (room o) l)
 
   -- what was written of the places
-  pub filled-put : (r : ℕ) (h : List (List ℕ)) (p : List (List Float)) → r ≡ length js → outputs h p ≡ filling (findingAt nums pool spots) js (outputs handles places)
-      → r ≤ room (outputs handles places) → findings (count 0 r) h p ≡ filled nums pool spots js handles places
-  filled-put r h p er eo l =
-      let e : findings (count 0 r) h p ≡ reportOf (findingAt nums pool spots) js (outputs handles places) = λ z. record { returned = count 0 (er z); outputs = eo z } in
+  pub filled-put : (r : ℕ) (o′ : Outputs) → r ≡ length js → o′ ≡ filling (findingAt nums pool spots) js o → r ≤ room o → findings (count 0 r) o′ ≡ filled nums pool spots js o
+  filled-put r o′ er eo l =
+      let e : findings (count 0 r) o′ ≡ reportOf (findingAt nums pool spots) js o = λ z. findings (count 0 (er z)) (eo z) in
       e ∙ filled-0 (omega arith)
 
 -- what is reported of the images of a list
-reported-map : {A B : Type 0} (report : B → Finding) (g : A → B) (l : List A) (handles : List (List ℕ)) (places : List (List Float))
-    → reportOf report (map g l) (outputs handles places) ≡ reportOf (λ a. report (g a)) l (outputs handles places)
-reported-map report g l handles places =
-    λ z. findings (count 0 (length-map l g z)) (written (map-map (λ b. handleRow (report b)) g l z) handles) (written (map-map (λ b. placeRow (report b)) g l z) places)
+reported-map : {A B : Type 0} (report : B → Finding) (g : A → B) (l : List A) (o : Outputs) → reportOf report (map g l) o ≡ reportOf (λ a. report (g a)) l o
+reported-map report g l o =
+    λ z.
+    findings (count 0 (length-map l g z))
+    (outputs
+    (written (map-map (λ b. handleRow (report b)) g l z) (o .handles))
+    (written (map-map (λ b. placeRow (report b)) g l z) (o .places))
+    (written (map-map (λ b. report b .obj) g l z) (o .objs)))
 
 module _ (t : Tables) (h : Holds t) where
   pub stocked : Stocked (t .pool) (t .spots) (usedOf t)
@@ -67,7 +71,7 @@ module _ (js o fs : List ℕ) (n : ℕ) (en : n ≡ length js) (ef : fs ≡ writ
       let m : k < length js = omega arith in
       subst P (sym (ap (λ (l : List ℕ). getD l k 0) ef ∙ List·getD-append js (drop (length js) o) 0 k m)) (all-at P 0 js k m f)
 
-module _ (t : Tables) (ok : Bool) (ll ur : Position) (test : Test) (handles : List (List ℕ)) (places : List (List Float)) where
+module _ (t : Tables) (ok : Bool) (ll ur : Position) (test : Test) (o : Outputs) where
   abbrev js : List ℕ
   js = placesOf (cellAt (sizeOf t) ll) (cellAt (sizeOf t) ur) test (t .pool) (t .spots) (usedOf t)
 
@@ -78,32 +82,32 @@ module _ (t : Tables) (ok : Bool) (ll ur : Position) (test : Test) (handles : Li
     number-js : length (found t ll ur test) ≡ length js
     number-js = ap length found-js ∙ length-map js (entryAt (t .pool) (t .spots))
 
-    reported-js : reportOf (findingOn t) (found t ll ur test) (outputs handles places) ≡ reportOf (findingAt (t .nums) (t .pool) (t .spots)) js (outputs handles places)
+    reported-js : reportOf (findingOn t) (found t ll ur test) o ≡ reportOf (findingAt (t .nums) (t .pool) (t .spots)) js o
     reported-js =
-        ap (λ (es : List Entry). reportOf (findingOn t) es (outputs handles places)) found-js
-        ∙ reported-map (findingOn t) (entryAt (t .pool) (t .spots)) js handles places
+        ap (λ (es : List Entry). reportOf (findingOn t) es o) found-js
+        ∙ reported-map (findingOn t) (entryAt (t .pool) (t .spots)) js o
 
     search-filled : ok ≡ true → cellsIn (cellAt (sizeOf t) ll) (cellAt (sizeOf t) ur) ≤ mostCells
-        → filled (t .nums) (t .pool) (t .spots) js handles places ≡ searchOf t ok ll ur test handles places
+        → filled (t .nums) (t .pool) (t .spots) js o ≡ searchOf t ok ll ur test o
     search-filled g l =
-        let n = room (outputs handles places) in
+        let n = room o in
         by-test (leb (length js) n)
         (λ q.
         let m = leb-true (length js) n q in
-        sym (filled-0 (t .nums) (t .pool) (t .spots) js handles places m)
+        sym (filled-0 (t .nums) (t .pool) (t .spots) js o m)
         ∙ sym reported-js
-        ∙ search-0 t ok ll ur test handles places held g l (omega (arith, number-js, m)))
+        ∙ search-0 t ok ll ur test o held g l (omega (arith, number-js, m)))
         (λ q.
         let m = leb-false (length js) n q in
-        sym (filled-9 (t .nums) (t .pool) (t .spots) js handles places m)
-        ∙ sym (ap (λ (n : ℕ). findings (count 9 n) handles places) number-js)
-        ∙ search-9 t ok ll ur test handles places held g l (omega (arith, number-js, m)))
+        sym (filled-9 (t .nums) (t .pool) (t .spots) js o m)
+        ∙ sym (ap (λ (n : ℕ). findings (count 9 n) o) number-js)
+        ∙ search-9 t ok ll ur test o held g l (omega (arith, number-js, m)))
 
     -- the same of two cells and a number that are those of the range and of the tables
     pub search-done : (f : Findings) (a b : Cell) (used : ℕ) → a ≡ cellAt (sizeOf t) ll → b ≡ cellAt (sizeOf t) ur → used ≡ usedOf t
-        → f ≡ filled (t .nums) (t .pool) (t .spots) (placesOf a b test (t .pool) (t .spots) used) handles places
-        → ok ≡ true → cellsIn (cellAt (sizeOf t) ll) (cellAt (sizeOf t) ur) ≤ mostCells → f ≡ searchOf t ok ll ur test handles places
+        → f ≡ filled (t .nums) (t .pool) (t .spots) (placesOf a b test (t .pool) (t .spots) used) o
+        → ok ≡ true → cellsIn (cellAt (sizeOf t) ll) (cellAt (sizeOf t) ur) ≤ mostCells → f ≡ searchOf t ok ll ur test o
     search-done f a b used ea eb eu ef g l =
         ef
-        ∙ (λ z. filled (t .nums) (t .pool) (t .spots) (placesOf (ea z) (eb z) test (t .pool) (t .spots) (eu z)) handles places)
+        ∙ (λ z. filled (t .nums) (t .pool) (t .spots) (placesOf (ea z) (eb z) test (t .pool) (t .spots) (eu z)) o)
         ∙ search-filled g l

@@ -1,6 +1,5 @@
 -- The search, answer by answer. Assumes nothing.
-use Rattle.basics.specs.Words.{ℕ, _<_, _≤_, _≡_, Bool, true, false, List, length, le-leb, lt-leb}
-use lib.Ieee.{Float}
+use Rattle.basics.specs.Words.{ℕ, _<_, _≤_, _≡_, Bool, true, false, length, le-leb, lt-leb}
 use Rattle.basics.specs.Meaning.Limits.{mostCells}
 use Rattle.geometry.specs.declared.Position.{Position}
 use Rattle.cells.specs.Meaning.CellRule.{cellAt}
@@ -8,10 +7,10 @@ use Rattle.cells.specs.Meaning.Range.{cellsIn}
 use Rattle.point_tables.specs.Meaning.Tables.{Tables, sizeOf}
 use Rattle.point_tables.specs.Meaning.Decide.{holds}
 use Rattle.point_search.specs.declared.Test.{Test}
-use Rattle.point_search.specs.Meaning.Searches.{found, findingOn, outputs, room, findings, reportOf, searchAnswer, searchOf}
+use Rattle.point_search.specs.Meaning.Searches.{found, findingOn, Outputs, room, findings, reportOf, searchAnswer, searchOf}
 use Rattle.replies.specs.Meaning.Replies.{count}
 
-module _ (t : Tables) (ok : Bool) (ll ur : Position) (test : Test) (handles : List (List ℕ)) (places : List (List Float)) where
+module _ (t : Tables) (ok : Bool) (ll ur : Position) (test : Test) (o : Outputs) where
   abbrev cellsOf : ℕ
   cellsOf = cellsIn (cellAt (sizeOf t) ll) (cellAt (sizeOf t) ur)
 
@@ -19,25 +18,25 @@ module _ (t : Tables) (ok : Bool) (ll ur : Position) (test : Test) (handles : Li
   number = length (found t ll ur test)
 
   abbrev places-there : ℕ
-  places-there = room (outputs handles places)
+  places-there = room o
 
-  pub search-3 : holds t ≡ false → findings (count 3 0) handles places ≡ searchOf t ok ll ur test handles places
+  pub search-3 : holds t ≡ false → findings (count 3 0) o ≡ searchOf t ok ll ur test o
   unfolding searchOf searchAnswer
   search-3 e = simp e
 
-  pub search-6 : holds t ≡ true → ok ≡ false → findings (count 6 0) handles places ≡ searchOf t ok ll ur test handles places
+  pub search-6 : holds t ≡ true → ok ≡ false → findings (count 6 0) o ≡ searchOf t ok ll ur test o
   unfolding searchOf searchAnswer
   search-6 e f = simp (e, f)
 
-  pub search-7 : holds t ≡ true → ok ≡ true → mostCells < cellsOf → findings (count 7 0) handles places ≡ searchOf t ok ll ur test handles places
+  pub search-7 : holds t ≡ true → ok ≡ true → mostCells < cellsOf → findings (count 7 0) o ≡ searchOf t ok ll ur test o
   unfolding searchOf searchAnswer
   search-7 e f l = simp (e, f, lt-leb cellsOf mostCells l)
 
-  pub search-9 : holds t ≡ true → ok ≡ true → cellsOf ≤ mostCells → places-there < number → findings (count 9 number) handles places ≡ searchOf t ok ll ur test handles places
+  pub search-9 : holds t ≡ true → ok ≡ true → cellsOf ≤ mostCells → places-there < number → findings (count 9 number) o ≡ searchOf t ok ll ur test o
   unfolding searchOf searchAnswer
   search-9 e f l m = simp (e, f, le-leb cellsOf mostCells l, lt-leb number places-there m)
 
   pub search-0 : holds t ≡ true → ok ≡ true → cellsOf ≤ mostCells → number ≤ places-there
-      → reportOf (findingOn t) (found t ll ur test) (outputs handles places) ≡ searchOf t ok ll ur test handles places
+      → reportOf (findingOn t) (found t ll ur test) o ≡ searchOf t ok ll ur test o
   unfolding searchOf searchAnswer
   search-0 e f l m = simp (e, f, le-leb cellsOf mostCells l, le-leb number places-there m)

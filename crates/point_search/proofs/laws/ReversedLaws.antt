@@ -1,7 +1,6 @@
 -- A reversed range has no cells and nothing is found in it. Assumes nothing.
-use Rattle.basics.specs.Words.{ℕ, _≡_, refl, sym, ap, _∙_, true, false, List, [], _⊎_, ⊎-elim, length, arith}
+use Rattle.basics.specs.Words.{_≡_, refl, sym, ap, _∙_, true, false, List, [], _⊎_, ⊎-elim, length, arith}
 use lib.Signed.{leZ}
-use lib.Ieee.{Float}
 use Rattle.geometry.specs.declared.Position.{Position}
 use Rattle.cells.specs.declared.Cell.{Cell}
 use Rattle.cells.specs.Meaning.CellRule.{cellAt}
@@ -13,7 +12,7 @@ use Rattle.storage.specs.Meaning.Walk.{listsOf, walked}
 use Rattle.point_tables.specs.Meaning.Tables.{Tables, sizeOf, entriesIn}
 use Rattle.point_tables.specs.Meaning.Decide.{holds}
 use Rattle.point_search.specs.declared.Test.{Test}
-use Rattle.point_search.specs.Meaning.Searches.{passes, positionOf, found, findingOn, outputs, findings, reportOf, searchOf}
+use Rattle.point_search.specs.Meaning.Searches.{passes, positionOf, found, findingOn, Outputs, findings, reportOf, searchOf}
 use Rattle.point_search.proofs.laws.FindLaws.{search-0}
 use Rattle.replies.specs.Meaning.Replies.{count}
 
@@ -33,8 +32,8 @@ module _ (t : Tables) (ll ur : Position) (r : Reversed (cellAt (sizeOf t) ll) (c
   reversed-found = ap (λ (cs : List Cell). filter (λ e. passes test (positionOf e)) (listsOf entryKey cs (entriesIn t))) (no-cells (cellAt (sizeOf t) ll) (cellAt (sizeOf t) ur) r)
 
   -- done, with nothing found and nothing written
-  pub reversed-search : (handles : List (List ℕ)) (places : List (List Float)) → holds t ≡ true → findings (count 0 0) handles places ≡ searchOf t true ll ur test handles places
-  reversed-search handles places h =
+  pub reversed-search : (o : Outputs) → holds t ≡ true → findings (count 0 0) o ≡ searchOf t true ll ur test o
+  reversed-search o h =
       let n = reversed-cells (cellAt (sizeOf t) ll) (cellAt (sizeOf t) ur) r in
-      ap (λ (es : List Entry). reportOf (findingOn t) es (outputs handles places)) (sym reversed-found)
-      ∙ search-0 t true ll ur test handles places h refl (omega arith) (omega (arith, ap length reversed-found))
+      ap (λ (es : List Entry). reportOf (findingOn t) es o) (sym reversed-found)
+      ∙ search-0 t true ll ur test o h refl (omega arith) (omega (arith, ap length reversed-found))

@@ -9,7 +9,7 @@ use Rattle.point_tables.specs.Meaning.Tables.{Tables, tables, sizeOf}
 use Rattle.point_tables.specs.Meaning.Holds.{Holds}
 use Rattle.point_tables.specs.Meaning.Decide.{holds, holds-says}
 use Rattle.replies.specs.declared.Count.{Count}
-use Rattle.point_search.specs.Meaning.Searches.{findings}
+use Rattle.point_search.specs.Meaning.Searches.{Outputs, outputs, findings}
 use Rattle.point_search.specs.Inner.Fill.{Stocked}
 use Rattle.point_search.proofs.laws.FindLaws.{search-3, search-6, search-7}
 use Rattle.point_search.proofs.laws.FillLaws.{stocked, findable, search-done}
@@ -19,9 +19,12 @@ use Rattle.point_search.proofs.search.Tie as tie
 abbrev lent : tie.Start → Tables
 lent s = tables (s .args .nums .now) (s .args .reals .now) (s .args .ints .now) (s .args .map .now) (s .args .pool .now) (s .args .spots .now) (s .args .cells .now)
 
+abbrev given : tie.Start → Outputs
+given s = outputs (s .args .handles .now) (s .args .places .now) (s .args .objs .now)
+
 -- the start, of a search whose tables hold a grid
 abbrev start : tie.Else1 → tie.Start
-start e = e .before .before .before
+start e = e .before .before .before .before
 
 held : (e : tie.Else1) → holds (lent (start e)) ≡ true
 held e = sym (e .before .check .ensures) ∙ not-false _ (e .if1 .left)
@@ -38,18 +41,18 @@ reached e = start (e .before) .pre (fine e)
 returns : tie.Need-returns
 returns c =
     let k = c .before .before in
-    let s = k .before .before in
+    let s = k .before .before .before in
     let a = s .args in
-    ap (λ (k : Count). findings k (a .handles .now) (a .places .now)) (c .refused .ensures)
-    ∙ search-3 (lent s) (a .ok) (a .ll) (a .ur) (a .test) (a .handles .now) (a .places .now) (sym (k .check .ensures) ∙ not-true _ (c .before .if1 .taken))
+    ap (λ (k : Count). findings k (given s)) (c .refused .ensures)
+    ∙ search-3 (lent s) (a .ok) (a .ll) (a .ur) (a .test) (given s) (sym (k .check .ensures) ∙ not-true _ (c .before .if1 .taken))
 
 returns-2 : tie.Need-returns-2
 returns-2 c =
     let e = c .before .before in
     let s = start e in
     let a = s .args in
-    ap (λ (k : Count). findings k (a .handles .now) (a .places .now)) (c .refused2 .ensures)
-    ∙ search-6 (lent s) (a .ok) (a .ll) (a .ur) (a .test) (a .handles .now) (a .places .now) (held e) (not-true _ (c .before .if2 .taken))
+    ap (λ (k : Count). findings k (given s)) (c .refused2 .ensures)
+    ∙ search-6 (lent s) (a .ok) (a .ll) (a .ur) (a .test) (given s) (held e) (not-true _ (c .before .if2 .taken))
 
 near-a : (c : tie.After-cell-at2) → Near (c .before .cell-at .result)
 near-a c = let s = start (c .before .before .before .before) in subst Near (sym (c .before .cell-at .ensures)) (cell-near (sizeOf (lent s)) (s .args .ll) (reached (c .before .before .before) .0))
@@ -67,12 +70,12 @@ returns-3 c =
     let e = n .before .before .before .before in
     let s = start (e .before) in
     let a = s .args in
-    ap (λ (k : Count). findings k (a .handles .now) (a .places .now)) (c .refused3 .ensures)
-    ∙ search-7 (lent s) (a .ok) (a .ll) (a .ur) (a .test) (a .handles .now) (a .places .now) (held (e .before)) (fine e) (omega (arith, number n, c .before .if3 .taken))
+    ap (λ (k : Count). findings k (given s)) (c .refused3 .ensures)
+    ∙ search-7 (lent s) (a .ok) (a .ll) (a .ur) (a .test) (given s) (held (e .before)) (fine e) (omega (arith, number n, c .before .if3 .taken))
 
 fill-requires : tie.Need-fill-requires
 fill-requires c κs =
-    let i = c .before .before in
+    let i = c .before .before .before in
     let n = i .before .before .before in
     let e = n .before .before .before .before .before in
     let h = whole e in
@@ -86,16 +89,16 @@ fill-requires c κs =
 
 returns-4 : tie.Need-returns-4
 returns-4 c =
-    let f = c .before .before in
-    let i = f .before .before .before in
+    let f = c .before .before .before .before in
+    let i = f .before .before .before .before in
     let x = i .before .before in
     let n = x .before in
     let e = n .before .before .before .before in
     let s = start (e .before) in
     let a = s .args in
     let t = lent s in
-    search-done t (a .ok) (a .ll) (a .ur) (a .test) (a .handles .now) (a .places .now) (held (e .before)) (reached e .0) (reached e .1)
-    (findings (f .fill .result) (f .fill .last .1 .1 .1 .1 .1 .1 .1 .0) (f .fill .last .1 .1 .1 .1 .1 .1 .1 .1 .0)) (n .before .before .cell-at .result) (n .before .cell-at2 .result) (i .index-of .result)
+    search-done t (a .ok) (a .ll) (a .ur) (a .test) (given s) (held (e .before)) (reached e .0) (reached e .1)
+    (findings (f .fill .result) (outputs (f .fill .last .1 .1 .1 .1 .1 .1 .1 .0) (f .fill .last .1 .1 .1 .1 .1 .1 .1 .1 .0) (f .fill .last .1 .1 .1 .1 .1 .1 .1 .1 .1 .0))) (n .before .before .cell-at .result) (n .before .cell-at2 .result) (i .index-of .result)
     (n .before .before .cell-at .ensures) (n .before .cell-at2 .ensures) (i .index-of .ensures) (f .fill .ensures) (fine e) (omega (arith, number n, x .if3 .left))
 
 pub search-spec : {M : Type 1} → statement M
@@ -116,6 +119,7 @@ search-spec =
     (λ c. omega (arith, whole (c .before .before .before .before .before .before .before) .sized .of-map))
     (λ c κs. search needs)
     fill-requires
+    (λ c. search needs)
     (λ c. search needs)
     (λ c. search needs)
     returns-4)

@@ -7,9 +7,9 @@ use Rattle.cells.specs.Inner.Numbers.{Near}
 use Rattle.storage.specs.Meaning.Keyed.{written}
 use Rattle.point_search.specs.declared.Part.{Part}
 use Rattle.point_search.specs.declared.Test.{Test}
-use Rattle.point_search.specs.Meaning.Searches.{outputs, filling, Findings}
+use Rattle.point_search.specs.Meaning.Searches.{Outputs, filling, Findings}
 use Rattle.point_search.specs.Inner.Places.{placesOf, stretchPlaces}
-use Rattle.point_search.specs.Inner.Fill.{findingAt, handleRowAt, placeRowAt, filled, Stocked, Findable}
+use Rattle.point_search.specs.Inner.Fill.{findingAt, handleRowAt, placeRowAt, objAt, filled, Stocked, Findable}
 use Rattle.point_search.specs.Inner.Begun.{Begun}
 
 -- what a search asks for: sorted columns, corners near enough, and a slot for each entry in use
@@ -18,8 +18,8 @@ Searchable a b nums pool spots used =
     Stocked pool spots used × Near a × Near b × (length nums ≤ mostSlots) × ((j : ℕ) → j < used → Findable nums pool spots j)
 
 -- what a search writes and returns
-abbrev pub searchFills : Cell → Cell → Test → List (List ℕ) → List (List ℕ) → List (List Float) → ℕ → List (List ℕ) → List (List Float) → Findings
-searchFills a b test nums pool spots used handles places = filled nums pool spots (placesOf a b test pool spots used) handles places
+abbrev pub searchFills : Cell → Cell → Test → List (List ℕ) → List (List ℕ) → List (List Float) → ℕ → Outputs → Findings
+searchFills a b test nums pool spots used o = filled nums pool spots (placesOf a b test pool spots used) o
 
 -- a part has collected the places below its own
 abbrev pub BegunBy : Cell → Cell → Test → List (List ℕ) → List (List Float) → Part → List ℕ → Type 0
@@ -35,13 +35,13 @@ abbrev pub Reportable : List (List ℕ) → List (List ℕ) → List (List Float
 Reportable nums pool spots found r = (r ≤ length found) × (length nums ≤ mostSlots) × ((k : ℕ) → k < r → Findable nums pool spots (getD found k 0))
 
 -- the outputs after the findings of the places js are written, from place 0 on
-abbrev pub Reported : List (List ℕ) → List (List ℕ) → List (List Float) → List ℕ → List (List ℕ) → List (List Float) → List (List ℕ) → List (List Float) → Type 0
-Reported nums pool spots js handles places handles′ places′ = outputs handles′ places′ ≡ filling (findingAt nums pool spots) js (outputs handles places)
+abbrev pub Reported : List (List ℕ) → List (List ℕ) → List (List Float) → List ℕ → Outputs → Outputs → Type 0
+Reported nums pool spots js o o′ = o′ ≡ filling (findingAt nums pool spots) js o
 
 -- the same of all that a search is for, and r is their number
-abbrev pub SearchReported : Cell → Cell → Test → List (List ℕ) → List (List ℕ) → List (List Float) → ℕ → List (List ℕ) → List (List Float) → ℕ → List (List ℕ) → List (List Float) → Type 0
-SearchReported a b test nums pool spots used handles places r handles′ places′ =
-    (r ≡ length (placesOf a b test pool spots used)) × Reported nums pool spots (placesOf a b test pool spots used) handles places handles′ places′
+abbrev pub SearchReported : Cell → Cell → Test → List (List ℕ) → List (List ℕ) → List (List Float) → ℕ → Outputs → ℕ → Outputs → Type 0
+SearchReported a b test nums pool spots used o r o′ =
+    (r ≡ length (placesOf a b test pool spots used)) × Reported nums pool spots (placesOf a b test pool spots used) o o′
 
 -- the places of a stretch that pass stand behind the first n; r is the place behind them
 abbrev pub StretchGathered : Test → List (List Float) → ℕ → ℕ → ℕ → List ℕ → ℕ → List ℕ → Type 0
@@ -49,19 +49,23 @@ StretchGathered test spots from to n places r places′ =
     (r ≡ n + length (stretchPlaces test spots from to)) × (places′ ≡ written (take n places ++ stretchPlaces test spots from to) places)
 
 -- their findings do so in the outputs
-abbrev pub StretchReported : Test → List (List ℕ) → List (List ℕ) → List (List Float) → ℕ → ℕ → ℕ → List (List ℕ) → List (List Float) → ℕ → List (List ℕ) → List (List Float) → Type 0
-StretchReported test nums pool spots from to n handles places r handles′ places′ =
+abbrev pub StretchReported : Test → List (List ℕ) → List (List ℕ) → List (List Float) → ℕ → ℕ → ℕ → Outputs → ℕ → Outputs → Type 0
+StretchReported test nums pool spots from to n o r o′ =
     (r ≡ n + length (stretchPlaces test spots from to))
-    × (handles′ ≡ written (take n handles ++ map (handleRowAt nums pool spots) (stretchPlaces test spots from to)) handles)
-    × (places′ ≡ written (take n places ++ map (placeRowAt nums pool spots) (stretchPlaces test spots from to)) places)
+    × (o′ .handles ≡ written (take n (o .handles) ++ map (handleRowAt nums pool spots) (stretchPlaces test spots from to)) (o .handles))
+    × (o′ .places ≡ written (take n (o .places) ++ map (placeRowAt nums pool spots) (stretchPlaces test spots from to)) (o .places))
+    × (o′ .objs ≡ written (take n (o .objs) ++ map (objAt nums pool spots) (stretchPlaces test spots from to)) (o .objs))
+
+-- every output has n places
+abbrev pub RoomFor : ℕ → Outputs → Type 0
+RoomFor n o = (n ≤ length (o .handles)) × (n ≤ length (o .places)) × (n ≤ length (o .objs))
 
 -- what reporting a stretch asks for: room behind the first n findings, and a slot for each entry below its end
-abbrev pub StretchReportable : List (List ℕ) → List (List ℕ) → List (List Float) → ℕ → ℕ → ℕ → List (List ℕ) → List (List Float) → Type 0
-StretchReportable nums pool spots from to n handles places =
+abbrev pub StretchReportable : List (List ℕ) → List (List ℕ) → List (List Float) → ℕ → ℕ → ℕ → Outputs → Type 0
+StretchReportable nums pool spots from to n o =
     (n ≤ from)
     × (from ≤ to)
     × (to ≤ mostSlots)
-    × (to ≤ length handles)
-    × (to ≤ length places)
+    × RoomFor to o
     × (length nums ≤ mostSlots)
     × ((j : ℕ) → j < to → Findable nums pool spots j)

@@ -1,6 +1,6 @@
 -- What a search writes of the places that it collected, and what it returns: 9 with the number found if an output is too short.
 -- Assumes nothing.
-use Rattle.basics.specs.Words.{ℕ, _<_, _≤_, List, length, take, leb}
+use Rattle.basics.specs.Words.{ℕ, _<_, _≤_, List, [], length, getD, take, leb}
 use lib.Ieee.{Float}
 use Rattle.basics.specs.Meaning.Limits.{mostSlots}
 use Rattle.basics.specs.Meaning.Refusals.{pick}
@@ -10,12 +10,14 @@ use Rattle.storage.specs.Meaning.Packed.{second}
 use Rattle.point_records.specs.declared.Entry.{Entry}
 use Rattle.point_records.specs.Inner.Listed.{listedAt}
 use Rattle.point_search.specs.declared.Finding.{Finding}
-use Rattle.point_search.specs.Meaning.Searches.{finding, handleRow, placeRow, outputs, room, Findings, findings, reportOf}
+use Rattle.point_search.specs.Meaning.Searches.{handleRow, placeRow, Outputs, room, Findings, findings, reportOf}
 use Rattle.replies.specs.Meaning.Replies.{count}
 
--- what is reported of an entry
+-- what is reported of an entry: version and data are the first and the third number of its slot's row
 abbrev pub findingOf : List (List ℕ) → Entry → Finding
-findingOf nums e = finding nums (e .slot) (e .position)
+findingOf nums e =
+    let row = getD nums (e .slot) [] in
+    record { handle = record { slot = e .slot; version = getD row 0 0 }; position = e .position; obj = getD row 2 0 }
 
 -- the same of the entry at a place
 abbrev pub findingAt : List (List ℕ) → List (List ℕ) → List (List Float) → ℕ → Finding
@@ -27,11 +29,12 @@ handleRowAt nums pool spots j = handleRow (findingAt nums pool spots j)
 abbrev pub placeRowAt : List (List ℕ) → List (List ℕ) → List (List Float) → ℕ → List Float
 placeRowAt nums pool spots j = placeRow (findingAt nums pool spots j)
 
-unfoldable pub filled : List (List ℕ) → List (List ℕ) → List (List Float) → List ℕ → List (List ℕ) → List (List Float) → Findings
-filled nums pool spots js handles places =
-    pick (leb (length js) (room (outputs handles places)))
-    (reportOf (findingAt nums pool spots) js (outputs handles places))
-    (findings (count 9 (length js)) handles places)
+abbrev pub objAt : List (List ℕ) → List (List ℕ) → List (List Float) → ℕ → ℕ
+objAt nums pool spots j = findingAt nums pool spots j .obj
+
+unfoldable pub filled : List (List ℕ) → List (List ℕ) → List (List Float) → List ℕ → Outputs → Findings
+filled nums pool spots js o =
+    pick (leb (length js) (room o)) (reportOf (findingAt nums pool spots) js o) (findings (count 9 (length js)) o)
 
 -- what a search asks of the columns: the first `used` rows of the pool are sorted, with a spot beside each
 pub record Stocked (pool : List (List ℕ)) (spots : List (List Float)) (used : ℕ) : Type 0 where

@@ -1,5 +1,5 @@
 -- The search that the three queries of a point grid are: the entries of a range that pass a test, in range order and then in list order; a
--- finding is handle and position. Assumes nothing.
+-- finding is handle, position and data. Assumes nothing.
 use Rattle.basics.specs.Words.{ℕ, min, Bool, true, List, [], _∷_, map, length, eqb, leb}
 use lib.Ieee.{Float}
 use Rattle.basics.specs.Meaning.Limits.{mostCells}
@@ -14,7 +14,7 @@ use Rattle.storage.specs.Meaning.Keyed.{filter, written}
 use Rattle.storage.specs.Meaning.Entries.{Entry, entryKey}
 use Rattle.storage.specs.Meaning.Walk.{walked}
 use Rattle.point_records.specs.Meaning.Columns.{positionIn}
-use Rattle.point_tables.specs.Meaning.Tables.{Tables, sizeOf, entriesIn, slotOf}
+use Rattle.point_tables.specs.Meaning.Tables.{Tables, sizeOf, recordOn, entriesIn, slotOf}
 use Rattle.point_tables.specs.Meaning.Decide.{holds}
 use Rattle.point_search.specs.declared.Finding.{Finding}
 use Rattle.point_search.specs.declared.Test.{Test}
@@ -34,48 +34,51 @@ positionOf e = positionIn (e .spot)
 unfoldable pub found : Tables → Position → Position → Test → List Entry
 found t ll ur test = filter (λ e. passes test (positionOf e)) (walked entryKey (cellAt (sizeOf t) ll) (cellAt (sizeOf t) ur) (entriesIn t))
 
--- ---- a finding: the handle of a slot, and a position
-abbrev pub finding : List (List ℕ) → ℕ → Position → Finding
-finding nums s p = record { handle = record { slot = s; version = versionAt nums s }; position = p }
-
--- what is reported of an entry
+-- ---- a finding: the handle of a slot, a position, and the slot's data
 abbrev pub findingOn : Tables → Entry → Finding
-findingOn t e = finding (t .nums) (slotOf e) (positionOf e)
+findingOn t e =
+    let s = slotOf e in
+    record { handle = record { slot = s; version = versionAt (t .nums) s }; position = positionOf e; obj = recordOn t s .obj }
 
--- its rows: (slot, version) and (x, y)
+-- its rows: (slot, version) and (x, y); its data is a number
 abbrev pub handleRow : Finding → List ℕ
 handleRow f = f .handle .slot ∷ f .handle .version ∷ []
 
 abbrev pub placeRow : Finding → List Float
 placeRow f = f .position .x ∷ f .position .y ∷ []
 
--- ---- the outputs of a query: a column for each row of a finding
+-- ---- the outputs of a query: a column for each part of a finding
 pub record Outputs : Type 0 where
   pub handles : List (List ℕ)
   pub places : List (List Float)
+  pub objs : List ℕ
 
-abbrev pub outputs : List (List ℕ) → List (List Float) → Outputs
-outputs h p = record { handles = h; places = p }
+abbrev pub outputs : List (List ℕ) → List (List Float) → List ℕ → Outputs
+outputs h p o = record { handles = h; places = p; objs = o }
 
 -- the places that every column has
 abbrev pub room : Outputs → ℕ
-room o = min (length (o .handles)) (length (o .places))
+room o = min (length (o .handles)) (min (length (o .places)) (length (o .objs)))
 
 -- what is reported of each of a list, from place 0 of every column on
 abbrev pub filling : {A : Type 0} → (A → Finding) → List A → Outputs → Outputs
-filling report l o = outputs (written (map (λ a. handleRow (report a)) l) (o .handles)) (written (map (λ a. placeRow (report a)) l) (o .places))
+filling report l o =
+    outputs
+    (written (map (λ a. handleRow (report a)) l) (o .handles))
+    (written (map (λ a. placeRow (report a)) l) (o .places))
+    (written (map (λ a. report a .obj) l) (o .objs))
 
 -- ---- what a query returns, and its outputs after it
 pub record Findings : Type 0 where
   pub returned : Count
   pub outputs : Outputs
 
-abbrev pub findings : Count → List (List ℕ) → List (List Float) → Findings
-findings c h p = record { returned = c; outputs = outputs h p }
+abbrev pub findings : Count → Outputs → Findings
+findings c o = record { returned = c; outputs = o }
 
 -- done: the number found, and the findings in the outputs
 abbrev pub reportOf : {A : Type 0} → (A → Finding) → List A → Outputs → Findings
-reportOf report l o = record { returned = count 0 (length l); outputs = filling report l o }
+reportOf report l o = findings (count 0 (length l)) (filling report l o)
 
 -- ---- the search that the three queries are. `ok` says whether their numbers are in the domain
 abbrev pub searchTests : Tables → Bool → Position → Position → Test → ℕ → List Refusal
@@ -91,10 +94,10 @@ unfolding found
 searchAnswer t ok ll ur test room = firstOf (searchTests t ok ll ur test room)
 
 -- 9 returns the number found
-unfoldable pub searchOf : Tables → Bool → Position → Position → Test → List (List ℕ) → List (List Float) → Findings
+unfoldable pub searchOf : Tables → Bool → Position → Position → Test → Outputs → Findings
 unfolding searchAnswer found
-searchOf t ok ll ur test handles places =
+searchOf t ok ll ur test o =
     let es = found t ll ur test in
-    byTests (searchTests t ok ll ur test (room (outputs handles places)))
-    (reportOf (findingOn t) es (outputs handles places))
-    (λ a. findings (count a (pick (eqb a 9) (length es) 0)) handles places)
+    byTests (searchTests t ok ll ur test (room o))
+    (reportOf (findingOn t) es o)
+    (λ a. findings (count a (pick (eqb a 9) (length es) 0)) o)

@@ -9,7 +9,7 @@ use Rattle.storage.proofs.laws.FilterLaws.{by-test}
 use Rattle.point_records.specs.declared.Record.{Record}
 use Rattle.point_tables.specs.Meaning.Tables.{Tables}
 use Rattle.point_deferred.specs.Meaning.Calls.{Call as Deferred, callOf, tablesAfter}
-use Rattle.point_search.specs.Meaning.Searches.{Findings, findings}
+use Rattle.point_search.specs.Meaning.Searches.{Outputs, Findings, findings}
 use Rattle.point_query.specs.Meaning.Queries.{aroundOf}
 use Rattle.whereabouts.specs.Meaning.Report.{ReportedAt, Reports, Due}
 use Rattle.whereabouts.proofs.laws.StandsLaws.{Settled}
@@ -32,24 +32,24 @@ frame-is [] u = refl
 frame-is (c ∷ cs) u = ap (columnsAfter (frame cs)) (deferred-is u c) ∙ frame-is cs (callOf u c .after)
 
 -- the records rs beside t are the grid of u; the calls cs, maintain, and a circle
-module _ (rs : List Record) (t u : Tables) (g : SameGrid rs t u) (cs : List Deferred) (centre : Position) (radius : Float) (handles : List (List ℕ)) (places : List (List Float)) where
+module _ (rs : List Record) (t u : Tables) (g : SameGrid rs t u) (cs : List Deferred) (centre : Position) (radius : Float) (o : Outputs) where
   abbrev report : Findings
-  report = reportAfter rs t cs centre radius handles places
+  report = reportAfter rs t cs centre radius o
 
   after-frame : SameGrid (tableAfter (frame cs) rs t) (besidesAfter (frame cs) rs t) (nextMaintain u cs .after)
   after-frame = subst (SameGrid (tableAfter (frame cs) rs t) (besidesAfter (frame cs) rs t)) (frame-is cs u) (history-after (frame cs) rs t u g)
 
-  pub same-report : report ≡ aroundOf (nextMaintain u cs .after) centre radius handles places
+  pub same-report : report ≡ aroundOf (nextMaintain u cs .after) centre radius o
   same-report =
       read-same (tableAfter (frame cs) rs t) (besidesAfter (frame cs) rs t) (nextMaintain u cs .after) after-frame
-      (λ w. aroundOf w centre radius handles places) (findings (count 3 0) handles places) (around-reads centre radius handles places)
+      (λ w. aroundOf w centre radius o) (findings (count 3 0) o) (around-reads centre radius o)
 
   module _ (s : Settled u) (a : report .returned .answer ≡ 0) where
-    answered : aroundOf (nextMaintain u cs .after) centre radius handles places .returned .answer ≡ 0
-    answered = ap (λ (o : Findings). o .returned .answer) (sym same-report) ∙ a
+    answered : aroundOf (nextMaintain u cs .after) centre radius o .returned .answer ≡ 0
+    answered = ap (λ (f : Findings). f .returned .answer) (sym same-report) ∙ a
 
-    pub demand-3-records : (h : Handle) (p : Position) → (Reports report h p → Due u cs centre radius h p) × (Due u cs centre radius h p → Reports report h p)
-    demand-3-records h p = rw same-report (circle-reports u s cs centre radius handles places answered h p)
+    pub demand-3-records : (h : Handle) (p : Position) (d : ℕ) → (Reports report h p d → Due u cs centre radius h p d) × (Due u cs centre radius h p d → Reports report h p d)
+    demand-3-records h p d = rw same-report (circle-reports u s cs centre radius o answered h p d)
 
-    pub demand-3-records-once : (i j : ℕ) (h k : Handle) (p q : Position) → ReportedAt report i h p → ReportedAt report j k q → h .slot ≡ k .slot → i ≡ j
-    demand-3-records-once = rw same-report (reports-once u s cs centre radius handles places answered)
+    pub demand-3-records-once : (i j : ℕ) (h k : Handle) (p q : Position) (d e : ℕ) → ReportedAt report i h p d → ReportedAt report j k q e → h .slot ≡ k .slot → i ≡ j
+    demand-3-records-once = rw same-report (reports-once u s cs centre radius o answered)

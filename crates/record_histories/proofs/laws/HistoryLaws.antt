@@ -67,7 +67,7 @@ module _ (rs : List Record) (t u : Tables) (g : SameGrid rs t u) where
   same-answer maintain = ap settled (call-same rs t u g maintainOf (maintainedCounts 3 0 0) maintain-respects maintain-keeps maintain-slots)
   same-answer (get k) = ap gotten (read-same rs t u g (λ w. getOf w k) (got 3 zero-position 0) (get-reads k))
   same-answer len = ap counted (read-same rs t u g lenOf (count 3 0) len-reads)
-  same-answer (around c r handles places) = ap found (read-same rs t u g (λ w. aroundOf w c r handles places) (findings (count 3 0) handles places) (around-reads c r handles places))
+  same-answer (around c r o) = ap found (read-same rs t u g (λ w. aroundOf w c r o) (findings (count 3 0) o) (around-reads c r o))
 
   pub same-after : (c : RecordCall) → SameGrid (onTable c rs t .records) (onTable c rs t .after) (onColumns c u .after)
   unfolding onTable onColumns
@@ -77,7 +77,7 @@ module _ (rs : List Record) (t u : Tables) (g : SameGrid rs t u) where
   same-after maintain = call-after rs t u g maintainOf (maintainedCounts 3 0 0) maintain-respects maintain-keeps maintain-slots
   same-after (get k) = read-after rs t u g
   same-after len = read-after rs t u g
-  same-after (around c r handles places) = read-after rs t u g
+  same-after (around c r o) = read-after rs t u g
 
 -- ---- a history
 pub history-answers : (cs : List RecordCall) (rs : List Record) (t u : Tables) → SameGrid rs t u → recordAnswers cs rs t ≡ columnAnswers cs u

@@ -12,7 +12,7 @@ use Rattle.point_tables.specs.Meaning.Holds.{Holds}
 use Rattle.point_get.specs.Meaning.{liveHandles, getOf, lenOf}
 use Rattle.storage.specs.Meaning.Entries.{rowItem}
 use Rattle.point_search.specs.declared.Test.the-variants.{Circle}
-use Rattle.point_search.specs.Meaning.Searches.{found, findingOn, handleRow, searchAnswer, searchOf}
+use Rattle.point_search.specs.Meaning.Searches.{found, findingOn, handleRow, Outputs, searchAnswer, searchOf}
 use Rattle.point_query.specs.Meaning.Queries.{aroundOf}
 use Rattle.geometry.specs.Meaning.Circle.{cornerBelow, cornerAbove}
 use Rattle.records.specs.Inner.Alike.{Alike, withColumns}
@@ -56,12 +56,14 @@ module _ (t u : Tables) where
       unfolding lenOf liveHandles
       len-same = cc (both-hold t v like h k, handles-same)
 
-      -- the entries are the same; a finding has the version of its slot
-      around-same : (c : Position) (r : Float) (handles : List (List ℕ)) (places : List (List Float)) → aroundOf t c r handles places ≡ aroundOf v c r handles places
+      -- the entries are the same; a finding has the version and the data of its slot
+      around-same : (c : Position) (r : Float) (o : Outputs) → aroundOf t c r o ≡ aroundOf v c r o
       unfolding aroundOf searchOf searchAnswer found
-      around-same c r handles places =
-          let rows = map-same (λ e. handleRow (findingOn t e)) (λ e. handleRow (findingOn v e)) (λ e. ap (λ (n : ℕ). rowItem (e .row) ∷ n ∷ []) (version-is (rowItem (e .row)))) (found t (cornerBelow c r) (cornerAbove c r) (Circle c r)) in
-          cc (both-hold t v like h k, rows)
+      around-same c r o =
+          let es = found t (cornerBelow c r) (cornerAbove c r) (Circle c r) in
+          let rows = map-same (λ e. handleRow (findingOn t e)) (λ e. handleRow (findingOn v e)) (λ e. ap (λ (n : ℕ). rowItem (e .row) ∷ n ∷ []) (version-is (rowItem (e .row)))) es in
+          let objs = map-same (λ e. findingOn t e .obj) (λ e. findingOn v e .obj) (λ e. ap (λ (x : Record). x .obj) (like .each (rowItem (e .row)))) es in
+          cc (both-hold t v like h k, rows, objs)
 
 pub get-reads : (g : Handle) → Reads (λ t. getOf t g)
 get-reads g = to-read (λ t. getOf t g) (λ t u h k a. get-same t u a h k g)
@@ -69,5 +71,5 @@ get-reads g = to-read (λ t. getOf t g) (λ t u h k a. get-same t u a h k g)
 pub len-reads : Reads lenOf
 len-reads = to-read lenOf (λ t u h k a. len-same t u a h k)
 
-pub around-reads : (c : Position) (r : Float) (handles : List (List ℕ)) (places : List (List Float)) → Reads (λ t. aroundOf t c r handles places)
-around-reads c r handles places = to-read (λ t. aroundOf t c r handles places) (λ t u h k a. around-same t u a h k c r handles places)
+pub around-reads : (c : Position) (r : Float) (o : Outputs) → Reads (λ t. aroundOf t c r o)
+around-reads c r o = to-read (λ t. aroundOf t c r o) (λ t u h k a. around-same t u a h k c r o)

@@ -18,7 +18,7 @@ use Rattle.point_maintain.specs.declared.Maintained.{Maintained}
 use Rattle.point_maintain.specs.Meaning.Maintain.{maintainOf}
 use Rattle.point_get.specs.declared.Got.{Got}
 use Rattle.point_get.specs.Meaning.{getOf, lenOf}
-use Rattle.point_search.specs.Meaning.Searches.{Findings}
+use Rattle.point_search.specs.Meaning.Searches.{Outputs, Findings}
 use Rattle.point_query.specs.Meaning.Queries.{aroundOf}
 use Rattle.records.specs.Meaning.Spread.{besides}
 use Rattle.records.specs.Meaning.Seen.{Seen, seen}
@@ -37,7 +37,7 @@ pub data RecordCall : Type 0 where
   maintain : RecordCall
   get : Handle → RecordCall
   len : RecordCall
-  around : Position → Float → List (List ℕ) → List (List Float) → RecordCall
+  around : Position → Float → Outputs → RecordCall
 
 -- what a call gives back
 pub data Given : Type 0 where
@@ -59,7 +59,7 @@ onColumns (remove h) t = given replied (removeOf t h)
 onColumns maintain t = given settled (maintainOf t)
 onColumns (get h) t = outcome (got (getOf t h)) t
 onColumns len t = outcome (counted (lenOf t)) t
-onColumns (around c r handles places) t = outcome (found (aroundOf t c r handles places)) t
+onColumns (around c r o) t = outcome (found (aroundOf t c r o)) t
 
 -- ---- on records: a call that reads leaves them as they are
 abbrev changed : {R : Type 0} → (R → Given) → Seen R → Seen Given
@@ -75,7 +75,7 @@ onTable (remove h) rs t = changed replied (removeOn rs t h)
 onTable maintain rs t = changed settled (maintainOn rs t)
 onTable (get h) rs t = read got rs (getOn rs t h)
 onTable len rs t = read counted rs (lenOn rs t)
-onTable (around c r handles places) rs t = read found rs (aroundOn rs t c r handles places)
+onTable (around c r o) rs t = read found rs (aroundOn rs t c r o)
 
 unfoldable pub recordAnswers : List RecordCall → List Record → Tables → List Given
 recordAnswers [] rs t = []

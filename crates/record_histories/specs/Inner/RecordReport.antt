@@ -1,12 +1,12 @@
 -- What a circle reports on a table of records after deferred calls and maintain. Assumes nothing.
-use Rattle.basics.specs.Words.{ℕ, List, [], _∷_, _++_, map, eqb}
+use Rattle.basics.specs.Words.{List, [], _∷_, _++_, map, eqb}
 use lib.Ieee.{Float}
 use Rattle.basics.specs.Meaning.Refusals.{pick}
 use Rattle.geometry.specs.declared.Position.{Position}
 use Rattle.point_records.specs.declared.Record.{Record}
 use Rattle.point_tables.specs.Meaning.Tables.{Tables}
 use Rattle.point_deferred.specs.Meaning.Calls.{Call as Deferred}
-use Rattle.point_search.specs.Meaning.Searches.{Findings}
+use Rattle.point_search.specs.Meaning.Searches.{Outputs, Findings}
 use Rattle.record_query.specs.Meaning.Calls.{aroundOn}
 use Rattle.record_histories.specs.Inner.RecordHistory.{RecordCall, setPosition, remove, maintain, tableAfter, besidesAfter}
 
@@ -18,5 +18,5 @@ deferred c = pick (eqb (c .kind) 0) (setPosition (c .handle) (c .at)) (remove (c
 abbrev pub frame : List Deferred → List RecordCall
 frame cs = map deferred cs ++ (maintain ∷ [])
 
-abbrev pub reportAfter : List Record → Tables → List Deferred → Position → Float → List (List ℕ) → List (List Float) → Findings
-reportAfter rs t cs c r handles places = aroundOn (tableAfter (frame cs) rs t) (besidesAfter (frame cs) rs t) c r handles places .result
+abbrev pub reportAfter : List Record → Tables → List Deferred → Position → Float → Outputs → Findings
+reportAfter rs t cs c r o = aroundOn (tableAfter (frame cs) rs t) (besidesAfter (frame cs) rs t) c r o .result

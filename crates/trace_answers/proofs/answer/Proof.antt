@@ -1,5 +1,5 @@
 -- `trace_answers::answer` meets its contract, line by line. Assumes nothing.
-use Rattle.basics.specs.Words.{ℕ, _≡_, ap, List, needs}
+use Rattle.basics.specs.Words.{_≡_, ap, List, needs}
 use lib.Ieee.{Float}
 use Rattle.point_tables.specs.Meaning.Tables as points
 use Rattle.box_tables.specs.Meaning.Tables as boxes
@@ -14,11 +14,10 @@ use Rattle.trace_answers.proofs.answer.Statement.{statement}
 use Rattle.trace_answers.proofs.answer.Tie as tie
 
 -- what a search found is in the outputs, and the grids are as they were
-module _ {t : points.Tables} {b : boxes.Tables} {o : List ℕ} where
-  points-searched : {c : List (List Float)} {f g : point.Searched} → f ≡ g → answered (f .tells) (state t b (f .handles) (f .places) c o) ≡ answered (g .tells) (state t b (g .handles) (g .places) c o)
-  points-searched {c} e = ap (λ (f : point.Searched). answered (f .tells) (state t b (f .handles) (f .places) c o)) e
-
 module _ {t : points.Tables} {b : boxes.Tables} {p : List (List Float)} where
+  points-searched : {f g : point.Searched} → f ≡ g → answered (f .tells) (state t b (f .outputs .handles) (f .outputs .places) p (f .outputs .objs)) ≡ answered (g .tells) (state t b (g .outputs .handles) (g .outputs .places) p (g .outputs .objs))
+  points-searched e = ap (λ (f : point.Searched). answered (f .tells) (state t b (f .outputs .handles) (f .outputs .places) p (f .outputs .objs))) e
+
   boxes-searched : {f g : box.Searched} → f ≡ g → answered (f .tells) (state t b (f .handles) p (f .corners) (f .objs)) ≡ answered (g .tells) (state t b (g .handles) p (g .corners) (g .objs))
   boxes-searched e = ap (λ (f : box.Searched). answered (f .tells) (state t b (f .handles) p (f .corners) (f .objs))) e
 
@@ -67,11 +66,12 @@ answer-spec =
     (λ c. search needs)
     (λ c. search needs)
     (λ c. search needs)
+    (λ c. search needs)
     (λ c.
-    let r = c .before .before in
-    let s = r .before .before .before .before .before .before .before .before .before .before .before .before .before .before .before .before .before in
+    let r = c .before .before .before .before in
+    let s = r .before .before .before .before .before .before .before .before .before .before .before .before .before .before .before .before .before .before in
     let found = rw (toZ-ofZ w32 (s .args .r .far) (in-range-fits (s .args .r .far) (s .pre .1))) at (r .search-points .ensures) in
-    rw (r .before .before .before .before .before .before .before .before .before .before .before .before .line2 .given .1) (points-searched found))
+    rw (r .before .before .before .before .before .before .before .before .before .before .before .before .before .line2 .given .1) (points-searched found))
     (λ c. search needs)
     (λ c. search needs)
     (λ c. search needs)

@@ -6,6 +6,7 @@ use Rattle.trace_printing.specs.declared.Said.the-variants.{Done}
 use Rattle.trace_printing.specs.Inner.Said.{Told}
 use Rattle.trace_telling.specs.Meaning.Tells.{doneOr}
 use Rattle.trace_telling.proofs.laws.Tells.{told-tells}
+use Rattle.point_search.specs.Meaning.Searches.{outputs}
 use Rattle.trace_points.proofs.laws.ToldLaws as point-told
 use Rattle.trace_boxes.proofs.laws.ToldLaws as box-told
 use Rattle.trace_lines.specs.declared.Line.{Line}
@@ -16,7 +17,7 @@ use Rattle.trace_answers.specs.Meaning.Cell.{buildBoth}
 use Rattle.trace_answers.specs.Meaning.Answer.{byLine, answerOf}
 
 abbrev pub IsTold : Answered → Type 0
-IsTold a = Told (a .tells) (length (a .after .handles)) (length (a .after .places)) (length (a .after .corners))
+IsTold a = Told (a .tells) (length (a .after .handles)) (length (a .after .places)) (length (a .after .corners)) (length (a .after .objs))
 
 module _ (g : State) (few : length (g .handles) ≤ 256) (few′ : length (g .corners) ≤ 64) where
   by-line : (l : Line) (r : Request) → IsTold (byLine g l r)
@@ -25,11 +26,12 @@ module _ (g : State) (few : length (g .handles) ≤ 256) (few′ : length (g .co
       let h = length (g .handles) in
       let p = length (g .places) in
       let c = length (g .corners) in
+      let d = length (g .objs) in
       let b = box-new.newOf (g .boxes) (r .n) .result in
-      told-tells h p c (point-new.newOf (g .points) (r .n) .result) (doneOr b) (told-tells h p c b Done tt)
-  by-line (PointChange k) r = point-told.told-change (length (g .handles)) (length (g .places)) (length (g .corners)) (g .points) k (r .h) (r .p) (r .n)
-  by-line (PointSearch s) r = point-told.told (length (g .corners)) (g .handles) (g .places) few (g .points) s (r .p) (r .q) (r .far)
-  by-line (BoxChange k) r = box-told.told-change (length (g .handles)) (length (g .places)) (length (g .corners)) (g .boxes) k (r .h) (r .p) (r .q) (r .n)
+      told-tells h p c d (point-new.newOf (g .points) (r .n) .result) (doneOr b) (told-tells h p c d b Done tt)
+  by-line (PointChange k) r = point-told.told-change (length (g .handles)) (length (g .places)) (length (g .corners)) (length (g .objs)) (g .points) k (r .h) (r .p) (r .n)
+  by-line (PointSearch s) r = point-told.told (length (g .corners)) (outputs (g .handles) (g .places) (g .objs)) few (g .points) s (r .p) (r .q) (r .far)
+  by-line (BoxChange k) r = box-told.told-change (length (g .handles)) (length (g .places)) (length (g .corners)) (length (g .objs)) (g .boxes) k (r .h) (r .p) (r .q) (r .n)
   by-line BoxSearch r = box-told.told (length (g .places)) (g .handles) (g .corners) (g .objs) few′ (g .boxes) (r .p) (r .q)
   by-line Unreadable r = tt
 

@@ -7,6 +7,7 @@ use Rattle.trace_lines.specs.declared.BoxChange as line-of-boxes
 use Rattle.trace_lines.specs.declared.Line.{Line}
 use Rattle.trace_lines.specs.declared.Line.the-variants.{Cell, PointChange, PointSearch, BoxChange, BoxSearch, Unreadable}
 use Rattle.trace_lines.specs.declared.Request.{Request}
+use Rattle.point_search.specs.Meaning.Searches.{outputs}
 use Rattle.trace_points.specs.Meaning.Changes as point-changes
 use Rattle.trace_points.specs.Meaning.Searches as point-searches
 use Rattle.trace_boxes.specs.Meaning.Changes as box-changes
@@ -26,8 +27,8 @@ changePoints g k r =
 
 abbrev pub searchPoints : State → search-of-points.PointSearch → Request → Answered
 searchPoints g s r =
-    let f = point-searches.pointSearchOf (g .points) s (r .p) (r .q) (r .far) (g .handles) (g .places) in
-    answered (f .tells) (state (g .points) (g .boxes) (f .handles) (f .places) (g .corners) (g .objs))
+    let f = point-searches.pointSearchOf (g .points) s (r .p) (r .q) (r .far) (outputs (g .handles) (g .places) (g .objs)) in
+    answered (f .tells) (state (g .points) (g .boxes) (f .outputs .handles) (f .outputs .places) (g .corners) (f .outputs .objs))
 
 -- the boxes, and the outputs of their query
 abbrev pub changeBoxes : State → line-of-boxes.BoxChange → Request → Answered

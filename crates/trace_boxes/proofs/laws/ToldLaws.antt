@@ -31,16 +31,16 @@ use Rattle.slot_walks.specs.Meaning.Live.{handleAt}
 
 -- what there is to tell is there: as many findings as the trace's grids can give, and all in the outputs
 abbrev pub IsTold : ℕ → Searched → Type 0
-IsTold places s = Told (s .tells) (length (s .handles)) places (length (s .corners))
+IsTold places s = Told (s .tells) (length (s .handles)) places (length (s .corners)) (length (s .objs))
 
 room-of : (t : Tables) (q : Aabb) (n room : ℕ) → query.lookAnswer t q n room ≡ 0 → n ≤ room
 unfolding query.lookAnswer
 room-of t q n room h = leb-true n room (had-room (holds t) (aabbInDomain q) (leb (covers (sizeOf t) q) mostCells) (leb n room) h)
 
 module _ (places : ℕ) (handles : List (List ℕ)) (corners : List (List Float)) (objs : List ℕ) (few : length corners ≤ 64) where
-  told-found : (ss : List ℕ) (f : ℕ → List ℕ) (g : ℕ → List Float) → length ss ≤ query.roomOf handles corners objs
-      → Told (Boxes (length ss)) (length (written (map f ss) handles)) places (length (written (map g ss) corners))
-  told-found ss f g h =
+  told-found : (ss : List ℕ) (f : ℕ → List ℕ) (g : ℕ → List Float) (k : ℕ) → length ss ≤ query.roomOf handles corners objs
+      → Told (Boxes (length ss)) (length (written (map f ss) handles)) places (length (written (map g ss) corners)) k
+  told-found ss f g k h =
       let m = min (length corners) (length objs) in
       let i : length ss ≤ length handles = omega (arith, min-le-left (length handles) m) in
       let j : length ss ≤ length corners = omega (arith, min-le-right (length handles) m, min-le-left (length corners) (length objs)) in
@@ -57,16 +57,16 @@ module _ (places : ℕ) (handles : List (List ℕ)) (corners : List (List Float)
       a = query.lookAnswer t q (length ss) (query.roomOf handles corners objs)
 
       go : (x : Bool) → eqb a 0 ≡ x → IsTold places (boxSearchSaid (pick x (query.findings (count 0 (length ss)) (written (map (handleAt (t .nums)) ss) handles) (written (map (search.boxRow (t .reals)) ss) corners) (written (map (objOn t) ss) objs)) (query.findings (count a (pick (eqb a 9) (length ss) 0)) handles corners objs)))
-      go true h = told-found ss (handleAt (t .nums)) (search.boxRow (t .reals)) (room-of t q (length ss) (query.roomOf handles corners objs) (eqb-true a 0 h))
-      go false h = subst (λ (x : Bool). Told (pick x (Boxes (pick (eqb a 9) (length ss) 0)) (Refused a)) (length handles) places (length corners)) (sym h) tt
+      go true h = told-found ss (handleAt (t .nums)) (search.boxRow (t .reals)) (length (written (map (objOn t) ss) objs)) (room-of t q (length ss) (query.roomOf handles corners objs) (eqb-true a 0 h))
+      go false h = subst (λ (x : Bool). Told (pick x (Boxes (pick (eqb a 9) (length ss) 0)) (Refused a)) (length handles) places (length corners) (length objs)) (sym h) tt
 
   pub told : (t : Tables) (p q : Spot) → IsTold places (boxSearchOf t p q handles corners objs)
   told t p q = told-query t (boxOf p q)
 
 -- a change has no findings to tell
-module _ (handles places boxes : ℕ) where
-  pub told-change : (t : Tables) (k : BoxChange) (h : Handle) (p q : Spot) (n : ℕ) → Told (changeOf t k h p q n .result) handles places boxes
+module _ (handles places boxes objs : ℕ) where
+  pub told-change : (t : Tables) (k : BoxChange) (h : Handle) (p q : Spot) (n : ℕ) → Told (changeOf t k h p q n .result) handles places boxes objs
   unfolding changeOf
-  told-change t Bin h p q n = let r = insertOf t (boxOf p q) n .result in told-tells handles places boxes (r .answer) (Two (r .handle .slot) (r .handle .version)) tt
-  told-change t Bset h p q n = told-tells handles places boxes (setAabbOf t h (boxOf p q) .result) Done tt
-  told-change t Brem h p q n = let r = removeOf t h .result in told-tells handles places boxes (r .answer) (One (r .obj)) tt
+  told-change t Bin h p q n = let r = insertOf t (boxOf p q) n .result in told-tells handles places boxes objs (r .answer) (Two (r .handle .slot) (r .handle .version)) tt
+  told-change t Bset h p q n = told-tells handles places boxes objs (setAabbOf t h (boxOf p q) .result) Done tt
+  told-change t Brem h p q n = let r = removeOf t h .result in told-tells handles places boxes objs (r .answer) (One (r .obj)) tt

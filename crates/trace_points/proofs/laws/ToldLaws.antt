@@ -1,7 +1,6 @@
 -- The findings that a search says are in its outputs. Assumes nothing.
 use Rattle.basics.specs.Words.{ℕ, min, _≤_, _≡_, refl, sym, subst, Bool, true, false, _&&_, List, map, length, length-map, eqb, leb, ℤ, min-le-left}
 use Rattle.basics.specs.Words.{min-le-right, arith, eqb-true, leb-true}
-use lib.Ieee.{Float}
 use Rattle.basics.specs.Meaning.Limits.{mostCells}
 use Rattle.basics.specs.Meaning.Refusals.{pick}
 use Rattle.geometry.specs.declared.Position.{Position}
@@ -20,6 +19,7 @@ use Rattle.point_remove.specs.Meaning.RemoveMaintain.{removeMaintainOf}
 use Rattle.point_maintain.specs.Meaning.Maintain.{maintainOf}
 use Rattle.trace_sixteenths.specs.Meaning.Sixteenth.{sixteenth}
 use Rattle.trace_telling.specs.Meaning.Places.{placeOf}
+use Rattle.point_search.specs.declared.Finding.{Finding}
 use Rattle.point_search.specs.declared.Test.{Test}
 use Rattle.point_search.specs.declared.Test.the-variants.{Any, Circle, Rectangle}
 use Rattle.point_search.specs.Meaning.Searches as searches
@@ -36,11 +36,11 @@ use Rattle.trace_lines.specs.declared.PointSearch.the-variants.{Cir, Rec, Cel}
 use Rattle.trace_telling.proofs.laws.RoomLaws.{had-room}
 use Rattle.trace_telling.proofs.laws.Tells.{told-tells}
 use Rattle.trace_points.specs.Meaning.Changes.{changeOf}
-use Rattle.trace_points.specs.Meaning.Searches.{Searched, pointSearchSaid, findingsOf, pointSearchOf}
+use Rattle.trace_points.specs.Meaning.Searches.{Searched, searched, pointSearchSaid, findingsOf, pointSearchOf}
 
 -- what there is to tell is there: as many findings as the trace's grids can give, and all in the outputs
 abbrev pub IsTold : ℕ → Searched → Type 0
-IsTold boxes s = Told (s .tells) (length (s .handles)) (length (s .places)) boxes
+IsTold boxes s = Told (s .tells) (length (s .outputs .handles)) (length (s .outputs .places)) boxes (length (s .outputs .objs))
 
 room-of : (t : Tables) (ok : Bool) (ll ur : Position) (test : Test) (room : ℕ) → searches.searchAnswer t ok ll ur test room ≡ 0 → length (searches.found t ll ur test) ≤ room
 unfolding searches.searchAnswer
@@ -48,27 +48,32 @@ room-of t ok ll ur test room h =
     let n = length (searches.found t ll ur test) in
     leb-true n room (had-room (holds t) ok (leb (cellsIn (cellAt (sizeOf t) ll) (cellAt (sizeOf t) ur)) mostCells) (leb n room) h)
 
-module _ (boxes : ℕ) (handles : List (List ℕ)) (places : List (List Float)) (few : length handles ≤ 256) where
-  told-found : {A : Type 0} (es : List A) (f : A → List ℕ) (g : A → List Float) → length es ≤ min (length handles) (length places)
-      → Told (Points (length es)) (length (written (map f es) handles)) (length (written (map g es) places)) boxes
-  told-found es f g h =
-      let i : length es ≤ length handles = omega (arith, min-le-left (length handles) (length places)) in
-      let j : length es ≤ length places = omega (arith, min-le-right (length handles) (length places)) in
-      (omega arith, omega (arith, length-written (map f es) handles (omega (arith, length-map es f))), omega (arith, length-written (map g es) places (omega (arith, length-map es g))))
+module _ (boxes : ℕ) (o : searches.Outputs) (few : length (o .handles) ≤ 256) where
+  -- as many as there is room for are in a column of the outputs
+  in-column : {A B : Type 0} (es : List A) (f : A → B) (l : List B) → length es ≤ length l → length es ≤ length (written (map f es) l)
+  in-column es f l h = omega (arith, length-written (map f es) l (omega (arith, length-map es f)))
+
+  told-found : {A : Type 0} (es : List A) (report : A → Finding) → length es ≤ searches.room o → IsTold boxes (searched (Points (length es)) (searches.filling report es o))
+  told-found es report h =
+      let p = length (o .places) in
+      let d = length (o .objs) in
+      let i : length es ≤ length (o .handles) = omega (arith, min-le-left (length (o .handles)) (min p d)) in
+      let r : length es ≤ min p d = omega (arith, min-le-right (length (o .handles)) (min p d)) in
+      (omega arith, in-column es (λ e. searches.handleRow (report e)) (o .handles) i, in-column es (λ e. searches.placeRow (report e)) (o .places) (omega (arith, min-le-left p d)), in-column es (λ e. report e .obj) (o .objs) (omega (arith, min-le-right p d)))
 
   module _ (t : Tables) (ok : Bool) (ll ur : Position) (test : Test) where
-    told-search : IsTold boxes (pointSearchSaid (searches.searchOf t ok ll ur test handles places))
+    told-search : IsTold boxes (pointSearchSaid (searches.searchOf t ok ll ur test o))
     unfolding searches.searchOf
     told-search = go (eqb a 0) refl
       where
         a : ℕ
-        a = searches.searchAnswer t ok ll ur test (searches.room (searches.outputs handles places))
+        a = searches.searchAnswer t ok ll ur test (searches.room o)
 
-        go : (x : Bool) → eqb a 0 ≡ x → IsTold boxes (pointSearchSaid (pick x (searches.reportOf (searches.findingOn t) (searches.found t ll ur test) (searches.outputs handles places)) (searches.findings (count a (pick (eqb a 9) (length (searches.found t ll ur test)) 0)) handles places)))
-        go true h = told-found (searches.found t ll ur test) (λ e. searches.handleRow (searches.findingOn t e)) (λ e. searches.placeRow (searches.findingOn t e)) (room-of t ok ll ur test (searches.room (searches.outputs handles places)) (eqb-true a 0 h))
-        go false h = subst (λ (x : Bool). Told (pick x (Points (pick (eqb a 9) (length (searches.found t ll ur test)) 0)) (Refused a)) (length handles) (length places) boxes) (sym h) tt
+        go : (x : Bool) → eqb a 0 ≡ x → IsTold boxes (pointSearchSaid (pick x (searches.reportOf (searches.findingOn t) (searches.found t ll ur test) o) (searches.findings (count a (pick (eqb a 9) (length (searches.found t ll ur test)) 0)) o)))
+        go true h = told-found (searches.found t ll ur test) (searches.findingOn t) (room-of t ok ll ur test (searches.room o) (eqb-true a 0 h))
+        go false h = subst (λ (x : Bool). Told (pick x (Points (pick (eqb a 9) (length (searches.found t ll ur test)) 0)) (Refused a)) (length (o .handles)) (length (o .places)) boxes (length (o .objs))) (sym h) tt
 
-  pub told : (t : Tables) (s : PointSearch) (p q : Spot) (far : ℤ) → IsTold boxes (pointSearchOf t s p q far handles places)
+  pub told : (t : Tables) (s : PointSearch) (p q : Spot) (far : ℤ) → IsTold boxes (pointSearchOf t s p q far o)
   unfolding findingsOf query.aroundOf query.aabbOf query.queryOf
   told t Cir p q far =
       let c = placeOf p in
@@ -81,11 +86,11 @@ module _ (boxes : ℕ) (handles : List (List ℕ)) (places : List (List Float)) 
   told t Cel p q far = told-search t (positionInDomain (placeOf p) && positionInDomain (placeOf q)) (placeOf p) (placeOf q) Any
 
 -- a change has no findings to tell
-module _ (handles places boxes : ℕ) where
-  pub told-change : (t : Tables) (k : PointChange) (h : Handle) (p : Spot) (n : ℕ) → Told (changeOf t k h p n .result) handles places boxes
+module _ (handles places boxes objs : ℕ) where
+  pub told-change : (t : Tables) (k : PointChange) (h : Handle) (p : Spot) (n : ℕ) → Told (changeOf t k h p n .result) handles places boxes objs
   unfolding changeOf
-  told-change t Ins h p n = let r = insertOf t (placeOf p) n .result in told-tells handles places boxes (r .answer) (Two (r .handle .slot) (r .handle .version)) tt
-  told-change t Pos h p n = let r = setPositionOf t h (placeOf p) .result in told-tells handles places boxes (r .answer) Done tt
-  told-change t Rem h p n = let r = removeOf t h .result in told-tells handles places boxes (r .answer) (One (r .obj)) tt
-  told-change t Now h p n = let r = removeMaintainOf t h .result in told-tells handles places boxes (r .answer) (One (r .obj)) tt
-  told-change t Mnt h p n = let r = maintainOf t .result in told-tells handles places boxes (r .answer) (Two (r .moved) (r .removed)) tt
+  told-change t Ins h p n = let r = insertOf t (placeOf p) n .result in told-tells handles places boxes objs (r .answer) (Two (r .handle .slot) (r .handle .version)) tt
+  told-change t Pos h p n = let r = setPositionOf t h (placeOf p) .result in told-tells handles places boxes objs (r .answer) Done tt
+  told-change t Rem h p n = let r = removeOf t h .result in told-tells handles places boxes objs (r .answer) (One (r .obj)) tt
+  told-change t Now h p n = let r = removeMaintainOf t h .result in told-tells handles places boxes objs (r .answer) (One (r .obj)) tt
+  told-change t Mnt h p n = let r = maintainOf t .result in told-tells handles places boxes objs (r .answer) (Two (r .moved) (r .removed)) tt

@@ -7,21 +7,21 @@ use Rattle.trace_printing.specs.declared.Said.the-variants.{Refused, One
 use Rattle.trace_printing.specs.Meaning.Said.{recordText}
 
 -- 5
-refused : recordText (Refused 5) [] [] [] ≡ 53 ∷ 13 ∷ 10 ∷ []
+refused : recordText (Refused 5) [] [] [] [] ≡ 53 ∷ 13 ∷ 10 ∷ []
 unfolding recordText decimal
 refused = refl
 
 -- 0,7
-removed : recordText (One 7) [] [] [] ≡ 48 ∷ 44 ∷ 55 ∷ 13 ∷ 10 ∷ []
+removed : recordText (One 7) [] [] [] [] ≡ 48 ∷ 44 ∷ 55 ∷ 13 ∷ 10 ∷ []
 unfolding recordText decimal
 removed = refl
 
 -- 0,0,1
-inserted : recordText (Two 0 1) [] [] [] ≡ 48 ∷ 44 ∷ 48 ∷ 44 ∷ 49 ∷ 13 ∷ 10 ∷ []
+inserted : recordText (Two 0 1) [] [] [] [] ≡ 48 ∷ 44 ∷ 48 ∷ 44 ∷ 49 ∷ 13 ∷ 10 ∷ []
 unfolding recordText decimal
 inserted = refl
 
--- 0,1,0,1,-160,0
-found : recordText (Points 1) ((0 ∷ 1 ∷ []) ∷ []) ((sixteenth (negsuc 159) ∷ sixteenth (pos 0) ∷ []) ∷ []) [] ≡ 48 ∷ 44 ∷ 49 ∷ 44 ∷ 48 ∷ 44 ∷ 49 ∷ 44 ∷ 45 ∷ 49 ∷ 54 ∷ 48 ∷ 44 ∷ 48 ∷ 13 ∷ 10 ∷ []
+-- 0,1,0,1,-160,0,7
+found : recordText (Points 1) ((0 ∷ 1 ∷ []) ∷ []) ((sixteenth (negsuc 159) ∷ sixteenth (pos 0) ∷ []) ∷ []) [] (7 ∷ []) ≡ 48 ∷ 44 ∷ 49 ∷ 44 ∷ 48 ∷ 44 ∷ 49 ∷ 44 ∷ 45 ∷ 49 ∷ 54 ∷ 48 ∷ 44 ∷ 48 ∷ 44 ∷ 55 ∷ 13 ∷ 10 ∷ []
 unfolding recordText signedText
 found = simp (count-back (negsuc 159) (omega arith), count-back (pos 0) (omega arith))

@@ -7,7 +7,8 @@ use Rattle.trace_printing.proofs.put_point.Tie as tie
 returns : tie.Need-returns
 returns c =
     let p = c .before .before .before .before .before .before in
-    puts-then (p .put-handle .ensures) (omega arith) (c .before .before .put-corner .ensures)
+    let h = p .before .before .before .before in
+    puts-then (h .put-handle .ensures) (omega arith) (puts-then (p .put-corner .ensures) (omega arith) (c .before .before .put-number .ensures))
 
 pub put-point-spec : {M : Type 1} → statement M
 put-point-spec =
@@ -16,6 +17,7 @@ put-point-spec =
     (λ c κs. search needs)
     (λ c. search needs)
     (λ c. search needs)
+    (λ c κs. search needs)
     (λ c κs. search needs)
     (λ c. search needs)
     returns)

@@ -1,5 +1,5 @@
 -- The record that tells an answer: a refusal is its number alone; after 0 come the numbers that there are to tell, and for a query its
--- count and then slot, version and coordinates of each finding. Assumes nothing.
+-- count and then slot, version, coordinates and data of each finding of points; slot, version and corners of boxes. Assumes nothing.
 use Rattle.basics.specs.Words.{ℕ, zero, suc, List, [], _∷_, _++_, getD}
 use lib.Ieee.{Float, nan}
 use Rattle.trace_decimals.specs.Meaning.Text.{decimal, signedText}
@@ -25,30 +25,30 @@ abbrev pub cornersText : List Float → List ℕ
 cornersText b = placeText b ++ (coordinateField (getD b 2 nan) ++ coordinateField (getD b 3 nan))
 
 -- the first n findings of the point queries, and of the box query
-abbrev pub pointsText : List (List ℕ) → List (List Float) → ℕ → List ℕ
-pointsText handles places zero = []
-pointsText handles places (suc n) = pointsText handles places n ++ (handleText (getD handles n []) ++ placeText (getD places n []))
+abbrev pub pointsText : List (List ℕ) → List (List Float) → List ℕ → ℕ → List ℕ
+pointsText handles places objs zero = []
+pointsText handles places objs (suc n) = pointsText handles places objs n ++ (handleText (getD handles n []) ++ (placeText (getD places n []) ++ numberField (getD objs n 0)))
 
 abbrev pub boxesText : List (List ℕ) → List (List Float) → ℕ → List ℕ
 boxesText handles boxes zero = []
 boxesText handles boxes (suc n) = boxesText handles boxes n ++ (handleText (getD handles n []) ++ cornersText (getD boxes n []))
 
 -- ---- the whole record
-unfoldable pub saidText : Said → List (List ℕ) → List (List Float) → List (List Float) → List ℕ
-saidText (Refused a) handles places boxes = decimal a
-saidText Done handles places boxes = decimal 0
-saidText (One x) handles places boxes = decimal 0 ++ numberField x
-saidText (Two x y) handles places boxes = decimal 0 ++ (numberField x ++ numberField y)
-saidText (Points n) handles places boxes = decimal 0 ++ (numberField n ++ pointsText handles places n)
-saidText (Boxes n) handles places boxes = decimal 0 ++ (numberField n ++ boxesText handles boxes n)
+unfoldable pub saidText : Said → List (List ℕ) → List (List Float) → List (List Float) → List ℕ → List ℕ
+saidText (Refused a) handles places boxes objs = decimal a
+saidText Done handles places boxes objs = decimal 0
+saidText (One x) handles places boxes objs = decimal 0 ++ numberField x
+saidText (Two x y) handles places boxes objs = decimal 0 ++ (numberField x ++ numberField y)
+saidText (Points n) handles places boxes objs = decimal 0 ++ (numberField n ++ pointsText handles places objs n)
+saidText (Boxes n) handles places boxes objs = decimal 0 ++ (numberField n ++ boxesText handles boxes n)
 
 abbrev pub crlf : List ℕ
 crlf = 13 ∷ 10 ∷ []
 
-unfoldable pub recordText : Said → List (List ℕ) → List (List Float) → List (List Float) → List ℕ
+unfoldable pub recordText : Said → List (List ℕ) → List (List Float) → List (List Float) → List ℕ → List ℕ
 unfolding saidText
-recordText said handles places boxes = saidText said handles places boxes ++ crlf
+recordText said handles places boxes objs = saidText said handles places boxes objs ++ crlf
 
--- no record is longer; without its ending
+-- no record is longer: 256 findings with five numbers each need 14,615 bytes at most, and with one more number each 17,431
 abbrev pub longest : ℕ
-longest = 12000
+longest = 18000

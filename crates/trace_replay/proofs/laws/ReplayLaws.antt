@@ -14,7 +14,7 @@ module _ (g : Grids) (bytes : List ℕ) {q : Request} (read : q ≡ requestOf by
   pub can-tell : IsTold (answered s after)
   can-tell = subst IsTold (sym done) (told (freshState g) (omega arith) (omega arith) q)
 
-  pub is-replayed : (w : Buffer) {v : Buffer} → v ≡ putText w (recordText s (after .handles) (after .places) (after .corners)) → replayed (grids (after .points) (after .boxes)) v ≡ replayOf g bytes w
+  pub is-replayed : (w : Buffer) {v : Buffer} → v ≡ putText w (recordText s (after .handles) (after .places) (after .corners) (after .objs)) → replayed (grids (after .points) (after .boxes)) v ≡ replayOf g bytes w
   unfolding answerTo
   is-replayed w e =
       ap (replayed (grids (after .points) (after .boxes))) e

@@ -15,10 +15,10 @@ pub told-refused : (answer : ℕ) (said : Said) → (answer ≡ 0 → ⊥) → R
 told-refused answer said e = sym (ap (λ (b : Bool). pick b said (Refused answer)) (ne-eqb answer 0 e))
 
 -- a refusal has no findings to tell
-module _ (handles places boxes : ℕ) where
-  pub told-tells : (answer : ℕ) (said : Said) → Told said handles places boxes → Told (tells answer said) handles places boxes
+module _ (handles places boxes objs : ℕ) where
+  pub told-tells : (answer : ℕ) (said : Said) → Told said handles places boxes objs → Told (tells answer said) handles places boxes objs
   told-tells answer said h = go (eqb answer 0)
     where
-      go : (b : Bool) → Told (pick b said (Refused answer)) handles places boxes
+      go : (b : Bool) → Told (pick b said (Refused answer)) handles places boxes objs
       go true = h
       go false = tt

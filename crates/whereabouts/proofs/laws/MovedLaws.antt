@@ -1,6 +1,6 @@
 -- A point that was accepted as moved is found where it was last sent: it is not lost, and not looked for where it was. Assumes nothing.
 -- Here: the laws.
-use Rattle.basics.specs.Words.{ℕ, _≡_, refl, sym, ap, _∙_, Bool, true, false, not, _&&_, _||_, List, [], _∷_, _++_, eqb, eq-eqb}
+use Rattle.basics.specs.Words.{_≡_, refl, sym, ap, _∙_, Bool, true, false, not, _&&_, _||_, List, [], _∷_, _++_, eqb, eq-eqb}
 use lib.Ieee.{Float}
 use Rattle.basics.specs.Meaning.Refusals.{pick}
 use Rattle.geometry.specs.declared.Position.{Position}
@@ -13,6 +13,7 @@ use Rattle.point_tables.specs.Meaning.Tables.{Tables, recordOn}
 use Rattle.replies.specs.declared.Reply.{Reply}
 use Rattle.point_deferred.specs.Meaning.Calls.{Call, callOf, tablesAfter, replies}
 use Rattle.point_deferred.proofs.laws.MovesLaws.{named}
+use Rattle.point_search.specs.Meaning.Searches.{Outputs}
 use Rattle.point_query.specs.Meaning.Queries.{aroundOf}
 use Rattle.whereabouts.specs.Meaning.Whereabouts.{acceptedFor, movesIt, removesIt, removedBy, lastAt}
 use Rattle.whereabouts.proofs.laws.CallLaws.{Given, given, or-assoc, calls-kept, calls-slots}
@@ -102,8 +103,9 @@ module _ (t : Tables) (s : Settled t) (xs : List Call) (c : Call) (ys : List Cal
       ∙ (λ i. before i || ((is-for i && not (is-kind i)) || removedBy g ys (replies (callOf u c .after) ys)))
       ∙ others-removed g (callOf u c .after) ys last
 
-  pub moved-found : (centre : Position) (r : Float) (handles : List (List ℕ)) (places : List (List Float)) → aroundOf (nextMaintain t all .after) centre r handles places .returned .answer ≡ 0
-      → inCircle (c .at) centre r ≡ true → Reports (aroundOf (nextMaintain t all .after) centre r handles places) g (c .at)
-  moved-found centre r handles places a n =
-      let d : Due t all centre r g (c .at) = record { was-live = was-live; not-removed = not-removed; at-last = sym sent-last; near = n } in
-      circle-reports t s all centre r handles places a g (c .at) .1 d
+  pub moved-found : (centre : Position) (r : Float) (o : Outputs) → aroundOf (nextMaintain t all .after) centre r o .returned .answer ≡ 0
+      → inCircle (c .at) centre r ≡ true → Reports (aroundOf (nextMaintain t all .after) centre r o) g (c .at) (recordOn t (g .slot) .obj)
+  moved-found centre r o a n =
+      let obj = recordOn t (g .slot) .obj in
+      let d : Due t all centre r g (c .at) obj = record { was-live = was-live; not-removed = not-removed; at-last = sym sent-last; has-data = refl; near = n } in
+      circle-reports t s all centre r o a g (c .at) obj .1 d

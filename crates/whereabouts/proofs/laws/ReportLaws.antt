@@ -1,49 +1,38 @@
 -- Right after the next maintain a circle that is not refused reports, once each, exactly the points that are due. Assumes nothing.
-use Rattle.basics.specs.Words.{ℕ, zero, suc, _<_, _≡_, refl, sym, ap, _∙_, subst, Bool, true, false, _&&_, List, [], _∷_, _++_, map, List·Memᴰ}
-use Rattle.basics.specs.Words.{List·Memᴰ·cases-cons, List·Memᴰ·not-nil, ⊎-elim, length, getD, T, leb, not-suc-le-zero, le-of-suc-le-suc, arith, eq-eqb, ne-eqb}
-use lib.Ieee.{Float, nan}
+use Rattle.basics.specs.Words.{ℕ, zero, suc, _<_, _≡_, sym, ap, _∙_, subst, true, _&&_, List, [], _∷_, List·Memᴰ, List·Memᴰ·cases-cons, List·Memᴰ·not-nil}
+use Rattle.basics.specs.Words.{⊎-elim, length, getD, T, not-suc-le-zero, le-of-suc-le-suc, arith}
+use lib.Ieee.{Float}
 use lib.Ieee.Fits.{and-l, and-r}
-use Rattle.basics.specs.Meaning.Limits.{mostCells}
-use Rattle.basics.specs.Meaning.Refusals.{orElse}
-use Rattle.basics.proofs.laws.Says.{d-eq, d-lt}
+use Rattle.basics.proofs.laws.Says.{d-lt}
 use Rattle.geometry.specs.declared.Position.{Position}
 use Rattle.geometry.specs.Meaning.Domain.{positionInDomain, radiusInDomain}
-use Rattle.geometry.proofs.laws.BitsLaws.{same-by-axes}
 use Rattle.geometry.specs.Meaning.Circle.{inCircle, cornerBelow, cornerAbove}
 use Rattle.cells.specs.Inner.CellRule.{Reached}
 use Rattle.cells.specs.Meaning.CellRule.{cellAt}
-use Rattle.cells.specs.Meaning.Range.{cellsIn}
 use Rattle.cells.proofs.laws.Range.{inRange}
 use Rattle.cells.proofs.laws.ReachLaws.{low-reached, high-reached}
 use Rattle.cells.proofs.laws.Cover.{circle-cover}
 use Rattle.slots.specs.declared.Handle.{Handle}
-use Rattle.slots.specs.Meaning.Slot.{versionAt, good}
+use Rattle.slots.specs.Meaning.Slot.{versionAt}
 use Rattle.storage.specs.Meaning.Keyed.{All}
-use Rattle.storage.specs.Meaning.Entries.{Entry, entry}
+use Rattle.storage.specs.Meaning.Entries.{Entry}
 use Rattle.storage.proofs.laws.FilterLaws.{all-at, filter-passes}
 use Rattle.point_tables.specs.Meaning.Tables.{Tables, sizeOf, recordOn, entriesIn, slotOf}
 use Rattle.point_tables.specs.Meaning.Holds.{Holds}
-use Rattle.point_tables.specs.Meaning.Decide.{holds}
 use Rattle.point_deferred.specs.Meaning.Calls.{Call}
 use Rattle.point_deferred.proofs.laws.MovesLaws.{Named, named}
-use Rattle.point_search.specs.declared.Test.{Test}
 use Rattle.point_search.specs.declared.Test.the-variants.{Circle}
-use Rattle.point_search.specs.Meaning.Searches.{positionOf, found, findingOn, handleRow, placeRow, outputs, room, Findings, reportOf, searchAnswer, searchOf}
+use Rattle.point_search.specs.Meaning.Searches.{positionOf, found, findingOn, Outputs, Findings, reportOf}
 use Rattle.point_query.specs.Meaning.Queries.{aroundOf}
 use Rattle.point_search.proofs.laws.FoundLaws.{Standing}
-use Rattle.point_search.proofs.laws.OnceLaws.{Once, standing-good, found-once, found-standing, finds}
+use Rattle.point_search.proofs.laws.OnceLaws.{Once, found-once, found-standing, finds}
 use Rattle.point_search.proofs.laws.ScanLaws.{circle-scan}
 use Rattle.whereabouts.proofs.laws.StandsLaws.{Settled, next-holds, stands, stands-at}
 use Rattle.whereabouts.specs.Meaning.Stands.{nextMaintain}
 use Rattle.whereabouts.specs.Meaning.Report.{ReportedAt, Reports, Due}
+use Rattle.whereabouts.proofs.laws.ShownLaws.{search-ok, search-done, noEntry, entryOf, Shown, shown, reported, Stands, shown-stands}
 
 -- ---- places of a list
-module _ {A B : Type 0} where
-  mapped-at : (f : A → B) (l : List A) (o : List B) (d : A) (e : B) (j : ℕ) → j < length l → getD (map f l ++ o) j e ≡ f (getD l j d)
-  mapped-at f [] o d e j h = absurd (not-suc-le-zero h)
-  mapped-at f (x ∷ l) o d e zero h = refl
-  mapped-at f (x ∷ l) o d e (suc j) h = mapped-at f l o d e j (le-of-suc-le-suc h)
-
 member-at : {A : Type 0} (x d : A) (l : List A) → List·Memᴰ x l → (j : ℕ) × (j < length l) × (getD l j d ≡ x)
 member-at x d [] m = absurd (List·Memᴰ·not-nil m)
 member-at x d (y ∷ l) m =
@@ -58,30 +47,8 @@ once-at d (e ∷ es) o i zero h g = absurd (not-suc-le-zero g)
 once-at d (e ∷ es) o zero (suc j) h g = all-at (λ x. slotOf e ≡ slotOf x → ⊥) d es j (le-of-suc-le-suc h) (o .0)
 once-at d (e ∷ es) o (suc i) (suc j) h g = once-at d es (o .1) i j (le-of-suc-le-suc h) (le-of-suc-le-suc g)
 
--- ---- a search that is not refused
-four : (a b c d : Bool) → orElse a 3 (orElse b 6 (orElse c 7 (orElse d 9 0))) ≡ 0 → b ≡ true
-four true true c d e = refl
-four true false c d e = absurd (omega arith)
-four false b c d e = absurd (omega arith)
-
-module _ (t : Tables) (ok : Bool) (ll ur : Position) (test : Test) (handles : List (List ℕ)) (places : List (List Float)) where
-  abbrev answer : ℕ
-  answer = searchAnswer t ok ll ur test (room (outputs handles places))
-
-  answer-is : searchOf t ok ll ur test handles places .returned .answer ≡ 0 → answer ≡ 0
-  unfolding searchOf
-  answer-is e = ⊎-elim (λ z. z) (λ n. rw (ne-eqb answer 0 n) at e) (d-eq answer 0)
-
-  search-ok : answer ≡ 0 → ok ≡ true
-  unfolding searchAnswer
-  search-ok e = four (holds t) ok (leb (cellsIn (cellAt (sizeOf t) ll) (cellAt (sizeOf t) ur)) mostCells) (leb (length (found t ll ur test)) (room (outputs handles places))) e
-
-  search-done : answer ≡ 0 → searchOf t ok ll ur test handles places ≡ reportOf (findingOn t) (found t ll ur test) (outputs handles places)
-  unfolding searchOf
-  search-done e = rw (eq-eqb answer 0 e)
-
 -- ---- a circle that is not refused, in tables that hold a grid
-module _ (m : Tables) (h : Holds m) (c : Position) (r : Float) (handles : List (List ℕ)) (places : List (List Float)) (a : aroundOf m c r handles places .returned .answer ≡ 0) where
+module _ (m : Tables) (h : Holds m) (c : Position) (r : Float) (o : Outputs) (a : aroundOf m c r o .returned .answer ≡ 0) where
   abbrev low : Position
   low = cornerBelow c r
 
@@ -91,18 +58,9 @@ module _ (m : Tables) (h : Holds m) (c : Position) (r : Float) (handles : List (
   abbrev es : List Entry
   es = found m low high (Circle c r)
 
-  abbrev noEntry : Entry
-  noEntry = entry [] []
-
-  abbrev at : ℕ → Entry
-  at j = getD es j noEntry
-
-  passed : searchAnswer m (positionInDomain c && radiusInDomain r) low high (Circle c r) (room (outputs handles places)) ≡ 0
-  unfolding aroundOf
-  passed = answer-is m (positionInDomain c && radiusInDomain r) low high (Circle c r) handles places a
-
   both : T (positionInDomain c && radiusInDomain r)
-  both = subst T (sym (search-ok m (positionInDomain c && radiusInDomain r) low high (Circle c r) handles places passed)) tt
+  unfolding aroundOf
+  both = subst T (sym (search-ok m (positionInDomain c && radiusInDomain r) low high (Circle c r) o a)) tt
 
   dc : T (positionInDomain c)
   dc = and-l (positionInDomain c) (radiusInDomain r) both
@@ -116,77 +74,63 @@ module _ (m : Tables) (h : Holds m) (c : Position) (r : Float) (handles : List (
   ru : Reached high
   ru = high-reached c r dc dr
 
-  is-done : aroundOf m c r handles places ≡ reportOf (findingOn m) es (outputs handles places)
+  is-done : aroundOf m c r o ≡ reportOf (findingOn m) es o
   unfolding aroundOf
-  is-done = search-done m (positionInDomain c && radiusInDomain r) low high (Circle c r) handles places passed
+  is-done = search-done m (positionInDomain c && radiusInDomain r) low high (Circle c r) o a
 
   all-near : All (λ e. inCircle (positionOf e) c r ≡ true) es
   all-near = rw (circle-scan m h c r dc dr) (filter-passes (λ e. inCircle (positionOf e) c r) (entriesIn m))
 
-  -- place j of the outputs is entry j of the findings
-  record Shown (j : ℕ) (g : Handle) (p : Position) : Type 0 where
-    filled : j < length es
-    slot : slotOf (at j) ≡ g .slot
-    version : versionAt (m .nums) (slotOf (at j)) ≡ g .version
-    place : positionOf (at j) ≡ p
+  -- what place j of its outputs shows
+  abbrev at : ℕ → Entry
+  at = entryOf m es o (aroundOf m c r o) is-done
 
-  shown : (j : ℕ) (g : Handle) (p : Position) → ReportedAt (aroundOf m c r handles places) j g p → Shown j g p
-  shown j g p w =
-      let v : ReportedAt (reportOf (findingOn m) es (outputs handles places)) j g p = rw is-done at w in
-      let x = sym (mapped-at (λ e. handleRow (findingOn m e)) es _ noEntry [] j (v .filled)) ∙ v .handle in
-      let y = sym (mapped-at (λ e. placeRow (findingOn m e)) es _ noEntry [] j (v .filled)) ∙ v .place in
-      record {
-        filled = v .filled;
-        slot = ap (λ (l : List ℕ). getD l 0 0) x;
-        version = ap (λ (l : List ℕ). getD l 1 0) x;
-        place = same-by-axes (positionOf (at j)) p (ap (λ (l : List Float). getD l 0 nan) y) (ap (λ (l : List Float). getD l 1 nan) y);
-      }
+  abbrev Shows : ℕ → Handle → Position → ℕ → Type 0
+  Shows = Shown m es o (aroundOf m c r o) is-done
 
-  reported : (j : ℕ) (g : Handle) (p : Position) → Shown j g p → ReportedAt (aroundOf m c r handles places) j g p
-  reported j g p w =
-      rw is-done (record {
-        filled = w .filled;
-        handle = mapped-at (λ e. handleRow (findingOn m e)) es _ noEntry [] j (w .filled) ∙ (λ i. w .slot i ∷ w .version i ∷ []);
-        place = mapped-at (λ e. placeRow (findingOn m e)) es _ noEntry [] j (w .filled) ∙ ap (λ (q : Position). q .x ∷ q .y ∷ []) (w .place);
-      })
+  stood : All (Standing m) es
+  stood = found-standing m h low high rl ru (Circle c r)
 
-  -- what is shown is a good handle at its recorded position, in the circle
-  record Sound (g : Handle) (p : Position) : Type 0 where
-    good-handle : good (m .nums) (g .slot) (g .version) ≡ true
-    recorded : p ≡ recordOn m (g .slot) .position
+  -- what is shown stands in the tables, and is in the circle
+  record Sound (g : Handle) (p : Position) (d : ℕ) : Type 0 where
+    stands-there : Stands m g p d
     near : inCircle p c r ≡ true
 
-  sound : (j : ℕ) (g : Handle) (p : Position) → Shown j g p → Sound g p
-  sound j g p w =
-      let s = all-at (Standing m) noEntry es j (w .filled) (found-standing m h low high rl ru (Circle c r)) in
+  sound : (j : ℕ) (g : Handle) (p : Position) (d : ℕ) → Shows j g p d → Sound g p d
+  sound j g p d w =
       record {
-        good-handle = sym (λ i. good (m .nums) (w .slot i) (w .version i)) ∙ standing-good m h (at j) s;
-        recorded = sym (w .place) ∙ s .recorded ∙ ap (λ (n : ℕ). recordOn m n .position) (w .slot);
+        stands-there = shown-stands m es o (aroundOf m c r o) is-done h stood j g p d w;
         near = sym (ap (λ (q : Position). inCircle q c r) (w .place)) ∙ all-at (λ e. inCircle (positionOf e) c r ≡ true) noEntry es j (w .filled) all-near;
       }
 
   -- and every such handle is shown
-  module _ (g : Handle) (p : Position) (s : Sound g p) where
+  module _ (g : Handle) (p : Position) (d : ℕ) (s : Sound g p d) where
     abbrev n : Named m g
-    n = named m g (s .good-handle)
+    n = named m g (s .stands-there .good-handle)
 
     abbrev q : Position
     q = recordOn m (g .slot) .position
 
     q-near : inCircle q c r ≡ true
-    q-near = ap (λ (x : Position). inCircle x c r) (sym (s .recorded)) ∙ s .near
+    q-near = ap (λ (x : Position). inCircle x c r) (sym (s .stands-there .recorded)) ∙ s .near
 
     q-covered : inRange (cellAt (sizeOf m) low) (cellAt (sizeOf m) high) (cellAt (sizeOf m) q) ≡ true
     q-covered =
-        let o = h .records (g .slot) (n .inside) (n .occupied) .occupied .in-domain in
-        circle-cover (sizeOf m) (h .counted .size .0) q c r o dc dr q-near
+        let inside = h .records (g .slot) (n .inside) (n .occupied) .occupied .in-domain in
+        circle-cover (sizeOf m) (h .counted .size .0) q c r inside dc dr q-near
 
-    shown-at : (j : ℕ) → j < length es → slotOf (at j) ≡ g .slot → Shown j g p
+    shown-at : (j : ℕ) → j < length es → slotOf (at j) ≡ g .slot → Shows j g p d
     shown-at j l v =
-        let w = all-at (Standing m) noEntry es j l (found-standing m h low high rl ru (Circle c r)) in
-        record { filled = l; slot = v; version = ap (versionAt (m .nums)) v ∙ n .version; place = w .recorded ∙ ap (λ (i : ℕ). recordOn m i .position) v ∙ sym (s .recorded) }
+        let w = all-at (Standing m) noEntry es j l stood in
+        record {
+          filled = l;
+          slot = v;
+          version = ap (versionAt (m .nums)) v ∙ n .version;
+          place = w .recorded ∙ ap (λ (i : ℕ). recordOn m i .position) v ∙ sym (s .stands-there .recorded);
+          obj = ap (λ (i : ℕ). recordOn m i .obj) v ∙ sym (s .stands-there .has-data);
+        }
 
-    complete : (j : ℕ) × Shown j g p
+    complete : (j : ℕ) × Shows j g p d
     complete =
         let (e, b, w) = finds m h low high rl ru (Circle c r) (g .slot) (n .inside) (n .occupied) q-near q-covered in
         let (j, l, z) = member-at e noEntry es b in
@@ -195,13 +139,13 @@ module _ (m : Tables) (h : Holds m) (c : Position) (r : Float) (handles : List (
   -- no slot at two places
   once : (i j : ℕ) → i < length es → j < length es → slotOf (at i) ≡ slotOf (at j) → i ≡ j
   once i j x y e =
-      let o = found-once m h low high rl ru (Circle c r) in
-      ⊎-elim (λ l. absurd (once-at noEntry es o i j y l e))
-      (λ q. ⊎-elim (λ l. absurd (once-at noEntry es o j i x l (sym e))) (λ w. omega (arith, q, w)) (d-lt j i))
+      let f = found-once m h low high rl ru (Circle c r) in
+      ⊎-elim (λ l. absurd (once-at noEntry es f i j y l e))
+      (λ q. ⊎-elim (λ l. absurd (once-at noEntry es f j i x l (sym e))) (λ w. omega (arith, q, w)) (d-lt j i))
       (d-lt i j)
 
 -- ---- the demand: t is the grid right after a maintain, cs are the calls since, and the circle is asked right after the next maintain
-module _ (t : Tables) (s : Settled t) (cs : List Call) (c : Position) (r : Float) (handles : List (List ℕ)) (places : List (List Float)) (a : aroundOf (nextMaintain t cs .after) c r handles places .returned .answer ≡ 0) where
+module _ (t : Tables) (s : Settled t) (cs : List Call) (c : Position) (r : Float) (o : Outputs) (a : aroundOf (nextMaintain t cs .after) c r o .returned .answer ≡ 0) where
   abbrev m′ : Tables
   m′ = nextMaintain t cs .after
 
@@ -209,25 +153,31 @@ module _ (t : Tables) (s : Settled t) (cs : List Call) (c : Position) (r : Float
   hm = next-holds t s cs
 
   abbrev o′ : Findings
-  o′ = aroundOf m′ c r handles places
+  o′ = aroundOf m′ c r o
+
+  seen : (j : ℕ) (g : Handle) (p : Position) (d : ℕ) → ReportedAt o′ j g p d → Shows m′ hm c r o a j g p d
+  seen = shown m′ (es m′ hm c r o a) o o′ (is-done m′ hm c r o a)
 
   -- exactly the points that are due
-  pub circle-reports : (g : Handle) (p : Position) → (Reports o′ g p → Due t cs c r g p) × (Due t cs c r g p → Reports o′ g p)
-  circle-reports g p = (
+  pub circle-reports : (g : Handle) (p : Position) (d : ℕ) → (Reports o′ g p d → Due t cs c r g p d) × (Due t cs c r g p d → Reports o′ g p d)
+  circle-reports g p d = (
     λ (j, w).
-        let v = sound m′ hm c r handles places a j g p (shown m′ hm c r handles places a j g p w) in
-        let (x, y) = stands t s cs g .yes (v .good-handle) in
-        record { was-live = x; not-removed = y; at-last = v .recorded ∙ stands-at t s cs g x y .1; near = v .near },
-    λ d.
-        let x = stands t s cs g .no (d .was-live, d .not-removed) in
-        let v : Sound m′ hm c r handles places a g p = record { good-handle = x; recorded = d .at-last ∙ sym (stands-at t s cs g (d .was-live) (d .not-removed) .1); near = d .near } in
-        let (j, w) = complete m′ hm c r handles places a g p v in
-        (j, reported m′ hm c r handles places a j g p w),
+        let v = sound m′ hm c r o a j g p d (seen j g p d w) in
+        let b = v .stands-there in
+        let (x, y) = stands t s cs g .yes (b .good-handle) in
+        let (was, at) = stands-at t s cs g x y in
+        record { was-live = x; not-removed = y; at-last = b .recorded ∙ at; has-data = b .has-data ∙ was; near = v .near },
+    λ u.
+        let x = stands t s cs g .no (u .was-live, u .not-removed) in
+        let (was, at) = stands-at t s cs g (u .was-live) (u .not-removed) in
+        let b : Stands m′ g p d = record { good-handle = x; recorded = u .at-last ∙ sym at; has-data = u .has-data ∙ sym was } in
+        let (j, w) = complete m′ hm c r o a g p d (record { stands-there = b; near = u .near }) in
+        (j, reported m′ (es m′ hm c r o a) o o′ (is-done m′ hm c r o a) j g p d w),
   )
 
   -- once each
-  pub reports-once : (i j : ℕ) (g k : Handle) (p q : Position) → ReportedAt o′ i g p → ReportedAt o′ j k q → g .slot ≡ k .slot → i ≡ j
-  reports-once i j g k p q x y e =
-      let v = shown m′ hm c r handles places a i g p x in
-      let w = shown m′ hm c r handles places a j k q y in
-      once m′ hm c r handles places a i j (v .filled) (w .filled) (v .slot ∙ e ∙ sym (w .slot))
+  pub reports-once : (i j : ℕ) (g k : Handle) (p q : Position) (d e : ℕ) → ReportedAt o′ i g p d → ReportedAt o′ j k q e → g .slot ≡ k .slot → i ≡ j
+  reports-once i j g k p q d e x y f =
+      let v = seen i g p d x in
+      let w = seen j k q e y in
+      once m′ hm c r o a i j (v .filled) (w .filled) (v .slot ∙ f ∙ sym (w .slot))

@@ -1,5 +1,6 @@
 -- `point_search::fill::fill_many` meets its contract. Assumes nothing.
 use Rattle.basics.specs.Words.{ℕ, _≤_, _≡_, ap, _∙_, List, take, arith, needs}
+use Rattle.point_search.specs.Meaning.Searches.{outputs}
 use Rattle.point_search.specs.Inner.Places.{placesOf}
 use Rattle.point_search.specs.Inner.Fill.{filled, Findable}
 use Rattle.point_search.specs.Inner.Begun.{Begun}
@@ -9,7 +10,7 @@ use Rattle.point_search.proofs.fill.fill_many.Tie as tie
 
 copy-requires : tie.Need-copy-requires
 copy-requires c κs =
-    let s = c .before .before in
+    let s = c .before .before .before in
     let a = s .args in
     let few = begun-few (a .a) (a .b) (a .test) (a .pool .now) (a .spots .now) (a .part .number) (a .part .place) (a .few .now) (s .pre .2) in
     let room = begun-room (a .a) (a .b) (a .test) (a .pool .now) (a .spots .now) (a .part .number) (a .part .place) (a .few .now) (s .pre .2) in
@@ -19,7 +20,7 @@ copy-requires c κs =
 gather-requires : tie.Need-gather-requires
 gather-requires c κs =
     let k = c .before .before in
-    let s = k .before .before .before in
+    let s = k .before .before .before .before in
     let a = s .args in (
       s .pre .0 .0,
       s .pre .0 .1,
@@ -35,7 +36,7 @@ module _ (g : tie.After-gather) where
   copied = g .before .before .before
 
   abbrev start : tie.Start
-  start = copied .before .before .before
+  start = copied .before .before .before .before
 
   abbrev last : List ℕ
   last = g .gather .last .1 .1 .1 .1 .1 .1 .1 .0
@@ -51,7 +52,7 @@ module _ (g : tie.After-gather) where
 
 report-requires : tie.Need-report-requires
 report-requires c κs =
-    let g = c .before .before .before .before in
+    let g = c .before .before .before .before .before in
     let s = start g in
     let a = s .args in
     let r = g .gather .result in
@@ -67,10 +68,10 @@ report-requires c κs =
 
 returns : tie.Need-returns
 returns c =
-    let p = c .before .before in
-    let g = p .before .before .before .before .before in
+    let p = c .before .before .before .before in
+    let g = p .before .before .before .before .before .before in
     let a = start g .args in
-    p .report .ensures ∙ ap (λ (js : List ℕ). filled (a .nums .now) (a .pool .now) (a .spots .now) js (a .handles .now) (a .places .now)) (all g)
+    p .report .ensures ∙ ap (λ (js : List ℕ). filled (a .nums .now) (a .pool .now) (a .spots .now) js (outputs (a .handles .now) (a .places .now) (a .objs .now))) (all g)
 
 pub fill-many-spec : {M : Type 1} → statement M
 fill-many-spec =
@@ -82,6 +83,7 @@ fill-many-spec =
     gather-requires
     (λ c. search needs)
     report-requires
+    (λ c. search needs)
     (λ c. search needs)
     (λ c. search needs)
     returns)
