@@ -139,9 +139,9 @@ impl PointCall {
                 let objs = filled(*more, r.out.iter().map(|(_, data)| [*data]));
                 Outcome { answer: r.answer, numbers: vec![r.count], outs: vec![spots, objs] }
             }
-            PointCall::Query(Corners::Cells, ll, ur, lens) => found(grid.query(*ll, *ur, *lens.iter().min().unwrap()), lens),
-            PointCall::Query(Corners::Sorted, ll, ur, lens) => found(grid.query_aabb(*ll, *ur, *lens.iter().min().unwrap()), lens),
-            PointCall::Around(centre, r, lens) => found(grid.query_around(*centre, *r, *lens.iter().min().unwrap()), lens),
+            PointCall::Query(Corners::Cells, ll, ur, lens) => found(grid.query(*ll, *ur, Outs::room(lens)), lens),
+            PointCall::Query(Corners::Sorted, ll, ur, lens) => found(grid.query_aabb(*ll, *ur, Outs::room(lens)), lens),
+            PointCall::Around(centre, r, lens) => found(grid.query_around(*centre, *r, Outs::room(lens)), lens),
             _ => plain(DONE, vec![grid.slots.len() as u64]),
         }
     }

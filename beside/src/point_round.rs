@@ -270,7 +270,7 @@ impl<'a> PointRound<'a> {
         let all = if sorted { self.reading.query_aabb(ll, ur, usize::MAX) } else { self.reading.query(ll, ur, usize::MAX) };
         let lens = self.lens(all.out.len());
         let accepted = all.answer == DONE;
-        let wanted = if accepted { Filled::fitted(all.out, *lens.iter().min().unwrap()) } else { all };
+        let wanted = if accepted { Filled::fitted(all.out, Outs::room(&lens)) } else { all };
         let mut outs = Outs::new(lens);
         let got = self.tables.call_query(kind, ll, ur, &mut outs);
         let old = match (accepted, kind) {
@@ -285,7 +285,7 @@ impl<'a> PointRound<'a> {
         let all = self.reading.query_around(centre, r, usize::MAX);
         let lens = self.lens(all.out.len());
         let accepted = all.answer == DONE;
-        let wanted = if accepted { Filled::fitted(all.out, *lens.iter().min().unwrap()) } else { all };
+        let wanted = if accepted { Filled::fitted(all.out, Outs::room(&lens)) } else { all };
         let mut outs = Outs::new(lens);
         let got = self.tables.call_query_around(centre, r, &mut outs);
         let old = if accepted { self.old.query_around(centre, r) } else { vec![] };

@@ -144,6 +144,11 @@ impl Outs {
         Outs { found: Out::new(lens[0]), spots: Out::new(lens[1]), objs: Out::new(lens[2]) }
     }
 
+    /// The places that every output of these lengths has.
+    pub fn room(lens: &[usize; 3]) -> usize {
+        lens[0].min(lens[1]).min(lens[2])
+    }
+
     pub fn words(&self) -> Vec<Vec<u32>> {
         vec![self.found.words(), self.spots.words(), self.objs.words()]
     }

@@ -12,25 +12,25 @@ fn number(n: u32) {
     io::print_decimal(STDOUT_FILENO, n as u64);
 }
 
+fn next(n: u32) {
+    say(b",");
+    number(n);
+}
+
 fn line(what: &[u8], answer: u32, a: u32, b: u32) {
     say(what);
     number(answer);
-    say(b",");
-    number(a);
-    say(b",");
-    number(b);
+    next(a);
+    next(b);
     say(b"\n");
 }
 
 fn longer_line(what: &[u8], answer: u32, a: u32, b: u32, c: u32) {
     say(what);
     number(answer);
-    say(b",");
-    number(a);
-    say(b",");
-    number(b);
-    say(b",");
-    number(c);
+    next(a);
+    next(b);
+    next(c);
     say(b"\n");
 }
 

@@ -1,4 +1,3 @@
 -- Laws, and what the proofs share.
-pub mod RoomLaws
 pub mod InRange
 pub mod Tells

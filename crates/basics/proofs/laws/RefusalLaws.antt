@@ -1,7 +1,7 @@
 -- A call that makes its tests one after the other, in document 01's order, answers the first that applies. Assumes nothing.
-use Rattle.basics.specs.Words.{ℕ, _≡_, refl, sym, ap, _∙_, Bool, true, false, not, _&&_, _||_, List, [], _∷_, drop, eqb, eqb-true}
+use Rattle.basics.specs.Words.{ℕ, _≡_, refl, sym, ap, _∙_, Bool, true, false, not, _&&_, _||_, List, [], _∷_, drop, eqb, arith, eqb-true}
 use Rattle.basics.proofs.laws.Says.{apart, both-true, untrue}
-use Rattle.basics.specs.Meaning.Refusals.{Refusal, orElse, firstOf, pick, order, applies, firstIn, firstThat}
+use Rattle.basics.specs.Meaning.Refusals.{Refusal, orElse, unless, firstOf, pick, order, applies, firstIn, firstThat}
 
 -- ---- numbers, each once; tests whose numbers are some of them, in their order
 abbrev pub among : ℕ → List ℕ → Bool
@@ -81,3 +81,11 @@ three-first rs = go (applies rs 3) (not-among 3 (drop 1 order) rs refl refl)
     go : (b : Bool) → eqb (firstIn (drop 1 order) rs) 3 ≡ false → eqb (pick b 3 (firstIn (drop 1 order) rs)) 3 ≡ b
     go true e = refl
     go false e = e
+
+-- ---- the four tests of a query: where none refuses, all pass
+pub four-pass : (a b c d : Bool) → firstOf (unless a 3 ∷ unless b 6 ∷ unless c 7 ∷ unless d 9 ∷ []) ≡ 0 → (a ≡ true) × (b ≡ true) × (c ≡ true) × (d ≡ true)
+four-pass true true true true e = (refl, refl, refl, refl)
+four-pass true true true false e = absurd (omega arith)
+four-pass true true false d e = absurd (omega arith)
+four-pass true false c d e = absurd (omega arith)
+four-pass false b c d e = absurd (omega arith)

@@ -20,7 +20,8 @@ use Rattle.point_search.proofs.laws.OnceLaws.{found-standing}
 use Rattle.point_query.specs.Meaning.Queries.{queryOf, aroundOf, aabbOf}
 use Rattle.point_query.proofs.laws.CornerLaws.{query-reached, around-reached, aabb-reached}
 use Rattle.whereabouts.specs.Meaning.Report.{ReportedAt}
-use Rattle.whereabouts.proofs.laws.ShownLaws.{search-held, search-ok, search-done, entryOf, reported, Stands, shows-entry, shown-stands}
+use Rattle.point_search.proofs.laws.FindLaws.{search-held, search-ok, search-done}
+use Rattle.whereabouts.proofs.laws.ShownLaws.{entryOf, reported, Stands, shows-entry, shown-stands}
 use Rattle.demands.specs.Meaning.Queries.{Query, ofCells, ofCircle, ofRectangle, queried, gotAt, placeAt}
 
 -- what place j reports of a good handle is what `get` says of it
@@ -43,11 +44,11 @@ module _ (t : Tables) (ok : Bool) (ll ur : Position) (test : Test) (o : Outputs)
       let h : Holds t = holds-says t .yes held in
       let (rl, ru) = reached (search-ok t ok ll ur test o a) in
       let done = search-done t ok ll ur test o a in
-      let e = findingOn t (entryOf t es o f done j) in
+      let e = findingOn t (entryOf es j) in
       let w = shows-entry t es o f done j l in
       reported-got t f j (e .handle) (e .position) (e .obj) held
       (reported t es o f done j (e .handle) (e .position) (e .obj) w)
-      (shown-stands t es o f done h (found-standing t h ll ur rl ru test) j (e .handle) (e .position) (e .obj) w)
+      (shown-stands t es h (found-standing t h ll ur rl ru test) j (e .handle) (e .position) (e .obj) w)
 
 -- each filled place of an accepted query: `get` of its handle answers 0, with the position and the data beside it
 pub finding-is-get : (t : Tables) (q : Query) (o : Outputs) → queried t q o .returned .answer ≡ 0 → (j : ℕ) → j < queried t q o .returned .count

@@ -1,5 +1,7 @@
 -- The search, answer by answer. Assumes nothing.
-use Rattle.basics.specs.Words.{ℕ, _<_, _≤_, _≡_, Bool, true, false, length, le-leb, lt-leb}
+use Rattle.basics.specs.Words.{ℕ, _<_, _≤_, _≡_, Bool, true, false, ⊎-elim, length, leb, leb-true, le-leb, lt-leb, eq-eqb, ne-eqb}
+use Rattle.basics.proofs.laws.RefusalLaws.{four-pass}
+use Rattle.basics.proofs.laws.Says.{d-eq}
 use Rattle.basics.specs.Meaning.Limits.{mostCells}
 use Rattle.geometry.specs.declared.Position.{Position}
 use Rattle.cells.specs.Meaning.CellRule.{cellAt}
@@ -40,3 +42,27 @@ module _ (t : Tables) (ok : Bool) (ll ur : Position) (test : Test) (o : Outputs)
       → reportOf (findingOn t) (found t ll ur test) o ≡ searchOf t ok ll ur test o
   unfolding searchOf searchAnswer
   search-0 e f l m = simp (e, f, le-leb cellsOf mostCells l, le-leb number places-there m)
+
+  -- ---- a search whose answer is 0 passed its tests
+  tests : searchAnswer t ok ll ur test places-there ≡ 0
+      → (holds t ≡ true) × (ok ≡ true) × (leb cellsOf mostCells ≡ true) × (leb number places-there ≡ true)
+  unfolding searchAnswer
+  tests = four-pass (holds t) ok (leb cellsOf mostCells) (leb number places-there)
+
+  pub passed-room : searchAnswer t ok ll ur test places-there ≡ 0 → number ≤ places-there
+  passed-room e = leb-true number places-there (tests e .3)
+
+  module _ (e : searchOf t ok ll ur test o .returned .answer ≡ 0) where
+    passed : searchAnswer t ok ll ur test places-there ≡ 0
+    unfolding searchOf
+    passed = ⊎-elim (λ z. z) (λ n. rw (ne-eqb (searchAnswer t ok ll ur test places-there) 0 n) at e) (d-eq (searchAnswer t ok ll ur test places-there) 0)
+
+    pub search-held : holds t ≡ true
+    search-held = tests passed .0
+
+    pub search-ok : ok ≡ true
+    search-ok = tests passed .1
+
+    pub search-done : searchOf t ok ll ur test o ≡ reportOf (findingOn t) (found t ll ur test) o
+    unfolding searchOf
+    search-done = rw (eq-eqb (searchAnswer t ok ll ur test places-there) 0 passed)

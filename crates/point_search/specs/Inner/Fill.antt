@@ -29,8 +29,8 @@ handleRowAt nums pool spots j = handleRow (findingAt nums pool spots j)
 abbrev pub placeRowAt : List (List ℕ) → List (List ℕ) → List (List Float) → ℕ → List Float
 placeRowAt nums pool spots j = placeRow (findingAt nums pool spots j)
 
-abbrev pub objAt : List (List ℕ) → List (List ℕ) → List (List Float) → ℕ → ℕ
-objAt nums pool spots j = findingAt nums pool spots j .obj
+abbrev pub findingObjAt : List (List ℕ) → List (List ℕ) → List (List Float) → ℕ → ℕ
+findingObjAt nums pool spots j = findingAt nums pool spots j .obj
 
 unfoldable pub filled : List (List ℕ) → List (List ℕ) → List (List Float) → List ℕ → Outputs → Findings
 filled nums pool spots js o =

@@ -4,6 +4,7 @@ use Rattle.basics.specs.Words.{eqb-true, leb-true}
 use lib.Ieee.{Float}
 use Rattle.basics.specs.Meaning.Limits.{mostCells}
 use Rattle.basics.specs.Meaning.Refusals.{pick}
+use Rattle.basics.proofs.laws.RefusalLaws.{four-pass}
 use Rattle.geometry.specs.declared.Aabb.{Aabb}
 use Rattle.geometry.specs.Meaning.Domain.{aabbInDomain}
 use Rattle.storage.specs.Meaning.Keyed.{written}
@@ -23,7 +24,6 @@ use Rattle.slots.specs.declared.Handle.{Handle}
 use Rattle.trace_lines.specs.declared.Spot.{Spot}
 use Rattle.trace_lines.specs.declared.BoxChange.{BoxChange}
 use Rattle.trace_lines.specs.declared.BoxChange.the-variants.{Bin, Bset, Brem}
-use Rattle.trace_telling.proofs.laws.RoomLaws.{had-room}
 use Rattle.trace_telling.proofs.laws.Tells.{told-tells}
 use Rattle.trace_boxes.specs.Meaning.Changes.{changeOf}
 use Rattle.trace_boxes.specs.Meaning.Searches.{Searched, boxSearchSaid, boxSearchOf}
@@ -35,7 +35,7 @@ IsTold places s = Told (s .tells) (length (s .handles)) places (length (s .corne
 
 room-of : (t : Tables) (q : Aabb) (n room : ℕ) → query.lookAnswer t q n room ≡ 0 → n ≤ room
 unfolding query.lookAnswer
-room-of t q n room h = leb-true n room (had-room (holds t) (aabbInDomain q) (leb (covers (sizeOf t) q) mostCells) (leb n room) h)
+room-of t q n room h = leb-true n room (four-pass (holds t) (aabbInDomain q) (leb (covers (sizeOf t) q) mostCells) (leb n room) h .3)
 
 module _ (places : ℕ) (handles : List (List ℕ)) (corners : List (List Float)) (objs : List ℕ) (few : length corners ≤ 64) where
   told-found : (ss : List ℕ) (f : ℕ → List ℕ) (g : ℕ → List Float) (k : ℕ) → length ss ≤ query.roomOf handles corners objs

@@ -1,18 +1,14 @@
 -- The findings that a search says are in its outputs. Assumes nothing.
-use Rattle.basics.specs.Words.{ℕ, min, _≤_, _≡_, refl, sym, subst, Bool, true, false, _&&_, List, map, length, length-map, eqb, leb, ℤ, min-le-left}
-use Rattle.basics.specs.Words.{min-le-right, arith, eqb-true, leb-true}
-use Rattle.basics.specs.Meaning.Limits.{mostCells}
+use Rattle.basics.specs.Words.{ℕ, min, _≤_, _≡_, refl, sym, subst, Bool, true, false, _&&_, List, map, length, length-map, eqb, ℤ, min-le-left, min-le-right}
+use Rattle.basics.specs.Words.{arith, eqb-true}
 use Rattle.basics.specs.Meaning.Refusals.{pick}
 use Rattle.geometry.specs.declared.Position.{Position}
 use Rattle.geometry.specs.Meaning.Domain.{positionInDomain, radiusInDomain}
 use Rattle.geometry.specs.Meaning.Rectangle.{lowerCorner, upperCorner}
 use Rattle.geometry.specs.Meaning.Circle.{cornerBelow, cornerAbove}
-use Rattle.cells.specs.Meaning.CellRule.{cellAt}
-use Rattle.cells.specs.Meaning.Range.{cellsIn}
 use Rattle.storage.specs.Meaning.Keyed.{written}
 use Rattle.storage.proofs.laws.WrittenLaws.{length-written}
-use Rattle.point_tables.specs.Meaning.Tables.{Tables, sizeOf}
-use Rattle.point_tables.specs.Meaning.Decide.{holds}
+use Rattle.point_tables.specs.Meaning.Tables.{Tables}
 use Rattle.point_insert.specs.Meaning.Insert.{insertOf}
 use Rattle.point_deferred.specs.Meaning.Moves.{setPositionOf, removeOf}
 use Rattle.point_remove.specs.Meaning.RemoveMaintain.{removeMaintainOf}
@@ -23,6 +19,7 @@ use Rattle.point_search.specs.declared.Finding.{Finding}
 use Rattle.point_search.specs.declared.Test.{Test}
 use Rattle.point_search.specs.declared.Test.the-variants.{Any, Circle, Rectangle}
 use Rattle.point_search.specs.Meaning.Searches as searches
+use Rattle.point_search.proofs.laws.FindLaws.{passed-room}
 use Rattle.point_query.specs.Meaning.Queries as query
 use Rattle.trace_printing.specs.declared.Said.the-variants.{Refused, Done, One, Two, Points}
 use Rattle.trace_printing.specs.Inner.Said.{Told}
@@ -33,7 +30,6 @@ use Rattle.trace_lines.specs.declared.PointChange.{PointChange}
 use Rattle.trace_lines.specs.declared.PointChange.the-variants.{Ins, Pos, Rem, Now, Mnt}
 use Rattle.trace_lines.specs.declared.PointSearch.{PointSearch}
 use Rattle.trace_lines.specs.declared.PointSearch.the-variants.{Cir, Rec, Cel}
-use Rattle.trace_telling.proofs.laws.RoomLaws.{had-room}
 use Rattle.trace_telling.proofs.laws.Tells.{told-tells}
 use Rattle.trace_points.specs.Meaning.Changes.{changeOf}
 use Rattle.trace_points.specs.Meaning.Searches.{Searched, searched, pointSearchSaid, findingsOf, pointSearchOf}
@@ -41,12 +37,6 @@ use Rattle.trace_points.specs.Meaning.Searches.{Searched, searched, poin
 -- what there is to tell is there: as many findings as the trace's grids can give, and all in the outputs
 abbrev pub IsTold : ℕ → Searched → Type 0
 IsTold boxes s = Told (s .tells) (length (s .outputs .handles)) (length (s .outputs .places)) boxes (length (s .outputs .objs))
-
-room-of : (t : Tables) (ok : Bool) (ll ur : Position) (test : Test) (room : ℕ) → searches.searchAnswer t ok ll ur test room ≡ 0 → length (searches.found t ll ur test) ≤ room
-unfolding searches.searchAnswer
-room-of t ok ll ur test room h =
-    let n = length (searches.found t ll ur test) in
-    leb-true n room (had-room (holds t) ok (leb (cellsIn (cellAt (sizeOf t) ll) (cellAt (sizeOf t) ur)) mostCells) (leb n room) h)
 
 module _ (boxes : ℕ) (o : searches.Outputs) (few : length (o .handles) ≤ 256) where
   -- as many as there is room for are in a column of the outputs
@@ -70,7 +60,7 @@ module _ (boxes : ℕ) (o : searches.Outputs) (few : length (o .handles) ≤ 256
         a = searches.searchAnswer t ok ll ur test (searches.room o)
 
         go : (x : Bool) → eqb a 0 ≡ x → IsTold boxes (pointSearchSaid (pick x (searches.reportOf (searches.findingOn t) (searches.found t ll ur test) o) (searches.findings (count a (pick (eqb a 9) (length (searches.found t ll ur test)) 0)) o)))
-        go true h = told-found (searches.found t ll ur test) (searches.findingOn t) (room-of t ok ll ur test (searches.room o) (eqb-true a 0 h))
+        go true h = told-found (searches.found t ll ur test) (searches.findingOn t) (passed-room t ok ll ur test o (eqb-true a 0 h))
         go false h = subst (λ (x : Bool). Told (pick x (Points (pick (eqb a 9) (length (searches.found t ll ur test)) 0)) (Refused a)) (length (o .handles)) (length (o .places)) boxes (length (o .objs))) (sym h) tt
 
   pub told : (t : Tables) (s : PointSearch) (p q : Spot) (far : ℤ) → IsTold boxes (pointSearchOf t s p q far o)

@@ -30,7 +30,8 @@ use Rattle.point_search.proofs.laws.ScanLaws.{circle-scan}
 use Rattle.whereabouts.proofs.laws.StandsLaws.{Settled, next-holds, stands, stands-at}
 use Rattle.whereabouts.specs.Meaning.Stands.{nextMaintain}
 use Rattle.whereabouts.specs.Meaning.Report.{ReportedAt, Reports, Due}
-use Rattle.whereabouts.proofs.laws.ShownLaws.{search-ok, search-done, noEntry, entryOf, Shown, shown, reported, Stands, shown-stands}
+use Rattle.point_search.proofs.laws.FindLaws.{search-ok, search-done}
+use Rattle.whereabouts.proofs.laws.ShownLaws.{noEntry, entryOf, Shown, shown, reported, Stands, shown-stands}
 
 -- ---- places of a list
 member-at : {A : Type 0} (x d : A) (l : List A) → List·Memᴰ x l → (j : ℕ) × (j < length l) × (getD l j d ≡ x)
@@ -83,10 +84,10 @@ module _ (m : Tables) (h : Holds m) (c : Position) (r : Float) (o : Outputs) (a 
 
   -- what place j of its outputs shows
   abbrev at : ℕ → Entry
-  at = entryOf m es o (aroundOf m c r o) is-done
+  at = entryOf es
 
   abbrev Shows : ℕ → Handle → Position → ℕ → Type 0
-  Shows = Shown m es o (aroundOf m c r o) is-done
+  Shows = Shown m es
 
   stood : All (Standing m) es
   stood = found-standing m h low high rl ru (Circle c r)
@@ -99,7 +100,7 @@ module _ (m : Tables) (h : Holds m) (c : Position) (r : Float) (o : Outputs) (a 
   sound : (j : ℕ) (g : Handle) (p : Position) (d : ℕ) → Shows j g p d → Sound g p d
   sound j g p d w =
       record {
-        stands-there = shown-stands m es o (aroundOf m c r o) is-done h stood j g p d w;
+        stands-there = shown-stands m es h stood j g p d w;
         near = sym (ap (λ (q : Position). inCircle q c r) (w .place)) ∙ all-at (λ e. inCircle (positionOf e) c r ≡ true) noEntry es j (w .filled) all-near;
       }
 

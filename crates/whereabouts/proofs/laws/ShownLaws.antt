@@ -1,25 +1,17 @@
 -- What a search that is not refused shows in its outputs: in place j the handle, the position and the data of entry j that it found. On tables
 -- that hold a grid the handle is good, and position and data are those of its record. Assumes nothing.
-use Rattle.basics.specs.Words.{ℕ, zero, suc, _<_, _≡_, refl, sym, ap, _∙_, Bool, true, false, List, [], _∷_, _++_, map, ⊎-elim, length, getD, leb}
-use Rattle.basics.specs.Words.{not-suc-le-zero, le-of-suc-le-suc, arith, eq-eqb, ne-eqb}
+use Rattle.basics.specs.Words.{ℕ, zero, suc, _<_, _≡_, refl, sym, ap, _∙_, true, List, [], _∷_, _++_, map, length, getD, not-suc-le-zero, le-of-suc-le-suc}
 use lib.Ieee.{Float, nan}
-use Rattle.basics.specs.Meaning.Limits.{mostCells}
-use Rattle.basics.specs.Meaning.Refusals.{orElse}
-use Rattle.basics.proofs.laws.Says.{d-eq}
 use Rattle.geometry.specs.declared.Position.{Position}
 use Rattle.geometry.proofs.laws.BitsLaws.{same-by-axes}
-use Rattle.cells.specs.Meaning.CellRule.{cellAt}
-use Rattle.cells.specs.Meaning.Range.{cellsIn}
 use Rattle.slots.specs.declared.Handle.{Handle}
 use Rattle.slots.specs.Meaning.Slot.{versionAt, good}
 use Rattle.storage.specs.Meaning.Keyed.{All}
 use Rattle.storage.specs.Meaning.Entries.{Entry, entry}
 use Rattle.storage.proofs.laws.FilterLaws.{all-at}
-use Rattle.point_tables.specs.Meaning.Tables.{Tables, sizeOf, recordOn, slotOf}
+use Rattle.point_tables.specs.Meaning.Tables.{Tables, recordOn, slotOf}
 use Rattle.point_tables.specs.Meaning.Holds.{Holds}
-use Rattle.point_tables.specs.Meaning.Decide.{holds}
-use Rattle.point_search.specs.declared.Test.{Test}
-use Rattle.point_search.specs.Meaning.Searches.{positionOf, found, findingOn, handleRow, placeRow, Outputs, room, Findings, reportOf, searchAnswer, searchOf}
+use Rattle.point_search.specs.Meaning.Searches.{positionOf, findingOn, handleRow, placeRow, Outputs, Findings, reportOf}
 use Rattle.point_search.proofs.laws.FoundLaws.{Standing}
 use Rattle.point_search.proofs.laws.OnceLaws.{standing-good}
 use Rattle.whereabouts.specs.Meaning.Report.{ReportedAt}
@@ -29,37 +21,11 @@ mapped-at f [] o d e j h = absurd (not-suc-le-zero h)
 mapped-at f (x ∷ l) o d e zero h = refl
 mapped-at f (x ∷ l) o d e (suc j) h = mapped-at f l o d e j (le-of-suc-le-suc h)
 
--- ---- a search that is not refused
-four : (a b c d : Bool) → orElse a 3 (orElse b 6 (orElse c 7 (orElse d 9 0))) ≡ 0 → (a ≡ true) × (b ≡ true)
-four true true c d e = (refl, refl)
-four true false c d e = absurd (omega arith)
-four false b c d e = absurd (omega arith)
-
-module _ (t : Tables) (ok : Bool) (ll ur : Position) (test : Test) (o : Outputs) (e : searchOf t ok ll ur test o .returned .answer ≡ 0) where
-  abbrev answer : ℕ
-  answer = searchAnswer t ok ll ur test (room o)
-
-  passed : answer ≡ 0
-  unfolding searchOf
-  passed = ⊎-elim (λ z. z) (λ n. rw (ne-eqb answer 0 n) at e) (d-eq answer 0)
-
-  tests : (holds t ≡ true) × (ok ≡ true)
-  unfolding searchAnswer
-  tests = four (holds t) ok (leb (cellsIn (cellAt (sizeOf t) ll) (cellAt (sizeOf t) ur)) mostCells) (leb (length (found t ll ur test)) (room o)) passed
-
-  pub search-held : holds t ≡ true
-  search-held = tests .0
-
-  pub search-ok : ok ≡ true
-  search-ok = tests .1
-
-  pub search-done : searchOf t ok ll ur test o ≡ reportOf (findingOn t) (found t ll ur test) o
-  unfolding searchOf
-  search-done = rw (eq-eqb answer 0 passed)
-
--- ---- f reports the entries es of the tables m
 abbrev pub noEntry : Entry
 noEntry = entry [] []
+
+abbrev pub entryOf : List Entry → ℕ → Entry
+entryOf es j = getD es j noEntry
 
 -- a good handle with its recorded position and its data
 pub record Stands (m : Tables) (g : Handle) (p : Position) (d : ℕ) : Type 0 where
@@ -67,49 +33,48 @@ pub record Stands (m : Tables) (g : Handle) (p : Position) (d : ℕ) : Type 0 wh
   pub recorded : p ≡ recordOn m (g .slot) .position
   pub has-data : d ≡ recordOn m (g .slot) .obj
 
-module _ (m : Tables) (es : List Entry) (o : Outputs) (f : Findings) (done : f ≡ reportOf (findingOn m) es o) where
-  abbrev pub entryOf : ℕ → Entry
-  entryOf j = getD es j noEntry
-
-  -- place j of the outputs is entry j
+module _ (m : Tables) (es : List Entry) where
+  -- what is told in place j is entry j
   pub record Shown (j : ℕ) (g : Handle) (p : Position) (d : ℕ) : Type 0 where
     pub filled : j < length es
-    pub slot : slotOf (entryOf j) ≡ g .slot
-    pub version : versionAt (m .nums) (slotOf (entryOf j)) ≡ g .version
-    pub place : positionOf (entryOf j) ≡ p
-    pub obj : recordOn m (slotOf (entryOf j)) .obj ≡ d
-
-  pub shown : (j : ℕ) (g : Handle) (p : Position) (d : ℕ) → ReportedAt f j g p d → Shown j g p d
-  shown j g p d w =
-      let v : ReportedAt (reportOf (findingOn m) es o) j g p d = rw done at w in
-      let x = sym (mapped-at (λ e. handleRow (findingOn m e)) es _ noEntry [] j (v .filled)) ∙ v .handle in
-      let y = sym (mapped-at (λ e. placeRow (findingOn m e)) es _ noEntry [] j (v .filled)) ∙ v .place in
-      record {
-        filled = v .filled;
-        slot = ap (λ (l : List ℕ). getD l 0 0) x;
-        version = ap (λ (l : List ℕ). getD l 1 0) x;
-        place = same-by-axes (positionOf (entryOf j)) p (ap (λ (l : List Float). getD l 0 nan) y) (ap (λ (l : List Float). getD l 1 nan) y);
-        obj = sym (mapped-at (λ e. findingOn m e .obj) es _ noEntry 0 j (v .filled)) ∙ v .obj;
-      }
-
-  pub reported : (j : ℕ) (g : Handle) (p : Position) (d : ℕ) → Shown j g p d → ReportedAt f j g p d
-  reported j g p d w =
-      rw done (record {
-        filled = w .filled;
-        handle = mapped-at (λ e. handleRow (findingOn m e)) es _ noEntry [] j (w .filled) ∙ (λ i. w .slot i ∷ w .version i ∷ []);
-        place = mapped-at (λ e. placeRow (findingOn m e)) es _ noEntry [] j (w .filled) ∙ ap (λ (q : Position). q .x ∷ q .y ∷ []) (w .place);
-        obj = mapped-at (λ e. findingOn m e .obj) es _ noEntry 0 j (w .filled) ∙ w .obj;
-      })
-
-  -- every filled place shows its entry
-  pub shows-entry : (j : ℕ) → j < f .returned .count → let g = findingOn m (entryOf j) in Shown j (g .handle) (g .position) (g .obj)
-  shows-entry j l = record { filled = rw done at l; slot = refl; version = refl; place = refl; obj = refl }
+    pub slot : slotOf (entryOf es j) ≡ g .slot
+    pub version : versionAt (m .nums) (slotOf (entryOf es j)) ≡ g .version
+    pub place : positionOf (entryOf es j) ≡ p
+    pub obj : recordOn m (slotOf (entryOf es j)) .obj ≡ d
 
   pub shown-stands : Holds m → All (Standing m) es → (j : ℕ) (g : Handle) (p : Position) (d : ℕ) → Shown j g p d → Stands m g p d
   shown-stands h st j g p d w =
       let s = all-at (Standing m) noEntry es j (w .filled) st in
       record {
-        good-handle = sym (λ i. good (m .nums) (w .slot i) (w .version i)) ∙ standing-good m h (entryOf j) s;
+        good-handle = sym (λ i. good (m .nums) (w .slot i) (w .version i)) ∙ standing-good m h (entryOf es j) s;
         recorded = sym (w .place) ∙ s .recorded ∙ ap (λ (n : ℕ). recordOn m n .position) (w .slot);
         has-data = sym (w .obj) ∙ ap (λ (n : ℕ). recordOn m n .obj) (w .slot);
       }
+
+  -- ---- f reports the entries es
+  module _ (o : Outputs) (f : Findings) (done : f ≡ reportOf (findingOn m) es o) where
+    pub shown : (j : ℕ) (g : Handle) (p : Position) (d : ℕ) → ReportedAt f j g p d → Shown j g p d
+    shown j g p d w =
+        let v : ReportedAt (reportOf (findingOn m) es o) j g p d = rw done at w in
+        let x = sym (mapped-at (λ e. handleRow (findingOn m e)) es _ noEntry [] j (v .filled)) ∙ v .handle in
+        let y = sym (mapped-at (λ e. placeRow (findingOn m e)) es _ noEntry [] j (v .filled)) ∙ v .place in
+        record {
+          filled = v .filled;
+          slot = ap (λ (l : List ℕ). getD l 0 0) x;
+          version = ap (λ (l : List ℕ). getD l 1 0) x;
+          place = same-by-axes (positionOf (entryOf es j)) p (ap (λ (l : List Float). getD l 0 nan) y) (ap (λ (l : List Float). getD l 1 nan) y);
+          obj = sym (mapped-at (λ e. findingOn m e .obj) es _ noEntry 0 j (v .filled)) ∙ v .obj;
+        }
+
+    pub reported : (j : ℕ) (g : Handle) (p : Position) (d : ℕ) → Shown j g p d → ReportedAt f j g p d
+    reported j g p d w =
+        rw done (record {
+          filled = w .filled;
+          handle = mapped-at (λ e. handleRow (findingOn m e)) es _ noEntry [] j (w .filled) ∙ (λ i. w .slot i ∷ w .version i ∷ []);
+          place = mapped-at (λ e. placeRow (findingOn m e)) es _ noEntry [] j (w .filled) ∙ ap (λ (q : Position). q .x ∷ q .y ∷ []) (w .place);
+          obj = mapped-at (λ e. findingOn m e .obj) es _ noEntry 0 j (w .filled) ∙ w .obj;
+        })
+
+    -- every filled place shows its entry
+    pub shows-entry : (j : ℕ) → j < f .returned .count → let g = findingOn m (entryOf es j) in Shown j (g .handle) (g .position) (g .obj)
+    shows-entry j l = record { filled = rw done at l; slot = refl; version = refl; place = refl; obj = refl }

@@ -3,7 +3,7 @@ use Rattle.basics.specs.Words.{_<_, _-_, _≡_, sym, ap, _∙_, subst, length, 
 use Rattle.point_records.specs.declared.Entry.{Entry}
 use Rattle.point_search.specs.declared.Finding.{Finding}
 use Rattle.point_search.specs.Meaning.Searches.{handleRow, placeRow, outputs}
-use Rattle.point_search.specs.Inner.Fill.{findingOf, findingAt, handleRowAt, placeRowAt, objAt, Findable}
+use Rattle.point_search.specs.Inner.Fill.{findingOf, findingAt, handleRowAt, placeRowAt, findingObjAt, Findable}
 use Rattle.storage.proofs.laws.PutLaws.{Rows, rows-none, rows-kept, rows-room, put-next, put-done}
 use Rattle.point_search.proofs.fill.put_findings.Statement.{statement}
 use Rattle.point_search.proofs.fill.put_findings.Tie as tie
@@ -12,7 +12,7 @@ abbrev Inv-loop : tie.InvT-loop
 Inv-loop nums pool spots found r handles₀ places₀ objs₀ k₀ handles places objs k =
     Rows (handleRowAt nums pool spots) (take k found) r handles₀ handles k
     × Rows (placeRowAt nums pool spots) (take k found) r places₀ places k
-    × Rows (objAt nums pool spots) (take k found) r objs₀ objs k
+    × Rows (findingObjAt nums pool spots) (take k found) r objs₀ objs k
 
 abbrev μ-loop : tie.MeasureT-loop
 μ-loop nums pool spots found r handles₀ places₀ objs₀ k₀ handles places objs k = r - k

@@ -9,7 +9,7 @@ use Rattle.storage.proofs.laws.WrittenLaws.{length-written}
 use Rattle.storage.proofs.laws.RunLaws.{run-onward}
 use Rattle.point_search.specs.Meaning.Searches.{outputs, filling}
 use Rattle.point_search.specs.Inner.Places.{placesIn, spotPasses, placesOf}
-use Rattle.point_search.specs.Inner.Fill.{findingAt, handleRowAt, placeRowAt, objAt}
+use Rattle.point_search.specs.Inner.Fill.{findingAt, handleRowAt, placeRowAt, findingObjAt}
 use Rattle.point_search.proofs.laws.StretchLaws.{places-most, places-run}
 use Rattle.point_search.proofs.laws.RowLaws.{rows-behind}
 use Rattle.point_search.proofs.fill.put_range.Statement.{statement}
@@ -23,7 +23,7 @@ Inv-loop nums pool spots used test handles₀ places₀ objs₀ low high n₀ i�
     → (n ≡ length (placesOf a b test pool spots i))
     × (handles ≡ written (map (handleRowAt nums pool spots) (placesOf a b test pool spots i)) handles₀)
     × (places ≡ written (map (placeRowAt nums pool spots) (placesOf a b test pool spots i)) places₀)
-    × (objs ≡ written (map (objAt nums pool spots) (placesOf a b test pool spots i)) objs₀))
+    × (objs ≡ written (map (findingObjAt nums pool spots) (placesOf a b test pool spots i)) objs₀))
 
 abbrev μ-loop : tie.MeasureT-loop
 μ-loop nums pool spots used test handles₀ places₀ objs₀ low high n₀ i₀ handles places objs n i = used - i
@@ -43,7 +43,7 @@ module _ (l : tie.At-loop Inv-loop μ-loop) where
   place = let a = start .args in placeRowAt (a .nums .now) (a .pool .now) (a .spots .now)
 
   abbrev obj : ℕ → ℕ
-  obj = let a = start .args in objAt (a .nums .now) (a .pool .now) (a .spots .now)
+  obj = let a = start .args in findingObjAt (a .nums .now) (a .pool .now) (a .spots .now)
 
   met : (l .loop .n ≡ length js)
       × (l .loop .handles ≡ written (map handle js) (start .args .handles .now))

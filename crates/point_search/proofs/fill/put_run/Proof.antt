@@ -7,7 +7,7 @@ use Rattle.point_records.specs.declared.Entry.{Entry}
 use Rattle.point_search.specs.declared.Finding.{Finding}
 use Rattle.point_search.specs.Meaning.Searches.{passes, handleRow, placeRow}
 use Rattle.point_search.specs.Inner.Places.{spotPasses}
-use Rattle.point_search.specs.Inner.Fill.{findingOf, handleRowAt, placeRowAt, objAt}
+use Rattle.point_search.specs.Inner.Fill.{findingOf, handleRowAt, placeRowAt, findingObjAt}
 use Rattle.point_search.proofs.laws.PlacesLaws.{passed, passed-more, passed-same, places-length}
 use Rattle.point_search.proofs.laws.RowLaws.{rowsTo, rows-none, rows-kept, rows-taken, rows-passed}
 use Rattle.point_search.proofs.fill.put_run.Statement.{statement}
@@ -20,7 +20,7 @@ Inv-loop nums pool spots from to test n handles₀ places₀ objs₀ k₀ j₀ h
     × (k ≡ n + length (passed (spotPasses test spots) from j))
     × (handles ≡ written (take n handles₀ ++ map (handleRowAt nums pool spots) (passed (spotPasses test spots) from j)) handles₀)
     × (places ≡ written (take n places₀ ++ map (placeRowAt nums pool spots) (passed (spotPasses test spots) from j)) places₀)
-    × (objs ≡ written (take n objs₀ ++ map (objAt nums pool spots) (passed (spotPasses test spots) from j)) objs₀)
+    × (objs ≡ written (take n objs₀ ++ map (findingObjAt nums pool spots) (passed (spotPasses test spots) from j)) objs₀)
 
 abbrev μ-loop : tie.MeasureT-loop
 μ-loop nums pool spots from to test n handles₀ places₀ objs₀ k₀ j₀ handles places objs k j = to - j
@@ -37,7 +37,7 @@ module _ (s : tie.Start Inv-loop μ-loop) where
   place = placeRowAt (s .args .nums .now) (s .args .pool .now) (s .args .spots .now)
 
   abbrev obj : ℕ → ℕ
-  obj = objAt (s .args .nums .now) (s .args .pool .now) (s .args .spots .now)
+  obj = findingObjAt (s .args .nums .now) (s .args .pool .now) (s .args .spots .now)
 
   handles-size : s .args .n ≤ length (s .args .handles .now)
   handles-size = omega (arith, s .pre)
