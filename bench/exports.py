@@ -33,6 +33,7 @@ CALLS = [
     (POINTS, 'points::batch', DEFERRED, [LISTS], '.answer'),
     (POINTS, 'points::maintain', ' '.join(POINTS), [], '.moved'),
     (POINTS, 'points::query_around', '', [AT, 'radius: f32', FOUND], '.count'),
+    (POINTS, 'points::nearest', '', [AT, 'radius: f32'], '.obj'),
     (BOXES, 'boxes::new', 'nums map', ['size: u32'], ''),
     (BOXES, 'box_tables::check', '', [], 'bool'),
     (BOXES, 'boxes::insert', ' '.join(BOXES), [BOX, 'obj: u32'], '.answer'),

@@ -78,6 +78,20 @@ fn around(grid: &Points, centre: Spot, radius: f32, found: &mut Vec<(GridHandle,
     found.len()
 }
 
+/// The original has no `nearest`: this is what its user would write, the least of what its circle reports, in one pass and with no list, and the data of that
+/// one. Of equally near ones it keeps the first found, where the port gives that of the lowest slot.
+#[inline(never)]
+fn nearest(grid: &Points, centre: Spot, radius: f32) -> u32 {
+    let mut best = (f32::INFINITY, None);
+    for (handle, at) in grid.query_around(centre, radius) {
+        let (dx, dy) = (at[0] - centre[0], at[1] - centre[1]);
+        if dx * dx + dy * dy < best.0 {
+            best = (dx * dx + dy * dy, Some(handle));
+        }
+    }
+    best.1.map_or(0, |handle| *grid.get(handle).unwrap().1)
+}
+
 fn points(mut data: Words) {
     let (n, frames) = (data.word() as usize, data.word() as usize);
     let frames: Vec<Vec<Spot>> = (0..=frames).map(|_| data.spots(n)).collect();
@@ -106,6 +120,7 @@ fn points(mut data: Words) {
         0
     });
     count!("query_around 60", PICKS, |k| around(&grid, centres[k], 60.0, &mut found));
+    count!("nearest 60", PICKS, |k| nearest(&grid, centres[k], 60.0));
     count!("query_around 150", PICKS, |k| around(&grid, centres[k], 150.0, &mut found));
 
     for frame in &frames[1..] {

@@ -69,6 +69,8 @@ static uint32_t set_position(uint32_t s) { return points_set_position(POINTS, s,
 static uint32_t set_position_bare(uint32_t s) { return points_set_position_bare(POINTS, s, 1, frames[1][s][0], frames[1][s][1]); }
 static uint32_t around(Spot c, float r) { return points_query_around(POINTS, c[0], c[1], r, QUERY); }
 static uint32_t around_bare(Spot c, float r) { return points_query_around_bare(POINTS, c[0], c[1], r, QUERY); }
+static uint32_t nearest(Spot c, float r) { return points_nearest(POINTS, c[0], c[1], r); }
+static uint32_t nearest_bare(Spot c, float r) { return points_nearest_bare(POINTS, c[0], c[1], r); }
 
 /* Calls of the proved static library, where there is one, to hold the figures of the unproved port to. */
 #ifdef PROVED
@@ -102,6 +104,8 @@ static void point_calls(void) {
   UNDONE("insert bare", PICKS, points_insert_bare(POINTS, frames[0][PICK][0], frames[0][PICK][1], k));
   COUNT("query_around 60", PICKS, around(centres[k], 60));
   COUNT("query_around 60 bare", PICKS, around_bare(centres[k], 60));
+  COUNT("nearest 60", PICKS, nearest(centres[k], 60));
+  COUNT("nearest 60 bare", PICKS, nearest_bare(centres[k], 60));
   COUNT("query_around 150", PICKS, around(centres[k], 150));
   COUNT("query_around 150 bare", PICKS, around_bare(centres[k], 150));
 }

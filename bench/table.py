@@ -8,7 +8,7 @@ import sys
 COUNTS, WORDS = sys.argv[1], sys.argv[2:]
 SIZES = [word for word in WORDS if word.isdigit()]
 LAYOUTS = ('spread', 'clustered')
-CALLS = ('get', 'set_position', 'remove', 'insert', 'query_around 60', 'query_around 150')
+CALLS = ('get', 'set_position', 'remove', 'insert', 'query_around 60', 'nearest 60', 'query_around 150')
 BOX_CALLS = {'insert': 'insert', 'set_aabb same': 'set_aabb, the same cells', 'set_aabb other': 'set_aabb, other cells', 'remove': 'remove', 'query': 'query'}
 NONE = [None] * 3
 
@@ -109,14 +109,14 @@ def print_boxes():
           f"{few['check']:,.0f} and {many['check']:,.0f}).")
 
 
-# Both sides have found as much.
+# Both sides have found as much, and have the same data of the nearest.
 def print_agreement():
     same, other = 0, []
     for folder in sorted(glob.glob(COUNTS + '/original/*')):
         data = os.path.basename(folder)
         port, rust = read('port', data)[1], read('original', data)[1]
         for label in rust:
-            if label.startswith(('query', 'circles')):
+            if label.startswith(('query', 'nearest', 'circles')):
                 same += port[label] == rust[label]
                 other += [f'{data}: {label}'] if port[label] != rust[label] else []
     if same or other:

@@ -52,6 +52,16 @@ static void circle(float x, float y, float radius)
             (unsigned)objs[i]);
 }
 
+/* The one that is nearest to a fingertip, if any is within the radius: no output is lent. */
+static void nearest(float x, float y, float radius)
+{
+    chavrupas_nearest r = chavrupas_points_nearest(CHAVRUPAS_POINTS(desk), x, y, radius);
+    done(r.answer, "nearest");
+    printf("nearest to (%g, %g): ", x, y);
+    if (r.count == 0) printf("none within %g\n", radius);
+    else printf("slot %u version %u at (%g, %g) data %u\n", (unsigned)r.slot, (unsigned)r.version, r.x, r.y, (unsigned)r.obj);
+}
+
 int main(void)
 {
     done(chavrupas_points_new(CHAVRUPAS_POINTS(desk), CELL), "new");
@@ -64,6 +74,8 @@ int main(void)
     printf("maintain: %u moved, %u removed\n", (unsigned)m.moved, (unsigned)m.removed);
     circle(100, 500, 30);
     circle(2100, 500, 30); /* 2,000 pixels in a frame, and not lost */
+    nearest(2110, 505, 30);
+    nearest(100, 500, 30);
 
     chavrupas_point_got g = chavrupas_points_get(CHAVRUPAS_POINTS(desk), lamp.slot, lamp.version);
     printf("the lamp's handle: answer %u\n", (unsigned)g.answer);

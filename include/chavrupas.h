@@ -56,6 +56,7 @@ typedef struct { uint32_t answer, count; } chavrupas_count;
 typedef struct { uint32_t answer; uint64_t count; } chavrupas_batch_reply;
 typedef struct { uint32_t answer, moved, removed; } chavrupas_maintained;
 typedef struct { uint32_t answer; float x, y; uint32_t obj; } chavrupas_point_got;
+typedef struct { uint32_t answer, count, slot, version; float x, y; uint32_t obj; } chavrupas_nearest;
 typedef struct { uint32_t answer; float left, low, right, high; uint32_t obj; } chavrupas_box_got;
 
 /* ---- the rows of the tables */
@@ -231,6 +232,16 @@ chavrupas_count chavrupas_points_query_aabb(
     const chavrupas_position *spots, size_t spots_n, const chavrupas_cell_row *cells, size_t cells_n,
     float left, float low, float right, float high, chavrupas_handle *found, size_t found_n, chavrupas_position *places, size_t places_n,
     uint32_t *objs, size_t objs_n);
+
+/* The nearest of the objects that `query_around` would find for this circle, and of equally near ones that of the lowest slot; distances are compared squared,
+   in float, each operation rounded once. Gives count 1 with handle, recorded position and data; count 0 and zeros if the circle is empty. It writes to no
+   output, and so never answers 9.
+   Answers 3, 6, 7. */
+chavrupas_nearest chavrupas_points_nearest(
+    const chavrupas_point_nums *nums, size_t nums_n, const chavrupas_point_reals *reals, size_t reals_n,
+    const chavrupas_point_ints *ints, size_t ints_n, const uint64_t *map, size_t map_n, const chavrupas_pool_row *pool, size_t pool_n,
+    const chavrupas_position *spots, size_t spots_n, const chavrupas_cell_row *cells, size_t cells_n,
+    float x, float y, float radius);
 
 /* ---- boxes: n slots and p entries, so n rows each of nums and reals, CHAVRUPAS_MAP_WORDS(n) words of map, and p rows of pool. An output of n
    places is always long enough. A box is left, low, right, high. */

@@ -81,6 +81,18 @@ impl OldPoints {
     pub fn query_around(&self, centre: Spot, r: f32) -> Vec<(u32, [u32; 2])> {
         self.findings(self.grid.query_around(pair(centre), r))
     }
+
+    /// The original has no such call: of what its circle reports the one at the least squared distance, and of equally near ones that with the least slot,
+    /// by the slots that are given.
+    pub fn nearest(&self, centre: Spot, r: f32, slot: impl Fn(u32) -> u32) -> Option<(u32, [u32; 2])> {
+        let near = |at: [u32; 2]| {
+            let [x, y] = [f32::from_bits(at[0]) - centre.x, f32::from_bits(at[1]) - centre.y];
+            x * x + y * y
+        };
+        let mut all = self.query_around(centre, r);
+        all.sort_by(|(a, p), (b, q)| near(*p).partial_cmp(&near(*q)).unwrap().then(slot(*a).cmp(&slot(*b))));
+        all.first().copied()
+    }
 }
 
 /// A box as the original takes it.

@@ -1,4 +1,4 @@
-//! Coordinates: those of a desk, any bit pattern of the domain, neighbours of cell edges, subnormals and zeros, the edge of the domain.
+//! Coordinates: those of a desk, any bit pattern of the domain, neighbours of cell edges, subnormals and zeros, the edge of the domain, quarters of cells.
 use crate::box_reading::Aabb;
 use crate::random::Rng;
 use crate::rules::{in_domain, Spot, EDGE};
@@ -11,10 +11,11 @@ pub enum Kind {
     Tiny,
     Near,
     Far,
+    Lattice,
     Mixed,
 }
 
-pub const KINDS: [Kind; 7] = [Kind::Desk, Kind::Bits, Kind::Edges, Kind::Tiny, Kind::Near, Kind::Far, Kind::Mixed];
+pub const KINDS: [Kind; 8] = [Kind::Desk, Kind::Bits, Kind::Edges, Kind::Tiny, Kind::Near, Kind::Far, Kind::Lattice, Kind::Mixed];
 
 /// Where the coordinates of a round come from.
 #[derive(Clone, Copy, Debug)]
@@ -65,8 +66,10 @@ impl Ground {
                     c
                 }
             }
+            // Few places, so that many points stand on one, are equally far from another, and on edges of cells.
+            Kind::Lattice => rng.within(-8, 8) as f32 * size / 4.0,
             Kind::Mixed => {
-                let kind = rng.pick(&KINDS[..6]);
+                let kind = rng.pick(&KINDS[..7]);
                 Ground { kind, size: self.size }.coordinate(rng)
             }
         };

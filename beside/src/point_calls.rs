@@ -1,7 +1,7 @@
 //! Every call of the point grid as data, made of the port or read in document 01.
 use crate::calls::{filled, plain, refused, untouched, Outcome};
 use crate::holds::{point_lengths, Read};
-use crate::point_reading::{Deferred, Filled, Finding, Points};
+use crate::point_reading::{nearest_words, Deferred, Filled, Finding, Points};
 use crate::port::{BatchLists, Corners};
 use crate::rules::*;
 use crate::slots::Handle;
@@ -23,6 +23,7 @@ pub enum PointCall {
     Clear(usize, usize),
     Query(Corners, Spot, Spot, [usize; 3]),
     Around(Spot, f32, [usize; 3]),
+    Nearest(Spot, f32),
 }
 
 impl PointCall {
@@ -57,6 +58,10 @@ impl PointCall {
             PointCall::Get(h) => {
                 let r = t.call_get(*h);
                 plain(r.answer, vec![r.x.to_bits().into(), r.y.to_bits().into(), r.obj.into()])
+            }
+            PointCall::Nearest(centre, r) => {
+                let r = t.call_nearest(*centre, *r);
+                plain(r.answer, r.words().map(u64::from).to_vec())
             }
             _ => self.of_port_filling(t),
         }
@@ -122,6 +127,10 @@ impl PointCall {
                 let (answer, at, data) = grid.get(*h);
                 plain(answer, vec![at.bits()[0].into(), at.bits()[1].into(), data.into()])
             }
+            PointCall::Nearest(centre, r) => {
+                let (answer, found) = grid.nearest(*centre, *r);
+                plain(answer, nearest_words(found).map(u64::from).to_vec())
+            }
             _ => self.of_reading_filling(grid),
         }
     }
@@ -153,6 +162,7 @@ impl PointCall {
             PointCall::Insert(..) | PointCall::Maintain => (2, vec![]),
             PointCall::Remove(_) | PointCall::RemoveMaintain(_) | PointCall::Len => (1, vec![]),
             PointCall::Get(_) => (3, vec![]),
+            PointCall::Nearest(..) => (6, vec![]),
             PointCall::Batch(_, _, places) | PointCall::Handles(places) => (1, vec![untouched::<2>(*places)]),
             PointCall::Clear(places, more) => (1, vec![untouched::<2>(*places), untouched::<1>(*more)]),
             PointCall::Query(_, _, _, [a, b, c]) | PointCall::Around(_, _, [a, b, c]) => {

@@ -34,6 +34,11 @@ pub struct Finding {
     pub data: u32,
 }
 
+/// What `nearest` gives beside its answer: a count of 1 with the finding, its position by bits; or zeros.
+pub fn nearest_words(found: Option<Finding>) -> [u32; 6] {
+    found.map_or([0; 6], |f| [1, f.handle.slot, f.handle.version, f.at.bits()[0], f.at.bits()[1], f.data])
+}
+
 /// An answer, a number beside it, and what the output is filled with.
 #[derive(Clone, Debug, PartialEq)]
 pub struct Filled<T> {
@@ -237,6 +242,21 @@ impl Points {
             let (dx, dy) = (at.x - centre.x, at.y - centre.y);
             dx * dx + dy * dy < r * r
         })
+    }
+
+    /// Refused as the circle is, without 9. Then a scan of all objects, ascending by slot: each that is strictly nearer than the best before it, or than the
+    /// radius where there is none, is the best from there on. So the lowest slot of equally near ones is kept.
+    pub fn nearest(&self, centre: Spot, r: f32) -> (u32, Option<Finding>) {
+        let circle = self.query_around(centre, r, usize::MAX);
+        let (mut best, mut found) = (r * r, None);
+        for (handle, object) in self.slots.objects().filter(|_| circle.answer == DONE) {
+            let (dx, dy) = (object.at.x - centre.x, object.at.y - centre.y);
+            if dx * dx + dy * dy < best {
+                best = dx * dx + dy * dy;
+                found = Some(Finding { handle, at: object.at, data: object.data });
+            }
+        }
+        (circle.answer, found)
     }
 
     pub fn query_aabb(&self, a: Spot, b: Spot, places: usize) -> Filled<Finding> {

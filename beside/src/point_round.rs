@@ -4,7 +4,7 @@ use crate::log::Log;
 use crate::original::OldPoints;
 use crate::picks::{age, data, places};
 use crate::places::Ground;
-use crate::point_reading::{Deferred, Filled, Finding, Points};
+use crate::point_reading::{nearest_words, Deferred, Filled, Finding, Points};
 use crate::port::{BatchLists, BatchReply, Corners, Count, Inserted, Maintained, Reply};
 use crate::random::Rng;
 use crate::rules::*;
@@ -21,6 +21,8 @@ pub struct PointRound<'a> {
     old: OldPoints,
     /// The data that each handle was given with, since the last `clear`.
     given: HashMap<(u32, u32), u32>,
+    /// The handle that the port gave with each data number, since the last `clear`.
+    handles: HashMap<u32, Handle>,
     next: u32,
     pub log: &'a mut Log,
 }
@@ -40,7 +42,8 @@ impl<'a> PointRound<'a> {
         log.hold(read_points(&tables).as_ref() == Ok(&reading), || format!("new gave {:?}", read_points(&tables)));
         let before = tables.clone();
         let old = OldPoints::new(ground.size);
-        let mut round = PointRound { rng, ground, tables, before, reading, old, given: HashMap::new(), next: 0, log };
+        let (given, handles) = (HashMap::new(), HashMap::new());
+        let mut round = PointRound { rng, ground, tables, before, reading, old, given, handles, next: 0, log };
         if round.rng.once_in(3) {
             age(&mut round.reading.slots, &mut round.tables.nums, &mut round.tables.map, &mut round.rng);
             round.before.copy_from(&round.tables);
@@ -89,6 +92,7 @@ impl<'a> PointRound<'a> {
             self.log.note("slots used again", u64::from(h.version > 1));
             self.old.insert(at, data);
             self.given.insert((h.slot, h.version), data);
+            self.handles.insert(data, Handle { slot: got.slot, version: got.version });
         }
         self.after(answer == DONE, false);
     }
@@ -221,6 +225,7 @@ impl<'a> PointRound<'a> {
             let old = self.old.clear();
             self.log.hold(all == old, || format!("clear gave {all:?}, the original {old:?}"));
             self.given.clear();
+            self.handles.clear();
         }
         self.after(wanted.answer == DONE, true);
     }
@@ -290,6 +295,42 @@ impl<'a> PointRound<'a> {
         let got = self.tables.call_query_around(centre, r, &mut outs);
         let old = if accepted { self.old.query_around(centre, r) } else { vec![] };
         self.found("points query_around", got, wanted, old, outs);
+    }
+
+    /// The nearest of a circle, held to the scan of the reading, and to the nearest of what the original's circle reports.
+    pub fn nearest(&mut self, centre: Spot, r: f32) {
+        let (answer, found) = self.reading.nearest(centre, r);
+        let got = self.tables.call_nearest(centre, r);
+        self.log.call("points nearest", got.answer);
+        let wanted = nearest_words(found);
+        let same = got.answer == answer && got.words() == wanted;
+        self.log.hold(same, || format!("nearest({centre:?}, {r:?}) gave {got:?}, Req 02 says {answer}, {wanted:?}"));
+        if answer == DONE {
+            let old = self.old.nearest(centre, r, |data| self.handles[&data].slot);
+            let old = nearest_words(old.map(|(data, at)| Finding { handle: self.handles[&data], at: Spot::of_bits(at), data }));
+            self.log.hold(got.words() == old, || format!("nearest({centre:?}, {r:?}) gave {got:?}, the original's circle {old:?}"));
+            self.met_nearest(centre, r, found);
+        }
+        self.after(false, false);
+    }
+
+    /// What a call of `nearest` met: none, one of another cell than the centre's, equally near ones, and such of which the circle reports another first.
+    fn met_nearest(&mut self, centre: Spot, r: f32, found: Option<Finding>) {
+        let size = self.ground.size;
+        let near = |at: Spot| (at.x - centre.x) * (at.x - centre.x) + (at.y - centre.y) * (at.y - centre.y);
+        match found {
+            None => self.log.note("nearest: none", 1),
+            Some(f) => {
+                let circle = self.reading.query_around(centre, r, usize::MAX);
+                let equal: Vec<_> = circle.out.iter().filter(|o| near(o.at) == near(f.at)).collect();
+                self.log.hold(circle.out.contains(&f), || format!("{f:?} is the nearest of a scan, and no finding of the circle"));
+                self.log.note("nearest: one", 1);
+                self.log.note("nearest: of another cell", u64::from(f.at.cell(size) != centre.cell(size)));
+                self.log.note("nearest: of equally near ones", u64::from(equal.len() > 1));
+                self.log.note("nearest: of such in several cells", u64::from(equal.iter().any(|o| o.at.cell(size) != f.at.cell(size))));
+                self.log.note("nearest: of such and not the first found", u64::from(equal.first() != Some(&&f)));
+            }
+        }
     }
 
     pub fn tables(&self) -> &PointTables {

@@ -1,5 +1,6 @@
 //! Which calls a round on a point grid makes: any of them in any order, frames as a desk makes them, states left pending.
 use crate::picks::{good, handle, places};
+use crate::places::{Ground, Kind};
 use crate::point_calls::PointCall;
 use crate::point_reading::Deferred;
 use crate::point_round::PointRound;
@@ -39,6 +40,21 @@ impl PointRound<'_> {
                 self.query_around(centre, r);
             }
         }
+    }
+
+    /// For `nearest`: a centre on a point, halfway between two, which are then equally near, at the edges of cells, anywhere, or by a point. Its radius is 0,
+    /// tiny, just about the distance of a point, some cells, too wide, or outside the domain.
+    fn centre_and_radius(&mut self) -> (Spot, f32) {
+        let (from, to) = (self.some_spot(), self.some_spot());
+        let between = |a: f32, b: f32| ((f64::from(a) + f64::from(b)) / 2.0) as f32;
+        let centre = match self.rng.below(8) {
+            0 | 1 => from,
+            2 | 3 => Spot::new(between(from.x, to.x), between(from.y, to.y)),
+            4 => Ground { kind: self.rng.pick(&[Kind::Edges, Kind::Lattice]), ..self.ground }.spot(&mut self.rng),
+            5 | 6 => self.ground.any_spot(&mut self.rng),
+            _ => self.ground.spot_by(from, &mut self.rng),
+        };
+        (centre, self.ground.radius(centre, to, &mut self.rng))
     }
 
     /// A deferred call of a batch.
@@ -83,6 +99,13 @@ impl PointRound<'_> {
             68..=69 => self.count(),
             70..=71 => self.handles(),
             72 if self.rng.once_in(6) => self.clear(),
+            73..=80 => {
+                // More where many are equally near.
+                for _ in 0..if self.ground.kind == Kind::Lattice { 6 } else { 1 } {
+                    let (centre, r) = self.centre_and_radius();
+                    self.nearest(centre, r);
+                }
+            }
             _ => self.any_query(),
         }
     }
@@ -110,6 +133,9 @@ impl PointRound<'_> {
             let centre = self.some_spot();
             let r = (self.rng.unit() * f64::from(self.ground.size) * 10.0).min(f64::from(EDGE)) as f32;
             self.query_around(centre, r);
+            if self.rng.once_in(2) {
+                self.nearest(centre, r);
+            }
         }
         for _ in 0..self.rng.below(5) {
             let at = self.ground.spot(&mut self.rng);
@@ -154,6 +180,7 @@ impl PointRound<'_> {
         let (from, to) = (self.some_spot(), self.ground.any_spot(&mut self.rng));
         let across = Spot::new(self.ground.across(from.x, &mut self.rng), self.ground.across(from.y, &mut self.rng));
         let r = self.ground.radius(from, at, &mut self.rng);
+        let (centre, near) = self.centre_and_radius();
         let most = self.reading.slots.len() + 2;
         let lens = [places(most, &mut self.rng), places(most, &mut self.rng), places(most, &mut self.rng)];
         let calls: Vec<_> = (0..self.rng.below(4)).map(|_| self.deferred()).collect();
@@ -167,6 +194,7 @@ impl PointRound<'_> {
             PointCall::Query(Corners::Cells, from, across, lens),
             PointCall::Query(Corners::Sorted, across, from, lens),
             PointCall::Around(from, r, lens),
+            PointCall::Nearest(centre, near),
             PointCall::Insert(to, data),
             PointCall::SetPosition(h, at),
             PointCall::Remove(h),

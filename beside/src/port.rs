@@ -1,4 +1,4 @@
-//! The port: the 24 calls of the static library, by include/chavrupas.h. A slice is two arguments, a pointer and the number of elements.
+//! The port: the 25 calls of the static library, by include/chavrupas.h. A slice is two arguments, a pointer and the number of elements.
 use crate::box_reading::Aabb;
 use crate::point_reading::Deferred;
 use crate::random::Rng;
@@ -50,6 +50,25 @@ pub struct PointGot {
     pub x: f32,
     pub y: f32,
     pub obj: u32,
+}
+
+#[repr(C)]
+#[derive(Clone, Copy, Debug)]
+pub struct Nearest {
+    pub answer: u32,
+    pub count: u32,
+    pub slot: u32,
+    pub version: u32,
+    pub x: f32,
+    pub y: f32,
+    pub obj: u32,
+}
+
+impl Nearest {
+    /// All that stands beside the answer, the position by bits.
+    pub fn words(&self) -> [u32; 6] {
+        [self.count, self.slot, self.version, self.x.to_bits(), self.y.to_bits(), self.obj]
+    }
 }
 
 #[repr(C)]
@@ -117,6 +136,7 @@ over_points! {
         left: f32, low: f32, right: f32, high: f32, found: Rows<2>, found_len: usize,
         places: Rows<2>, places_len: usize, objs: Rows<1>, objs_len: usize
     ) -> Count;
+    fn chavrupas_points_nearest(x: f32, y: f32, radius: f32) -> Nearest;
 }
 
 over_boxes! {
@@ -255,6 +275,10 @@ impl PointTables {
         let (f, fl, p, pl) = (outs.found.pointer(), outs.found.places, outs.spots.pointer(), outs.spots.places);
         let (o, ol) = (outs.objs.pointer(), outs.objs.places);
         with_points!(self, chavrupas_points_query_around(centre.x, centre.y, r, f, fl, p, pl, o, ol))
+    }
+
+    pub fn call_nearest(&mut self, centre: Spot, r: f32) -> Nearest {
+        with_points!(self, chavrupas_points_nearest(centre.x, centre.y, r))
     }
 }
 

@@ -22,6 +22,16 @@ fn circle(desk: &mut Grid, [x, y]: [f32; 2], radius: f32) -> Result<(), Refusal>
     Ok(())
 }
 
+/// The one that is nearest to a fingertip, if any is within the radius.
+fn nearest(desk: &Grid, [x, y]: [f32; 2], radius: f32) -> Result<(), Refusal> {
+    print!("nearest to ({x}, {y}): ");
+    match desk.nearest([x, y], radius)? {
+        None => println!("none within {radius}"),
+        Some(f) => println!("slot {} version {} at ({}, {}) data {}", f.handle.slot, f.handle.version, f.position[0], f.position[1], f.obj),
+    }
+    Ok(())
+}
+
 fn main() -> Result<(), Refusal> {
     let mut desk = Grid::new(64, 4)?;
     let (hand, finger) = (desk.insert([100.0, 500.0], 1)?, desk.insert([112.0, 508.0], 2)?);
@@ -33,6 +43,8 @@ fn main() -> Result<(), Refusal> {
     println!("maintain: {} moved, {} removed", m.moved, m.removed);
     circle(&mut desk, [100.0, 500.0], 30.0)?;
     circle(&mut desk, [2100.0, 500.0], 30.0)?; // 2,000 pixels in a frame, and not lost
+    nearest(&desk, [2110.0, 505.0], 30.0)?;
+    nearest(&desk, [100.0, 500.0], 30.0)?;
 
     println!("the lamp's handle: answer {}", desk.get(lamp).map_or_else(Refusal::number, |_| 0));
     Ok(())

@@ -36,6 +36,15 @@ pub struct PointGot {
 }
 
 #[repr(C)]
+pub struct Nearest {
+    pub answer: u32,
+    pub count: u32,
+    pub handle: Handle,
+    pub position: [f32; 2],
+    pub obj: u32,
+}
+
+#[repr(C)]
 pub struct BoxGot {
     pub answer: u32,
     pub aabb: Aabb,
@@ -337,6 +346,26 @@ extern "C" {
         objs: *mut u32,
         objs_n: usize,
     ) -> Count;
+
+    pub fn chavrupas_points_nearest(
+        nums: *const [u32; 4],
+        nums_n: usize,
+        reals: *const [f32; 4],
+        reals_n: usize,
+        ints: *const [i32; 4],
+        ints_n: usize,
+        map: *const u64,
+        map_n: usize,
+        pool: *const [u64; 2],
+        pool_n: usize,
+        spots: *const [f32; 2],
+        spots_n: usize,
+        cells: *const [u64; 2],
+        cells_n: usize,
+        x: f32,
+        y: f32,
+        radius: f32,
+    ) -> Nearest;
 
     pub fn chavrupas_boxes_new(
         nums: *mut [u32; 4],

@@ -272,6 +272,24 @@ impl Grid {
         self.findings(r)
     }
 
+    /// The nearest of the objects that [`query_around`](Grid::query_around) finds, by squared distances in `f32`; of equally near ones that of the
+    /// lowest slot. `None` where it finds none.
+    ///
+    /// ```
+    /// use chavrupas::{Grid, Refusal};
+    /// let mut grid = Grid::new(10, 8)?;
+    /// grid.insert([5.0, 3.0], 7)?;
+    /// grid.insert([50.0, 3.0], 8)?;
+    /// assert_eq!(grid.nearest([40.0, 3.0], 100.0)?.map(|f| f.obj), Some(8));
+    /// assert_eq!(grid.nearest([40.0, 3.0], 10.0)?, None); // nothing at distance 10 itself
+    /// # Ok::<(), Refusal>(())
+    /// ```
+    pub fn nearest(&self, centre: [f32; 2], radius: f32) -> Result<Option<Found>, Refusal> {
+        let r = call!(chavrupas_points_nearest, self, as_ptr, centre[0], centre[1], radius);
+        let found = Found { handle: r.handle, position: r.position, obj: r.obj };
+        answered(r.answer, (r.count == 1).then_some(found))
+    }
+
     fn findings(&self, r: Count) -> Result<impl ExactSizeIterator<Item = Found> + '_, Refusal> {
         let n = answered(r.answer, r.count as usize)?;
         let found = self.found[..n].iter().zip(&self.places[..n]).zip(&self.objs[..n]);

@@ -2,7 +2,8 @@
 //!
 //! [`Grid`] and [`AabbGrid`] have the names and rules of flat_spatial's `Grid` and `AABBGrid`, with these differences: the number of slots is
 //! given to `new` and all memory is taken there; coordinates are `[f32; 2]`, data is one `u32`; what is refused is a [`Refusal`] and never a
-//! panic; queries take `&mut self`, since they put what they find into the grid's own memory, and give the data beside handle and position.
+//! panic; queries take `&mut self`, since they put what they find into the grid's own memory, and give the data beside handle and position;
+//! [`Grid::nearest`] is new, and takes `&self`.
 //!
 //! ```
 //! use chavrupas::Grid;

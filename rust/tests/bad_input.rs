@@ -45,9 +45,11 @@ fn points() {
         assert_eq!(g.query(at, at).err(), Some(OutsideDomain));
         assert_eq!(g.query_aabb([0.0; 2], at).err(), Some(OutsideDomain));
         assert_eq!(g.query_around(at, 1.0).err(), Some(OutsideDomain));
+        assert_eq!(g.nearest(at, 1.0), Err(OutsideDomain));
     }
     for radius in [-1.0, NAN, f32::INFINITY, 2_000_000.0] {
         assert_eq!(g.query_around([0.0; 2], radius).err(), Some(OutsideDomain));
+        assert_eq!(g.nearest([0.0; 2], radius), Err(OutsideDomain));
     }
     let none = [Handle::default(), Handle { slot: 0, version: 2 }, Handle { slot: 2, version: 1 }, Handle { slot: u32::MAX, version: u32::MAX }];
     for h in none {
@@ -59,7 +61,38 @@ fn points() {
     assert_eq!(g.query([0.0; 2], [64.0, 63.0]).err(), Some(TooManyCells));
     assert_eq!(g.query_around([0.0; 2], -0.0).unwrap().len(), 0);
     assert_eq!(g.query([9.0; 2], [0.0; 2]).unwrap().len(), 0);
+    assert_eq!((g.nearest([0.0; 2], 31.5), g.nearest([0.0; 2], 32.0)), (Ok(Some(found[0])), Err(TooManyCells)));
     assert_eq!(told(&mut g), before);
+}
+
+#[test]
+fn nearest() {
+    let mut g = Grid::new(10, 8).unwrap();
+    assert_eq!(g.nearest([0.0; 2], 100.0), Ok(None));
+    let one = |g: &Grid, centre, radius| g.nearest(centre, radius).unwrap().map(|f| f.obj);
+    let far = g.insert([30.0, 0.0], 1).unwrap();
+    let (left, right) = (g.insert([-5.0, 0.0], 2).unwrap(), g.insert([5.0, 0.0], 3).unwrap());
+    // equally near: the lowest slot, in whatever cell, and whichever came last
+    assert_eq!(g.nearest([0.0; 2], 100.0), Ok(Some(Found { handle: left, position: [-5.0, 0.0], obj: 2 })));
+    g.set_position(left, [5.0, 0.0]).unwrap();
+    assert_eq!(g.nearest([4.0, 0.0], 100.0).unwrap().map(|f| f.handle), Some(right)); // what is pending is not seen
+    g.maintain();
+    assert_eq!((one(&g, [0.0; 2], 100.0), one(&g, [4.0, 3.0], 100.0)), (Some(2), Some(2)));
+    // strictly inside, and a radius of 0 holds not even its centre
+    assert_eq!((one(&g, [0.0; 2], 5.0), one(&g, [0.0; 2], 5.000001)), (None, Some(2)));
+    assert_eq!((one(&g, [5.0, 0.0], 0.0), one(&g, [5.0, 0.0], -0.0), one(&g, [5.0, 0.0], 1e-20)), (None, None, Some(2)));
+    // distances that differ by less than a rounding are equal: both squares are 1
+    g.set_position(right, [0.0, 99.0]).unwrap();
+    g.set_position(far, [1e-9, 101.0]).unwrap();
+    g.maintain();
+    assert_eq!(one(&g, [0.0, 100.0], 2.0), Some(1));
+    // a negative zero is given as it is recorded, and is as near as the other
+    let zero = g.insert([-0.0, 0.0], 4).unwrap();
+    g.insert([0.0, -0.0], 5).unwrap();
+    let f = g.nearest([0.0, -0.0], 1.0).unwrap().unwrap();
+    assert_eq!((f.handle, f.position.map(f32::to_bits), f.obj), (zero, [1 << 31, 0], 4));
+    g.remove_maintain(zero).unwrap();
+    assert_eq!(one(&g, [0.0; 2], 1.0), Some(5));
 }
 
 /// The tables of a point grid of two slots, lent as C lends them.
@@ -114,6 +147,26 @@ fn outputs() {
     // a place too many is left as it was
     let handles = [Handle { slot: 0, version: 1 }, Handle { slot: 1, version: 1 }];
     assert_eq!(queried(&mut t, 3), vec![([0, 2], handles, [[1.0, 2.0], [3.0, 4.0]], vec![5, u32::MAX, 77]); 3]);
+}
+
+/// All that `nearest` gives, positions by bits.
+fn nearest_told(t: &mut Lent, centre: [f32; 2], radius: f32) -> [u32; 7] {
+    let r = call!(chavrupas_points_nearest, t, centre[0], centre[1], radius);
+    [r.answer, r.count, r.handle.slot, r.handle.version, r.position[0].to_bits(), r.position[1].to_bits(), r.obj]
+}
+
+#[test]
+fn nearest_as_c_has_it() {
+    let mut t = Lent::default();
+    assert_eq!(nearest_told(&mut t, [0.0; 2], 1.0), [3, 0, 0, 0, 0, 0, 0]);
+    assert_eq!(call!(chavrupas_points_new, t, 10), 0);
+    assert_eq!(nearest_told(&mut t, [-0.0; 2], 9.0), [0; 7]);
+    assert_eq!(call!(chavrupas_points_insert, t, 1.0, -0.0, u32::MAX).answer, 0);
+    assert_eq!(nearest_told(&mut t, [0.0; 2], 9.0), [0, 1, 0, 1, 1f32.to_bits(), 1 << 31, u32::MAX]);
+    assert_eq!(nearest_told(&mut t, [0.0; 2], NAN), [6, 0, 0, 0, 0, 0, 0]);
+    assert_eq!(nearest_told(&mut t, [0.0; 2], 1000.0), [7, 0, 0, 0, 0, 0, 0]);
+    t.map[1] = 2; // an entry more than there are objects
+    assert_eq!(nearest_told(&mut t, [NAN; 2], -1.0), [3, 0, 0, 0, 0, 0, 0]);
 }
 
 #[test]

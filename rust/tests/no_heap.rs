@@ -44,6 +44,7 @@ fn points() {
         assert!(g.query([0.0; 2], [100.0; 2]).unwrap().count() > 0);
         assert!(g.query_around([50.0; 2], 40.0).unwrap().count() > 0);
         assert!(g.query_aabb([100.0; 2], [0.0; 2]).unwrap().count() > 0);
+        assert!(g.nearest([50.0; 2], 40.0).unwrap().is_some());
         assert_eq!(g.remove(a), Ok(0));
         assert_eq!(g.remove_maintain(a), Ok(0));
         assert_eq!((g.clear().count(), g.len()), (254, 0));

@@ -24,9 +24,17 @@ fn number(rng: &mut Rng, known: &[u64], most: u64) -> u64 {
 
 fn points(mut rng: Rng, log: &mut Log) {
     let frames = rng.once_in(4);
-    let kind = if frames { Kind::Desk } else { rng.pick(&KINDS) };
+    // Some hundred points on few places, where many are equally near to another.
+    let crowd = !frames && rng.once_in(5);
+    let kind = if frames {
+        Kind::Desk
+    } else if crowd {
+        Kind::Lattice
+    } else {
+        rng.pick(&KINDS)
+    };
     let size = if frames { rng.pick(&[10, 16, 32, 64, 128]) } else { number(&mut rng, &SIZES, 1_048_576) as u32 };
-    let n = number(&mut rng, &SLOTS, 4_096) as usize;
+    let n = if crowd { rng.within(16, 200) as u64 } else { number(&mut rng, &SLOTS, 4_096) } as usize;
     log.what = format!("points, {}{kind:?}, size {size}, n {n}", if frames { "frames, " } else { "" });
     let steps = if n > 512 { 400 } else { 1_500 };
     let mut round = PointRound::new(rng, Ground { kind, size }, n, log);

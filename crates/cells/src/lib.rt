@@ -1,5 +1,5 @@
 // The cell of a coordinate and of a position, ranges of cells and the keys of cells: the arithmetic of src/storage.rs.
-ghost use Rattle.basics.specs.Words.{_<_, _≤_, _^_, _≡_, T, pos};
+ghost use Rattle.basics.specs.Words.{_+_, _*_, _<_, _≤_, _^_, _≡_, T, pos};
 ghost use lib.Signed.{mag, _<ℤ_};
 ghost use lib.Ieee.{binary32, ofInt};
 ghost use Rattle.basics.specs.Meaning.Says.{Says};
@@ -8,6 +8,7 @@ ghost use Rattle.cells.specs.Inner.Cut.{cutBits};
 ghost use Rattle.cells.specs.Meaning.Size.{SizeInDomain};
 ghost use Rattle.cells.specs.Meaning.CellRule.{wholeOf, cellOf, cellAt};
 ghost use Rattle.cells.specs.Inner.CellRule.{Reached};
+ghost use Rattle.cells.specs.Inner.Edge;
 ghost use Rattle.cells.specs.Inner.Span.{inSpan, Spans, LastBelow, FirstFrom};
 ghost use Rattle.cells.specs.Inner.Numbers.{Near};
 ghost use Rattle.cells.specs.Meaning.Range.{countFrom, cellsIn};
@@ -132,6 +133,18 @@ fn exactly(n: u64) -> f32
     ensures { λ r. ⌜ r ≡ ofInt binary32 (pos n) ⌝ }
 {
     (n as i64) as f32
+}
+
+// Edge c of the cells, c times the size: cell c lies between it and the next.
+pub fn edge(size: u64, c: i32) -> f32
+    requires { ⌜ (0 < size) × (mag c * size + size ≤ 16777216) ⌝ }
+    ensures { λ r. ⌜ r ≡ Edge.edge size c ⌝ }
+{
+    let near = steps(c) * size;
+    if c < 0 {
+        return -exactly(near + size);
+    }
+    exactly(near)
 }
 
 // Whether a coordinate of the domain stands in cell c, by comparison with the edges of the cell: nothing is divided.

@@ -44,6 +44,18 @@ pub struct PointGot {
     pub obj: u32,
 }
 
+// What is reported of the nearest point, with count 1, beside the answer; zeros where there is none.
+#[repr(C)]
+pub struct Nearest {
+    pub answer: u32,
+    pub count: u32,
+    pub slot: u32,
+    pub version: u32,
+    pub x: f32,
+    pub y: f32,
+    pub obj: u32,
+}
+
 #[repr(C)]
 pub struct BoxGot {
     pub answer: u32,

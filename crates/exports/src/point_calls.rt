@@ -11,15 +11,17 @@ ghost use Rattle.point_clear.specs.Meaning.Clear.{clearOf};
 ghost use Rattle.point_get.specs.Meaning.{got, getOf, lenOf, handlesOf, listing};
 ghost use Rattle.point_search.specs.Meaning.Lent.{Finds};
 ghost use Rattle.point_query.specs.Meaning.Queries.{queryOf, aroundOf, aabbOf};
+ghost use Rattle.point_nearest.specs.Meaning.Nearest.{nearestOf};
 ghost use Rattle.point_maintain.specs.Meaning.Maintain.{maintainOf};
 ghost use Rattle.replies.specs.Meaning.Replies.{reply};
 ghost use Rattle.exports.specs.Meaning.Made.{handle, position};
 ghost use Rattle.exports.specs.Meaning.Told.{toldInserted, toldReply, toldCount};
-ghost use Rattle.exports.specs.Meaning.PointTold.{toldBatched, toldMaintained, toldWritten};
+ghost use Rattle.exports.specs.Meaning.PointTold.{toldBatched, toldMaintained, toldWritten, toldNearest};
 use crate::BatchReply;
 use crate::Count;
 use crate::Inserted;
 use crate::Maintained;
+use crate::Nearest;
 use crate::PointGot;
 use crate::Reply;
 use geometry::Position;
@@ -437,5 +439,43 @@ pub extern "C" fn chavrupas_points_query_aabb(
     Count {
         answer: r.answer,
         count: r.count,
+    }
+}
+
+// `nearest`: of the objects that `query_around` finds. 3, 6, 7.
+#[no_mangle]
+pub extern "C" fn chavrupas_points_nearest(
+    nums: &[[u32; 4]],
+    reals: &[[f32; 4]],
+    ints: &[[i32; 4]],
+    map: &[u64],
+    pool: &[[u64; 2]],
+    spots: &[[f32; 2]],
+    cells: &[[u64; 2]],
+    x: f32,
+    y: f32,
+    radius: f32,
+) -> Nearest
+    ensures { λ r. ⌜ toldNearest r ≡ nearestOf (before nums reals ints map pool spots cells) (position x y) radius ⌝ }
+{
+    let near = points::nearest(
+        nums,
+        reals,
+        ints,
+        map,
+        pool,
+        spots,
+        cells,
+        Position { x, y },
+        radius,
+    );
+    Nearest {
+        answer: near.answer,
+        count: near.count,
+        slot: near.handle.slot,
+        version: near.handle.version,
+        x: near.position.x,
+        y: near.position.y,
+        obj: near.obj,
     }
 }

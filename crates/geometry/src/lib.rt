@@ -3,7 +3,7 @@ ghost use Rattle.basics.specs.Words.{_≡_, false};
 ghost use lib.Ieee.{isNan};
 ghost use Rattle.basics.specs.Meaning.Says.{Says};
 ghost use Rattle.geometry.specs.Meaning.Domain.{inDomain, positionInDomain, radiusInDomain, aabbInDomain};
-ghost use Rattle.geometry.specs.Meaning.Circle.{inCircle};
+ghost use Rattle.geometry.specs.Meaning.Circle.{distanceSquared, inCircle, cornerBelow, cornerAbove};
 ghost use Rattle.geometry.specs.Meaning.Rectangle;
 ghost use Rattle.geometry.specs.Meaning.Rectangle.{lowerCorner, upperCorner, inRectangle};
 ghost use Rattle.geometry.specs.Meaning.Intersects;
@@ -49,16 +49,41 @@ pub fn aabb_in_domain(b: Aabb) -> bool
     corners & ((ll.x <= ur.x) & (ll.y <= ur.y))
 }
 
+pub fn distance_squared(p: Position, centre: Position) -> f32
+    ensures { λ r. ⌜ r ≡ distanceSquared p centre ⌝ }
+{
+    let dx = p.x - centre.x;
+    let dy = p.y - centre.y;
+    dx * dx + dy * dy
+}
+
 // Whether p is nearer to the centre than the radius.
 pub fn in_circle(p: Position, centre: Position, radius: f32) -> bool
     ensures { λ r. ⌜ r ≡ inCircle p centre radius ⌝ }
 {
-    let dx = p.x - centre.x;
-    let dy = p.y - centre.y;
-    dx * dx + dy * dy < radius * radius
+    distance_squared(p, centre) < radius * radius
 }
 
-fn lesser(a: f32, b: f32) -> f32
+// The corners of the range that a circle is searched in. They may leave the domain.
+pub fn corner_below(centre: Position, radius: f32) -> Position
+    ensures { λ r. ⌜ r ≡ cornerBelow centre radius ⌝ }
+{
+    Position {
+        x: centre.x - radius,
+        y: centre.y - radius,
+    }
+}
+
+pub fn corner_above(centre: Position, radius: f32) -> Position
+    ensures { λ r. ⌜ r ≡ cornerAbove centre radius ⌝ }
+{
+    Position {
+        x: centre.x + radius,
+        y: centre.y + radius,
+    }
+}
+
+pub fn lesser(a: f32, b: f32) -> f32
     ensures { λ r. ⌜ r ≡ Rectangle.lesser a b ⌝ }
 {
     if a <= b { a } else { b }

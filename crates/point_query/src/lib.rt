@@ -2,6 +2,8 @@
 ghost use Rattle.point_search.specs.Meaning.Lent.{Finds};
 ghost use Rattle.point_query.specs.Meaning.Queries.{queryOf, aroundOf, aabbOf};
 use geometry::Position;
+use geometry::corner_above;
+use geometry::corner_below;
 use geometry::lower_corner;
 use geometry::position_in_domain;
 use geometry::radius_in_domain;
@@ -65,14 +67,8 @@ pub fn query_around(
     ensures { λ r. ⌜ Finds (λ t. aroundOf t centre radius) r found places objs nums reals ints map pool spots cells ⌝ }
 {
     let ok = position_in_domain(centre) & radius_in_domain(radius);
-    let ll = Position {
-        x: centre.x - radius,
-        y: centre.y - radius,
-    };
-    let ur = Position {
-        x: centre.x + radius,
-        y: centre.y + radius,
-    };
+    let ll = corner_below(centre, radius);
+    let ur = corner_above(centre, radius);
     search(
         nums,
         reals,

@@ -21,7 +21,7 @@ use slots::Handle;
 use slots::Row;
 
 // What is reported of an entry: the handle of its slot, its position, and the data that stands in the slot's row.
-fn finding_of(nums: &[Row], e: Entry) -> Finding
+pub fn finding_of(nums: &[Row], e: Entry) -> Finding
     requires { ⌜ (e .slot < length (now nums)) × (length (now nums) ≤ mostSlots) ⌝ }
     ensures { λ r. ⌜ r ≡ findingOf (was nums) e ⌝ }
 {

@@ -77,3 +77,9 @@ pub use point_query::query_around;
 //     let r = points::query_aabb(nums, reals, ints, map, pool, spots, cells, corner, Position { x: 580.0, y: 420.0 }, found, places, objs);
 //     // found[j], places[j] and objs[j] for j below r.count; the edges belong to it
 pub use point_query::query_aabb;
+
+// The nearest of the entries strictly inside a circle; of equally near ones that of the lowest slot. Refusals: 3, 6, 7.
+//     let wrist = Position { x: 640.0, y: 360.0 };
+//     let r = points::nearest(nums, reals, ints, map, pool, spots, cells, wrist, 60.0);
+//     // r.count is 1, and r.handle, r.position and r.obj are what query_around would report of it; 0 and zeros if it finds none
+pub use point_nearest::nearest;

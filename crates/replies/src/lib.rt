@@ -1,6 +1,7 @@
 // What calls return beside their tables and outputs. An answer is a number of document 01.
 ghost use Rattle.basics.specs.Words.{_≡_};
 ghost use Rattle.replies.specs.Meaning.Replies.{count, inserted};
+use geometry::Position;
 use slots::Handle;
 
 // The data of an object beside the answer.
@@ -19,6 +20,15 @@ pub struct Count {
 pub struct Inserted {
     pub answer: u32,
     pub handle: Handle,
+}
+
+// What is reported of the nearest point, with count 1, beside the answer; zeros where there is none.
+pub struct Nearest {
+    pub answer: u32,
+    pub count: u32,
+    pub handle: Handle,
+    pub position: Position,
+    pub obj: u32,
 }
 
 // A refusal returns zeros.

@@ -22,6 +22,7 @@ pub enum PointSearch {
     Cir,
     Rec,
     Cel,
+    Near,
 }
 
 pub enum BoxChange {
@@ -135,6 +136,8 @@ fn point_changes(word: &[u8], t: Asks) -> Asks
 fn point_searches(word: &[u8], t: Asks) -> Asks
     ensures { λ r. ⌜ r ≡ foundIn pointSearches (was word) t ⌝ }
 {
+    let k = Line::PointSearch(PointSearch::Near);
+    let t = row(word, t, b"near", k, false, 1, true, false);
     let k = Line::PointSearch(PointSearch::Cel);
     let t = row(word, t, b"cel", k, false, 2, false, false);
     let k = Line::PointSearch(PointSearch::Rec);

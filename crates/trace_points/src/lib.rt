@@ -4,10 +4,12 @@ ghost use Rattle.trace_lines.specs.Inner.Texts.{SpotInRange, CountInRange};
 ghost use Rattle.point_tables.specs.Meaning.Lent.{after, before};
 ghost use Rattle.point_tables.specs.Meaning.Outcome.{outcome};
 ghost use Rattle.trace_points.specs.Meaning.Changes.{changeOf, movedOf, insertedOf, takenOf, markedOf, maintainedOf};
-ghost use Rattle.trace_points.specs.Meaning.Searches.{searched, findingsOf, pointSearchOf};
+ghost use Rattle.trace_points.specs.Meaning.Searches.{searched, nearestFinds, findingsOf, pointSearchOf};
+ghost use Rattle.point_search.specs.Meaning.Searches.{findings};
 ghost use Rattle.point_search.specs.Meaning.Lent.{outputsBefore, outputsAfter, Finds};
 use geometry::Position;
 use replies::Count;
+use replies::Nearest;
 use slots::Handle;
 use slots::Row;
 use trace_lines::PointChange;
@@ -127,6 +129,26 @@ pub fn change_points(
     }
 }
 
+// What `nearest` returned, as a search that finds at most one: the finding goes to place 0 of the outputs.
+fn near(r: Nearest, handles: &mut [[u32; 2]], places: &mut [[f32; 2]], objs: &mut [u32]) -> Count
+    ensures { λ c. ⌜ findings c (outputsAfter handles places objs) ≡ nearestFinds r (outputsBefore handles places objs) ⌝ }
+{
+    let answer = r.answer;
+    let count = r.count;
+    if count == 0 {
+        return Count { answer, count };
+    }
+    if (handles.len() == 0) | (places.len() == 0) | (objs.len() == 0) {
+        return Count { answer: 9, count };
+    }
+    let h = r.handle;
+    let p = r.position;
+    handles[0] = [h.slot, h.version];
+    places[0] = [p.x, p.y];
+    objs[0] = r.obj;
+    Count { answer, count }
+}
+
 // Each line that searches the points is a query of the grid.
 fn find(
     nums: &[Row],
@@ -194,6 +216,10 @@ fn find(
                 places,
                 objs,
             )
+        }
+        PointSearch::Near => {
+            let r = points::nearest(nums, reals, ints, map, pool, spots, cells, p, far);
+            near(r, handles, places, objs)
         }
     }
 }

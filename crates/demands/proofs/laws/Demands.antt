@@ -36,7 +36,7 @@ use Rattle.whereabouts.specs.Meaning.Moved.{Other}
 use Rattle.whereabouts.proofs.laws.MovedLaws.{moved-found}
 use Rattle.demands.proofs.laws.Tested.{first-answer, first-refused}
 use Rattle.demands.specs.Meaning.PointCalls.{PointCall, new, insert, setPosition, remove, batch, maintain, removeMaintain, clear}
-use Rattle.demands.specs.Meaning.PointCalls.{get, len, handles, query, queryAround, queryAabb}
+use Rattle.demands.specs.Meaning.PointCalls.{get, len, handles, query, queryAround, queryAabb, nearest}
 use Rattle.demands.specs.Meaning.PointCalls.{leaves, refusals, refusedWith, uneven}
 use Rattle.demands.proofs.laws.PointSteps.{step}
 use Rattle.demands.specs.Meaning.Demands.{afterCalls}
@@ -71,6 +71,7 @@ holding-three t (handles out) h = rw (holds-says t .no h)
 holding-three t (query ll ur o) h = rw (holds-says t .no h)
 holding-three t (queryAround c r o) h = rw (holds-says t .no h)
 holding-three t (queryAabb a b o) h = rw (holds-says t .no h)
+holding-three t (nearest c r) h = rw (holds-says t .no h)
 
 pub never-three : (t : Tables) (c : PointCall) → Holds t → eqb (leaves t c .answer) 3 ≡ uneven c
 never-three t c h = ap (λ (a : ℕ). eqb a 3) (demand-1-answer t c) ∙ three-first (refusals t c) ∙ holding-three t c h
@@ -139,6 +140,7 @@ keeps-a-grid t (handles out) h = h
 keeps-a-grid t (query ll ur o) h = h
 keeps-a-grid t (queryAround c r o) h = h
 keeps-a-grid t (queryAabb a b o) h = h
+keeps-a-grid t (nearest c r) h = h
 
 all-keep : (t : Tables) (cs : List PointCall) → Holds t → Holds (afterCalls t cs)
 unfolding afterCalls

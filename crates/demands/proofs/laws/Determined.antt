@@ -22,6 +22,8 @@ use Rattle.replies.specs.declared.Count.{Count}
 use Rattle.point_get.specs.Meaning.{Listing, getOf, lenOf, handlesOf}
 use Rattle.point_search.specs.Meaning.Searches.{Outputs, Findings}
 use Rattle.point_query.specs.Meaning.Queries.{queryOf, aroundOf, aabbOf}
+use Rattle.replies.specs.declared.Nearest.{Nearest}
+use Rattle.point_nearest.specs.Meaning.Nearest.{nearestOf}
 use Rattle.replies.specs.Meaning.Replies.{reply}
 use Rattle.box_tables.specs.Meaning.Tables as BoxTables
 use Rattle.box_tables.specs.Meaning.Outcome as Boxes
@@ -93,6 +95,9 @@ module _ (t : Tables) where
   pub aabb-determined : (a b : Position) (o : Outputs) (r₁ r₂ : Findings)
       → r₁ ≡ aabbOf t a b o → r₂ ≡ aabbOf t a b o → r₁ ≡ r₂
   aabb-determined a b o r₁ r₂ e f = one e f
+
+  pub near-determined : (c : Position) (r : Float) (r₁ r₂ : Nearest) → r₁ ≡ nearestOf t c r → r₂ ≡ nearestOf t c r → r₁ ≡ r₂
+  near-determined c r r₁ r₂ e f = one e f
 
 -- ---- the box grid
 boxed : {R : Type 0} {o : Boxes.Outcome R} {r₁ r₂ : R} {t₁ t₂ : BoxTables.Tables} → Boxes.outcome r₁ t₁ ≡ o → Boxes.outcome r₂ t₂ ≡ o → (r₁ ≡ r₂) × (t₁ ≡ t₂)

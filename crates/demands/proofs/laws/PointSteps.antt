@@ -1,12 +1,13 @@
 -- Each call of the point grid makes its tests one after the other: it is done if they pass, and else leaves what a call refused with the
 -- first number leaves. Assumes nothing.
-use Rattle.basics.specs.Words.{ℕ, _≡_, refl, subst, Bool, _&&_, List, [], length, length-map, eqb}
+use Rattle.basics.specs.Words.{ℕ, _≡_, refl, subst, Bool, _&&_, List, [], _∷_, length, length-map, eqb}
 use Rattle.basics.specs.Meaning.Refusals.{pick}
 use Rattle.replies.specs.Meaning.Replies.{count, inserted, reply}
 use Rattle.geometry.specs.declared.Position.{Position}
 use Rattle.geometry.specs.Meaning.Domain.{positionInDomain, radiusInDomain}
 use Rattle.geometry.specs.Meaning.Rectangle.{lowerCorner, upperCorner}
 use Rattle.slot_walks.specs.Meaning.Live.{handleAt, liveFrom}
+use Rattle.storage.specs.Meaning.Entries.{Entry}
 use Rattle.point_tables.specs.Meaning.Tables.{Tables}
 use Rattle.point_tables.specs.Meaning.Outcome.{outcome}
 use Rattle.point_insert.specs.Meaning.New.{newOf}
@@ -21,14 +22,15 @@ use Rattle.geometry.specs.Meaning.Zero.{zero-position}
 use Rattle.point_search.specs.declared.Test.{Test}
 use Rattle.point_search.specs.declared.Test.the-variants.{Any, Circle, Rectangle}
 use Rattle.point_search.specs.Meaning.Searches.{found, Outputs as Columns, room, findings, searchTests, searchOf}
-use Rattle.point_query.specs.Meaning.Queries.{queryOf, aroundOf, aabbOf}
+use Rattle.point_query.specs.Meaning.Queries.{queryOf, aroundFinds, aroundOf, aabbOf}
+use Rattle.point_nearest.specs.Meaning.Nearest.{closestFrom, nearestReply, noFinding, nearestReport, nearestOf}
 use Rattle.geometry.specs.Meaning.Circle.{cornerBelow, cornerAbove}
 use Rattle.demands.proofs.laws.Tested.{Tested, tested, no-nine, at-nine}
 use Rattle.demands.specs.Meaning.Left.{outputs, none, refused}
 use Rattle.demands.specs.Meaning.PointCalls.{PointCall, new, insert, setPosition, remove, batch, maintain, removeMaintain, clear}
-use Rattle.demands.specs.Meaning.PointCalls.{get, len, handles, query, queryAround, queryAabb}
+use Rattle.demands.specs.Meaning.PointCalls.{get, len, handles, query, queryAround, queryAabb, nearest}
 use Rattle.demands.specs.Meaning.PointCalls.{ofNumber, ofInserted, ofReply, ofBatched, ofMaintained, ofWritten, ofGot, ofCount, ofListing}
-use Rattle.demands.specs.Meaning.PointCalls.{ofColumns, ofFindings}
+use Rattle.demands.specs.Meaning.PointCalls.{ofColumns, ofFindings, ofNearest}
 use Rattle.demands.specs.Meaning.PointCalls.{Leaves, leaves, refusals, numberFound, refusedWith}
 
 -- the three queries are one search
@@ -58,6 +60,11 @@ module _ (t : Tables) (out : List (List ℕ)) where
   unfolding liveHandles liveSlots
   as-many = length-map (liveFrom 0 (t .nums)) (handleAt (t .nums))
 
+-- `nearest` answers 0 where its tests pass, with a point and with none
+report-accepted : (t : Tables) (near : List Entry) → nearestReport t near .answer ≡ 0
+report-accepted t [] = refl
+report-accepted t (e ∷ near) = refl
+
 pub step : (t : Tables) (c : PointCall) → Tested (refusals t c) (refusedWith t c) (leaves t c)
 unfolding leaves refusals numberFound
 step t (new size) = unfold newOf in tested ofNumber _ (λ a. outcome a t) refl (no-nine zero-position t none) _ refl
@@ -84,3 +91,7 @@ step t (queryAround c r o) =
 step t (queryAabb a b o) =
     unfold aabbOf in
     search t (positionInDomain a && positionInDomain b) (lowerCorner a b) (upperCorner a b) (Rectangle (lowerCorner a b) (upperCorner a b)) o
+step t (nearest c r) =
+    unfold nearestOf in
+    let near = closestFrom c [] (aroundFinds t c r) in
+    tested (ofNearest t) (nearestReport t near) (λ a. nearestReply a 0 noFinding) (report-accepted t near) (no-nine zero-position t none) _ refl

@@ -18,7 +18,7 @@ abbrev pub none : Outputs
 none = outputs [] [] []
 
 -- ---- all that calls return beside their answer, and zero where a call returns nothing of the kind: a count of findings, objects or calls;
--- the handle of `insert`; data; the position or box of `get`; the two counts of `maintain`
+-- the handle of `insert` or `nearest`; data; the position or box of `get` or `nearest`; the two counts of `maintain`
 pub record Returned (P : Type 0) : Type 0 where
   pub count : ℕ
   pub handle : Handle
@@ -49,6 +49,9 @@ module _ {P : Type 0} (z : P) where
 
 abbrev pub theObject : {P : Type 0} → P → ℕ → Returned P
 theObject p d = record { count = 0; handle = noHandle; obj = d; place = p; moved = 0; removed = 0 }
+
+abbrev pub theFinding : {P : Type 0} → ℕ → Handle → P → ℕ → Returned P
+theFinding n h p d = record { count = n; handle = h; obj = d; place = p; moved = 0; removed = 0 }
 
 -- ---- all together
 pub record Left (T P : Type 0) : Type 0 where

@@ -9,6 +9,7 @@ use Rattle.point_tables.specs.Meaning.Outcome.{Outcome}
 use Rattle.replies.specs.declared.Inserted.{Inserted}
 use Rattle.replies.specs.declared.Reply.{Reply}
 use Rattle.replies.specs.declared.Count.{Count}
+use Rattle.replies.specs.declared.Nearest.{Nearest}
 use Rattle.point_insert.specs.Meaning.New.{newTests, newOf}
 use Rattle.point_insert.specs.Meaning.Insert.{insertTests, insertOf}
 use Rattle.point_deferred.specs.Meaning.Moves.{setPositionTests, setPositionOf, removeTests, removeOf}
@@ -22,8 +23,10 @@ use Rattle.point_get.specs.Meaning.{Listing, getTests, getOf, lenTests, lenOf, 
 use Rattle.geometry.specs.Meaning.Zero.{zero-position}
 use Rattle.point_search.specs.Meaning.Searches.{Outputs as Columns, Findings}
 use Rattle.point_query.specs.Meaning.Queries.{queryFinds, queryTests, queryOf, aroundFinds, aroundTests, aroundOf, aabbFinds, aabbTests, aabbOf}
+use Rattle.point_nearest.specs.Meaning.Nearest.{nearestTests, nearestOf}
 use Rattle.basics.specs.Meaning.Refusals.{Refusal}
-use Rattle.demands.specs.Meaning.Left.{Outputs, outputs, none, zeros, theCount, theHandle, theData, theChanges, theObject, Left, left, refused}
+use Rattle.demands.specs.Meaning.Left.{Outputs, outputs, none, zeros, theCount, theHandle, theData, theChanges, theObject, theFinding, Left}
+use Rattle.demands.specs.Meaning.Left.{left, refused}
 
 pub data PointCall : Type 0 where
   new : ℕ → PointCall
@@ -40,6 +43,7 @@ pub data PointCall : Type 0 where
   query : Position → Position → Columns → PointCall
   queryAround : Position → Float → Columns → PointCall
   queryAabb : Position → Position → Columns → PointCall
+  nearest : Position → Float → PointCall
 
 -- the outputs of a query
 abbrev pub ofColumns : Columns → Outputs
@@ -61,6 +65,7 @@ lentTo (handles out) = outputs out [] []
 lentTo (query ll ur o) = ofColumns o
 lentTo (queryAround c r o) = ofColumns o
 lentTo (queryAabb a b o) = ofColumns o
+lentTo (nearest c r) = none
 
 -- ---- what is left, by the kind of what a call gives
 abbrev pub Leaves : Type 0
@@ -98,6 +103,9 @@ ofListing t l = left (l .returned .answer) (theCount zero-position (l .returned 
 abbrev pub ofFindings : Tables → Findings → Leaves
 ofFindings t f = left (f .returned .answer) (theCount zero-position (f .returned .count)) t (ofColumns (f .outputs))
 
+abbrev pub ofNearest : Tables → Nearest → Leaves
+ofNearest t n = left (n .answer) (theFinding (n .count) (n .handle) (n .position) (n .obj)) t none
+
 unfoldable pub leaves : Tables → PointCall → Leaves
 leaves t (new size) = ofNumber (newOf t size)
 leaves t (insert p d) = ofInserted (insertOf t p d)
@@ -113,6 +121,7 @@ leaves t (handles out) = ofListing t (handlesOf t out)
 leaves t (query ll ur o) = ofFindings t (queryOf t ll ur o)
 leaves t (queryAround c r o) = ofFindings t (aroundOf t c r o)
 leaves t (queryAabb a b o) = ofFindings t (aabbOf t a b o)
+leaves t (nearest c r) = ofNearest t (nearestOf t c r)
 
 -- ---- document 01's refusals of each call: its tests, which stand beside its outcome
 unfoldable pub refusals : Tables → PointCall → List Refusal
@@ -130,6 +139,7 @@ refusals t (handles out) = handlesTests t out
 refusals t (query ll ur o) = queryTests t ll ur o
 refusals t (queryAround c r o) = aroundTests t c r o
 refusals t (queryAabb a b o) = aabbTests t a b o
+refusals t (nearest c r) = nearestTests t c r
 
 -- ---- the number found: the findings, for `clear` and `handles` the objects, for a batch its calls; of the others none answers 9
 unfoldable pub numberFound : Tables → PointCall → ℕ
@@ -147,6 +157,7 @@ numberFound t (handles out) = length (liveSlots t)
 numberFound t (query ll ur o) = length (queryFinds t ll ur)
 numberFound t (queryAround c r o) = length (aroundFinds t c r)
 numberFound t (queryAabb a b o) = length (aabbFinds t a b)
+numberFound t (nearest c r) = 0
 
 -- what a call leaves if it is refused with number n
 abbrev pub refusedWith : Tables → PointCall → ℕ → Leaves
@@ -168,3 +179,4 @@ uneven (handles out) = false
 uneven (query ll ur o) = false
 uneven (queryAround c r o) = false
 uneven (queryAabb a b o) = false
+uneven (nearest c r) = false

@@ -5,7 +5,7 @@ use lib.Ieee.{binary32, ofBits, lt, le, eq, add, sub, mul, neg}
 use Rattle.geometry.specs.declared.Position.{Position}
 use Rattle.geometry.specs.declared.Aabb.{Aabb}
 use Rattle.geometry.specs.Meaning.Domain.{inDomain, radiusInDomain}
-use Rattle.geometry.specs.Meaning.Circle.{inCircle}
+use Rattle.geometry.specs.Meaning.Circle.{distanceSquared, inCircle}
 use Rattle.geometry.specs.Meaning.Rectangle.{lowerCorner, upperCorner, inRectangle}
 use Rattle.geometry.specs.Meaning.Intersects.{overlaps, intersects}
 
@@ -34,7 +34,7 @@ abbrev box : Point → Point → Aabb
 box a b = record { ll = position a; ur = position b }
 
 unfoldable pub right : Row → Bool
-unfolding ofBits lt le eq add sub mul neg inCircle overlaps intersects
+unfolding ofBits lt le eq add sub mul neg distanceSquared inCircle overlaps intersects
 right (coordinate x w) = Bool·beq (inDomain (ofBits binary32 x)) w
 right (radius x w) = Bool·beq (radiusInDomain (ofBits binary32 x)) w
 right (circle p c r w) = Bool·beq (inCircle (position p) (position c) (ofBits binary32 r)) w

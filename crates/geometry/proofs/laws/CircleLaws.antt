@@ -5,7 +5,7 @@ use lib.Ieee.{Float, fin, binary32, le, sub}
 use Rattle.geometry.specs.declared.Position.{Position}
 use Rattle.geometry.specs.Meaning.Domain.{inDomain, positionInDomain, radiusInDomain}
 use Rattle.geometry.proofs.laws.DomainLaws.{domain-fits, domain-finite, position-parts, radius-forward, radius-in-domain}
-use Rattle.geometry.specs.Meaning.Circle.{inCircle}
+use Rattle.geometry.specs.Meaning.Circle.{distanceSquared, inCircle}
 use Rattle.geometry.proofs.laws.Rounding.{number}
 use Rattle.geometry.proofs.laws.Sums.{sub-num}
 use Rattle.geometry.proofs.laws.Near.{x-near, y-near}
@@ -13,7 +13,7 @@ use Rattle.geometry.proofs.laws.Around.{Plain, Around, not-below-zero, 
 
 pub no-point-outside : (p centre : Position) (r : Float) → Plain binary32 (p .x) → Plain binary32 (p .y) → Plain binary32 (centre .x) → Plain binary32 (centre .y) → Plain binary32 r
     → T (le (fin false 0 (pos 0)) r) → T (inCircle p centre r) → Around binary32 (p .x) (centre .x) r × Around binary32 (p .y) (centre .y) r
-unfolding inCircle
+unfolding inCircle distanceSquared
 no-point-outside p centre r a b c d e g h =
     let f = binary32 in
     let (pp, np, vp) = number f (p .x) (a .0) (a .1) in

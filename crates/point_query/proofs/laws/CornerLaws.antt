@@ -23,9 +23,11 @@ module _ (p q : Bool) where
   pub query-reached : (ll ur : Position) → p ≡ positionInDomain ll → q ≡ positionInDomain ur → (p && q) ≡ true → Reached ll × Reached ur
   query-reached ll ur e f h = let (a, b) = both p q (positionInDomain ll) (positionInDomain ur) e f h in (position-reached ll a, position-reached ur b)
 
-  pub around-reached : (c : Position) (r : Float) → p ≡ positionInDomain c → q ≡ radiusInDomain r
-      → (p && q) ≡ true → Reached (cornerBelow c r) × Reached (cornerAbove c r)
-  around-reached c r e f h = let (a, b) = both p q (positionInDomain c) (radiusInDomain r) e f h in (low-reached c r a b, high-reached c r a b)
+  pub around-reached : (c : Position) (r : Float) (ll ur : Position) → ll ≡ cornerBelow c r → ur ≡ cornerAbove c r → p ≡ positionInDomain c → q ≡ radiusInDomain r
+      → (p && q) ≡ true → Reached ll × Reached ur
+  around-reached c r ll ur el eu e f h =
+      let (a, b) = both p q (positionInDomain c) (radiusInDomain r) e f h in
+      (subst Reached (sym el) (low-reached c r a b), subst Reached (sym eu) (high-reached c r a b))
 
   pub aabb-reached : (a b ll ur : Position) → ll ≡ lowerCorner a b → ur ≡ upperCorner a b → p ≡ positionInDomain a → q ≡ positionInDomain b
       → (p && q) ≡ true → Reached ll × Reached ur
@@ -41,10 +43,10 @@ module _ (p q : Bool) where
     unfolding queryOf
     query-is ll ur e f h = h ∙ (λ z. searchOf t (e z && f z) ll ur Any o)
 
-    pub around-is : (c : Position) (d : Float) → p ≡ positionInDomain c → q ≡ radiusInDomain d
-        → r ≡ searchOf t (p && q) (cornerBelow c d) (cornerAbove c d) (Circle c d) o → r ≡ aroundOf t c d o
+    pub around-is : (c : Position) (d : Float) (ll ur : Position) → ll ≡ cornerBelow c d → ur ≡ cornerAbove c d → p ≡ positionInDomain c → q ≡ radiusInDomain d
+        → r ≡ searchOf t (p && q) ll ur (Circle c d) o → r ≡ aroundOf t c d o
     unfolding aroundOf
-    around-is c d e f h = h ∙ (λ z. searchOf t (e z && f z) (cornerBelow c d) (cornerAbove c d) (Circle c d) o)
+    around-is c d ll ur el eu e f h = h ∙ (λ z. searchOf t (e z && f z) (el z) (eu z) (Circle c d) o)
 
     pub aabb-is : (a b ll ur : Position) → ll ≡ lowerCorner a b → ur ≡ upperCorner a b → p ≡ positionInDomain a → q ≡ positionInDomain b
         → r ≡ searchOf t (p && q) ll ur (Rectangle ll ur) o → r ≡ aabbOf t a b o

@@ -11,17 +11,23 @@ lent s = tables (s .args .nums .now) (s .args .reals .now) (s .args .ints .now) 
 
 search-requires : tie.Need-search-requires
 search-requires c κs =
-    let d = c .before .before .before .before .before .before .before in
+    let u = c .before .before .before in
+    let l = u .before in
+    let d = l .before in
     let s = d .before .before .before .before in
-    around-reached (d .before .position-in-domain .result) (d .radius-in-domain .result) (s .args .centre) (s .args .radius) (d .before .position-in-domain .ensures) (d .radius-in-domain .ensures)
+    around-reached _ _ (s .args .centre) (s .args .radius) _ _ (l .corner-below .ensures) (u .corner-above .ensures) (d .before .position-in-domain .ensures) (d .radius-in-domain .ensures)
 
 returns : tie.Need-returns
 returns c =
     let r = c .before .before .before .before in
-    let d = r .before .before .before .before .before .before .before .before in
+    let u = r .before .before .before .before in
+    let l = u .before in
+    let d = l .before in
     let s = d .before .before .before .before in
     let a = s .args in
-    around-is (d .before .position-in-domain .result) (d .radius-in-domain .result) (lent s) (outputs (a .found .now) (a .places .now) (a .objs .now)) _ (a .centre) (a .radius) (d .before .position-in-domain .ensures) (d .radius-in-domain .ensures) (r .search .ensures)
+    around-is (d .before .position-in-domain .result) (d .radius-in-domain .result) (lent s) (outputs (a .found .now) (a .places .now) (a .objs .now)) _ (a .centre) (a .radius) (l .corner-below .result) (u .corner-above .result)
+    (l .corner-below .ensures) (u .corner-above .ensures) (d .before .position-in-domain .ensures) (d .radius-in-domain .ensures) (r .search .ensures)
 
 pub query-around-spec : {M : Type 1} → statement M
-query-around-spec = tie.close (tie.spec (λ c κs. search needs) (λ c κs. search needs) search-requires (λ c. search needs) (λ c. search needs) (λ c. search needs) returns)
+query-around-spec =
+    tie.close (tie.spec (λ c κs. search needs) (λ c κs. search needs) (λ c κs. search needs) (λ c κs. search needs) search-requires (λ c. search needs) (λ c. search needs) (λ c. search needs) returns)

@@ -63,6 +63,22 @@ module _ (test : ℕ → Bool) (from : ℕ) where
   unfolding placesIn
   place-passed n e = rw e (append-nil (placesIn test from n))
 
+-- those up to the end of a stretch: the ones before it, and what another test says in it
+pub places-stretch : (test other : ℕ → Bool) (i from to : ℕ) → i ≤ from → from ≤ to
+    → ((j : ℕ) → i ≤ j → j < from → test j ≡ false) → ((j : ℕ) → from ≤ j → j < to → test j ≡ other j)
+    → placesIn test 0 to ≡ placesIn test 0 i ++ placesIn other from (to - from)
+places-stretch test other i from to h k none all =
+    let e : to ≡ from + (to - from) = omega arith in
+    let f : from ≡ i + (from - i) = omega arith in
+    let z : 0 + from ≡ from = omega arith in
+    let y : 0 + i ≡ i = omega arith in
+    ap (placesIn test 0) e
+    ∙ places-append test 0 from (to - from)
+    ∙ ap₂ {C = List ℕ} (λ (l m : List ℕ). l ++ m)
+    (ap (placesIn test 0) f ∙ places-append test 0 i (from - i) ∙ ap (λ (n : ℕ). placesIn test 0 i ++ placesIn test n (from - i)) y
+    ∙ ap (λ (l : List ℕ). placesIn test 0 i ++ l) (places-none test i (from - i) (λ j p q. none j p (omega arith))) ∙ append-nil (placesIn test 0 i))
+    (ap (λ (n : ℕ). placesIn test n (to - from)) z ∙ places-same test from other (to - from) (λ j p q. all j p (omega arith)))
+
 -- those of the stretch up to j
 module _ (test : ℕ → Bool) (from : ℕ) where
   abbrev pub passed : ℕ → List ℕ

@@ -1,5 +1,5 @@
 -- What a stretch of the range adds to the places. Assumes nothing.
-use Rattle.basics.specs.Words.{ℕ, _+_, _-_, _<_, _≤_, _≡_, sym, ap, ap₂, _∙_, Bool, true, false, _&&_, List, _++_, append-nil, length, arith}
+use Rattle.basics.specs.Words.{ℕ, _-_, _<_, _≤_, _≡_, sym, ap, _∙_, Bool, true, false, _&&_, List, _++_, length}
 use lib.Ieee.{Float}
 use Rattle.cells.specs.declared.Cell.{Cell}
 use Rattle.cells.specs.Inner.Numbers.{Near}
@@ -14,7 +14,7 @@ use Rattle.storage.specs.Inner.Run.{NextRun}
 use Rattle.storage.proofs.laws.RunStepLaws.{key-windows}
 use Rattle.point_search.specs.declared.Test.{Test}
 use Rattle.point_search.specs.Inner.Places.{placesIn, wantedAt, spotPasses, placesOf}
-use Rattle.point_search.proofs.laws.PlacesLaws.{places-append, places-none, places-same, places-length}
+use Rattle.point_search.proofs.laws.PlacesLaws.{places-stretch, places-length}
 
 module _ (a b : Cell) (test : Test) (pool : List (List ℕ)) (spots : List (List Float)) where
   abbrev W : ℕ → Bool
@@ -27,21 +27,11 @@ module _ (a b : Cell) (test : Test) (pool : List (List ℕ)) (spots : List (List
   inside j e = ap (λ (w : Bool). w && spotPasses test spots j) e
 
   -- the places before a stretch, and those of the stretch
-  places-stretch : (i from to : ℕ) → i ≤ from → from ≤ to
+  stretch : (i from to : ℕ) → i ≤ from → from ≤ to
       → ((j : ℕ) → i ≤ j → j < from → windowOf a b (first pool j) ≡ false) → ((j : ℕ) → from ≤ j → j < to → windowOf a b (first pool j) ≡ true)
       → placesOf a b test pool spots to ≡ placesOf a b test pool spots i ++ placesIn (spotPasses test spots) from (to - from)
   unfolding placesOf
-  places-stretch i from to h k none all =
-      let e : to ≡ from + (to - from) = omega arith in
-      let f : from ≡ i + (from - i) = omega arith in
-      let z : 0 + from ≡ from = omega arith in
-      let y : 0 + i ≡ i = omega arith in
-      ap (placesIn W 0) e
-      ∙ places-append W 0 from (to - from)
-      ∙ ap₂ {C = List ℕ} (λ (l m : List ℕ). l ++ m)
-      (ap (placesIn W 0) f ∙ places-append W 0 i (from - i) ∙ ap (λ (n : ℕ). placesIn W 0 i ++ placesIn W n (from - i)) y
-      ∙ ap (λ (l : List ℕ). placesIn W 0 i ++ l) (places-none W i (from - i) (λ j p q. outside j (none j p (omega arith)))) ∙ append-nil (placesIn W 0 i))
-      (ap (λ (n : ℕ). placesIn W n (to - from)) z ∙ places-same W from (spotPasses test spots) (to - from) (λ j p q. inside j (all j p (omega arith))))
+  stretch i from to h k none all = places-stretch W (spotPasses test spots) i from to h k (λ j p q. outside j (none j p q)) (λ j p q. inside j (all j p q))
 
   pub places-most : (n : ℕ) → length (placesOf a b test pool spots n) ≤ n
   unfolding placesOf
@@ -55,4 +45,4 @@ module _ (a b : Cell) (na : Near a) (nb : Near b) (test : Test) (pool : List (Li
 
   -- what a run of the walk adds
   pub places-run : placesOf a b test pool spots (r .to) ≡ placesOf a b test pool spots i ++ placesIn (spotPasses test spots) (r .from) (r .to - r .from)
-  places-run = places-stretch a b test pool spots i (r .from) (r .to) (n .onward) (n .ends) (λ j p q. own (first pool j) ∙ n .passed j p q) (λ j p q. own (first pool j) ∙ n .taken j p q)
+  places-run = stretch a b test pool spots i (r .from) (r .to) (n .onward) (n .ends) (λ j p q. own (first pool j) ∙ n .passed j p q) (λ j p q. own (first pool j) ∙ n .taken j p q)

@@ -1,16 +1,27 @@
 -- What the inner contracts of a search ask for and say, by name. Assumes nothing.
-use Rattle.basics.specs.Words.{ℕ, _+_, _<_, _≤_, _≡_, List, _++_, map, length, getD, take}
+use Rattle.basics.specs.Words.{ℕ, _+_, _<_, _≤_, _≡_, Bool, List, _++_, map, length, getD, take}
 use lib.Ieee.{Float}
 use Rattle.basics.specs.Meaning.Limits.{mostSlots}
+use Rattle.basics.specs.Meaning.Refusals.{firstOf}
+use Rattle.geometry.specs.declared.Position.{Position}
 use Rattle.cells.specs.declared.Cell.{Cell}
+use Rattle.cells.specs.Meaning.CellRule.{cellAt}
+use Rattle.point_tables.specs.Meaning.Tables.{Tables, sizeOf}
+use Rattle.point_search.specs.declared.Range.{Range}
 use Rattle.cells.specs.Inner.Numbers.{Near}
 use Rattle.storage.specs.Meaning.Keyed.{written}
 use Rattle.point_search.specs.declared.Part.{Part}
 use Rattle.point_search.specs.declared.Test.{Test}
-use Rattle.point_search.specs.Meaning.Searches.{Outputs, filling, Findings}
+use Rattle.point_search.specs.Meaning.Searches.{Outputs, filling, Findings, rangeTests}
 use Rattle.point_search.specs.Inner.Places.{placesOf, stretchPlaces}
 use Rattle.point_search.specs.Inner.Fill.{findingAt, handleRowAt, placeRowAt, findingObjAt, filled, Stocked, Findable}
 use Rattle.point_search.specs.Inner.Begun.{Begun}
+
+-- the answer to a range, and where it is 0 the cells of its corners
+pub record Ranged (t : Tables) (ok : Bool) (ll ur : Position) (r : Range) : Type 0 where
+  pub answer : r .answer ≡ firstOf (rangeTests t ok ll ur)
+  pub low : r .answer ≡ 0 → r .a ≡ cellAt (sizeOf t) ll
+  pub high : r .answer ≡ 0 → r .b ≡ cellAt (sizeOf t) ur
 
 -- what a search asks for: sorted columns, corners near enough, and a slot for each entry in use
 abbrev pub Searchable : Cell → Cell → List (List ℕ) → List (List ℕ) → List (List Float) → ℕ → Type 0

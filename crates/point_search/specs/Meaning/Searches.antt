@@ -1,6 +1,6 @@
 -- The search that the three queries of a point grid are: the entries of a range that pass a test, in range order and then in list order; a
 -- finding is handle, position and data. Assumes nothing.
-use Rattle.basics.specs.Words.{ℕ, min, Bool, true, List, [], _∷_, map, length, eqb, leb}
+use Rattle.basics.specs.Words.{ℕ, min, Bool, true, List, [], _∷_, _++_, map, length, eqb, leb}
 use lib.Ieee.{Float}
 use Rattle.basics.specs.Meaning.Limits.{mostCells}
 use Rattle.basics.specs.Meaning.Refusals.{Refusal, unless, firstOf, pick, byTests}
@@ -80,14 +80,17 @@ findings c o = record { returned = c; outputs = o }
 abbrev pub reportOf : {A : Type 0} → (A → Finding) → List A → Outputs → Findings
 reportOf report l o = findings (count 0 (length l)) (filling report l o)
 
--- ---- the search that the three queries are. `ok` says whether their numbers are in the domain
-abbrev pub searchTests : Tables → Bool → Position → Position → Test → ℕ → List Refusal
-searchTests t ok ll ur test room =
+-- ---- what is asked of a range before anything is looked for in it. `ok` says whether the numbers that a call was given are in the domain
+abbrev pub rangeTests : Tables → Bool → Position → Position → List Refusal
+rangeTests t ok ll ur =
     unless (holds t) 3
     ∷ unless ok 6
     ∷ unless (leb (cellsIn (cellAt (sizeOf t) ll) (cellAt (sizeOf t) ur)) mostCells) 7
-    ∷ unless (leb (length (found t ll ur test)) room) 9
     ∷ []
+
+-- ---- the search that the three queries are
+abbrev pub searchTests : Tables → Bool → Position → Position → Test → ℕ → List Refusal
+searchTests t ok ll ur test room = rangeTests t ok ll ur ++ (unless (leb (length (found t ll ur test)) room) 9 ∷ [])
 
 unfoldable pub searchAnswer : Tables → Bool → Position → Position → Test → ℕ → ℕ
 unfolding found

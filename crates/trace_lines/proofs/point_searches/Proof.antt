@@ -13,8 +13,11 @@ point-searches-spec =
     (λ c κs. search needs)
     (λ c. search needs)
     (λ c κs. search needs)
+    (λ c. search needs)
+    (λ c κs. search needs)
     (λ c. rw (
-      c .row3 .ensures,
-      c .before .before .row2 .ensures,
-      c .before .before .before .before .row .ensures,
+      c .row4 .ensures,
+      c .before .before .row3 .ensures,
+      c .before .before .before .before .row2 .ensures,
+      c .before .before .before .before .before .before .row .ensures,
     )))

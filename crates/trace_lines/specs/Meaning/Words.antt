@@ -4,7 +4,7 @@ use Rattle.basics.specs.Meaning.Refusals.{pick}
 use Rattle.trace_lines.specs.declared.Line.{Line}
 use Rattle.trace_lines.specs.declared.Line.the-variants.{Cell, PointChange, PointSearch, BoxChange, BoxSearch, Unreadable}
 use Rattle.trace_lines.specs.declared.PointChange.the-variants.{Ins, Pos, Rem, Now, Mnt}
-use Rattle.trace_lines.specs.declared.PointSearch.the-variants.{Cir, Rec, Cel}
+use Rattle.trace_lines.specs.declared.PointSearch.the-variants.{Cir, Rec, Cel, Near}
 use Rattle.trace_lines.specs.declared.BoxChange.the-variants.{Bin, Bset, Brem}
 use Rattle.trace_lines.specs.declared.Asks.{Asks}
 
@@ -29,12 +29,13 @@ pointChanges =
     ∷ wordRow (109 ∷ 110 ∷ 116 ∷ []) (PointChange Mnt) false 0 false false
     ∷ []
 
--- cir rec cel
+-- cir rec cel near
 abbrev pub pointSearches : List WordRow
 pointSearches =
     wordRow (99 ∷ 105 ∷ 114 ∷ []) (PointSearch Cir) false 1 true false
     ∷ wordRow (114 ∷ 101 ∷ 99 ∷ []) (PointSearch Rec) false 2 false false
     ∷ wordRow (99 ∷ 101 ∷ 108 ∷ []) (PointSearch Cel) false 2 false false
+    ∷ wordRow (110 ∷ 101 ∷ 97 ∷ 114 ∷ []) (PointSearch Near) false 1 true false
     ∷ []
 
 -- bin bset brem bqry

@@ -16,6 +16,9 @@ find-spec =
     (λ c. search needs)
     (λ c κs. search needs)
     (λ c. search needs)
+    (λ c κs. search needs)
+    (λ c κs. search needs)
+    (λ c. search needs)
     (λ c. search needs)
     (λ c. search needs)
     (λ c. let r = c .before .before .before .before in rw (r .before .before .before .before .enum-told .given .1) (r .query-around .ensures))
@@ -26,4 +29,11 @@ find-spec =
     (λ c. search needs)
     (λ c. search needs)
     (λ c. search needs)
-    (λ c. let r = c .before .before .before .before in rw (r .before .before .before .before .enum-told3 .given .1) (r .query .ensures)))
+    (λ c. let r = c .before .before .before .before in rw (r .before .before .before .before .enum-told3 .given .1) (r .query .ensures))
+    (λ c. search needs)
+    (λ c. search needs)
+    (λ c. search needs)
+    (λ c.
+    let r = c .before .before .before .before in
+    let n = r .before .before .before .before in
+    rw (n .before .enum-told4 .given .1, ← (n .nearest .ensures)) (r .near .ensures)))

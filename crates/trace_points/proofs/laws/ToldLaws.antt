@@ -1,6 +1,6 @@
 -- The findings that a search says are in its outputs. Assumes nothing.
-use Rattle.basics.specs.Words.{ℕ, min, _≤_, _≡_, refl, sym, subst, Bool, true, false, _&&_, List, map, length, length-map, eqb, ℤ, min-le-left, min-le-right}
-use Rattle.basics.specs.Words.{arith, eqb-true}
+use Rattle.basics.specs.Words.{ℕ, min, _≤_, _≡_, refl, sym, subst, Bool, true, false, _&&_, List, [], _∷_, map, length, length-map, eqb, ℤ, min-le-left}
+use Rattle.basics.specs.Words.{min-le-right, arith, eqb-true}
 use Rattle.basics.specs.Meaning.Refusals.{pick}
 use Rattle.geometry.specs.declared.Position.{Position}
 use Rattle.geometry.specs.Meaning.Domain.{positionInDomain, radiusInDomain}
@@ -21,18 +21,22 @@ use Rattle.point_search.specs.declared.Test.the-variants.{Any, Circle, Rectangl
 use Rattle.point_search.specs.Meaning.Searches as searches
 use Rattle.point_search.proofs.laws.FindLaws.{passed-room}
 use Rattle.point_query.specs.Meaning.Queries as query
+use Rattle.point_nearest.specs.Meaning.Nearest.{nearestOf}
 use Rattle.trace_printing.specs.declared.Said.the-variants.{Refused, Done, One, Two, Points}
 use Rattle.trace_printing.specs.Inner.Said.{Told}
+use Rattle.replies.specs.declared.Count.{Count}
+use Rattle.replies.specs.declared.Nearest.{Nearest}
 use Rattle.replies.specs.Meaning.Replies.{count}
 use Rattle.slots.specs.declared.Handle.{Handle}
 use Rattle.trace_lines.specs.declared.Spot.{Spot}
 use Rattle.trace_lines.specs.declared.PointChange.{PointChange}
 use Rattle.trace_lines.specs.declared.PointChange.the-variants.{Ins, Pos, Rem, Now, Mnt}
 use Rattle.trace_lines.specs.declared.PointSearch.{PointSearch}
-use Rattle.trace_lines.specs.declared.PointSearch.the-variants.{Cir, Rec, Cel}
+use Rattle.trace_lines.specs.declared.PointSearch.the-variants.{Cir, Rec, Cel, Near}
 use Rattle.trace_telling.proofs.laws.Tells.{told-tells}
 use Rattle.trace_points.specs.Meaning.Changes.{changeOf}
-use Rattle.trace_points.specs.Meaning.Searches.{Searched, searched, pointSearchSaid, findingsOf, pointSearchOf}
+use Rattle.trace_points.specs.Meaning.Searches.{Searched, searched, pointSearchSaid, findingIn, nearestFinds, findingsOf, pointSearchOf}
+use Rattle.point_nearest.proofs.laws.NearLaws.{at-most-one}
 
 -- what there is to tell is there: as many findings as the trace's grids can give, and all in the outputs
 abbrev pub IsTold : ℕ → Searched → Type 0
@@ -63,6 +67,22 @@ module _ (boxes : ℕ) (o : searches.Outputs) (few : length (o .handles) ≤ 256
         go true h = told-found (searches.found t ll ur test) (searches.findingOn t) (passed-room t ok ll ur test o (eqb-true a 0 h))
         go false h = subst (λ (x : Bool). Told (pick x (Points (pick (eqb a 9) (length (searches.found t ll ur test)) 0)) (Refused a)) (length (o .handles)) (length (o .places)) boxes (length (o .objs))) (sym h) tt
 
+  -- at most one is said of `nearest`, and the first place is written
+  told-near : (r : Nearest) → r .count ≤ 1 → IsTold boxes (pointSearchSaid (nearestFinds r o))
+  unfolding nearestFinds
+  told-near r h = go (eqb (r .count) 0) refl (eqb (searches.room o) 0)
+    where
+      said : Count
+      said = count (r .answer) (r .count)
+
+      put : searches.Outputs
+      put = searches.filling (λ (f : Finding). f) (findingIn r ∷ []) o
+
+      go : (x : Bool) → eqb (r .count) 0 ≡ x → (y : Bool) → IsTold boxes (pointSearchSaid (pick x (searches.findings said o) (pick y (searches.findings (count 9 (r .count)) o) (searches.findings said put))))
+      go true e y = let z : r .count ≡ 0 = eqb-true (r .count) 0 e in told-tells (length (o .handles)) (length (o .places)) boxes (length (o .objs)) (r .answer) (Points (r .count)) (omega arith, omega arith, omega arith, omega arith)
+      go false e true = tt
+      go false e false = told-tells (length (put .handles)) (length (put .places)) boxes (length (put .objs)) (r .answer) (Points (r .count)) (omega arith, omega arith, omega arith, omega arith)
+
   pub told : (t : Tables) (s : PointSearch) (p q : Spot) (far : ℤ) → IsTold boxes (pointSearchOf t s p q far o)
   unfolding findingsOf query.aroundOf query.aabbOf query.queryOf
   told t Cir p q far =
@@ -74,6 +94,7 @@ module _ (boxes : ℕ) (o : searches.Outputs) (few : length (o .handles) ≤ 256
       let u = upperCorner (placeOf p) (placeOf q) in
       told-search t (positionInDomain (placeOf p) && positionInDomain (placeOf q)) l u (Rectangle l u)
   told t Cel p q far = told-search t (positionInDomain (placeOf p) && positionInDomain (placeOf q)) (placeOf p) (placeOf q) Any
+  told t Near p q far = let r = nearestOf t (placeOf p) (sixteenth far) in told-near r (at-most-one t (placeOf p) (sixteenth far))
 
 -- a change has no findings to tell
 module _ (handles places boxes objs : ℕ) where

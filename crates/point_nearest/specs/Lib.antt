@@ -1,0 +1,3 @@
+-- The point that is nearest to a centre.
+pub mod Meaning
+pub mod Inner

@@ -1,0 +1,2 @@
+-- What must be believed.
+pub mod Nearest

@@ -1,0 +1,3 @@
+-- What only inner contracts cite.
+pub mod Look
+pub mod Rings

@@ -1,0 +1,2 @@
+-- The nearest of the entries, looked for ring by ring.
+pub mod Inner
