@@ -10,17 +10,19 @@
 
    In a call each table, list and output is a pointer, then its length in elements (rows, not bytes), never more than the memory behind it has.
 
-   Answers. Every call answers by number, first that applies in the order 3, 2, 6, 5, 1, 7, 4, 8, 9:
+   Answers. Every call answers by number, first that applies in the order 3, 2, 6, 11 or 12, 1, 7, 4, 8, 9:
      0  done
      1  set_position on an object marked removed
      2  cell size outside its limits (building)
      3  tables of wrong length or not holding a grid
      4  no usable slot
-     5  handle not good
      6  coordinate or radius outside the domain, box reversed
      7  range or box over 4,096 cells
      8  entries in use, less the box's old ones, plus its new ones, exceed the pool
      9  output shorter than the findings: the count says how long it must be
+    11  handle never issued: every handle that is neither good nor gone; there is no such slot, or it had no object at that version
+    12  handle gone: the version is at least 1 and below that of its slot, or its slot is retired and was emptied at that version
+   A handle that a call gave gets 12 once its object is taken out, until the tables are built anew; 11 is a wrong number. 5 is no longer given.
    A call that does not answer 0 changes no table and no output, and the rest of what it returns is zero, but for the count of 9.
    A call that answers 0 writes only the places of an output that it fills.
 
@@ -133,7 +135,7 @@ chavrupas_inserted chavrupas_points_insert(
     float x, float y, uint32_t obj);
 
 /* The object shall be at (x, y) after the next maintain; until then queries and `get` see it where it is recorded.
-   Answers 3, 6, 5, 1. */
+   Answers 3, 6, 11, 12, 1. */
 uint32_t chavrupas_points_set_position(
     chavrupas_point_nums *nums, size_t nums_n, chavrupas_point_reals *reals, size_t reals_n, chavrupas_point_ints *ints, size_t ints_n,
     const uint64_t *map, size_t map_n, const chavrupas_pool_row *pool, size_t pool_n, const chavrupas_position *spots, size_t spots_n,
@@ -141,7 +143,7 @@ uint32_t chavrupas_points_set_position(
     uint32_t slot, uint32_t version, float x, float y);
 
 /* Marks the object; the next maintain takes it out. Gives its data, and again if asked again.
-   Answers 3, 5. */
+   Answers 3, 11, 12. */
 chavrupas_reply chavrupas_points_remove(
     chavrupas_point_nums *nums, size_t nums_n, chavrupas_point_reals *reals, size_t reals_n, chavrupas_point_ints *ints, size_t ints_n,
     const uint64_t *map, size_t map_n, const chavrupas_pool_row *pool, size_t pool_n, const chavrupas_position *spots, size_t spots_n,
@@ -166,14 +168,14 @@ chavrupas_maintained chavrupas_points_maintain(
     chavrupas_cell_row *cells, size_t cells_n);
 
 /* Takes the object out now, whatever is pending for it. Gives its data.
-   Answers 3, 5. */
+   Answers 3, 11, 12. */
 chavrupas_reply chavrupas_points_remove_maintain(
     chavrupas_point_nums *nums, size_t nums_n, const chavrupas_point_reals *reals, size_t reals_n,
     const chavrupas_point_ints *ints, size_t ints_n, uint64_t *map, size_t map_n, chavrupas_pool_row *pool, size_t pool_n,
     chavrupas_position *spots, size_t spots_n, chavrupas_cell_row *cells, size_t cells_n,
     uint32_t slot, uint32_t version);
 
-/* Writes the recorded position and the data of every object, ascending by slot, then empties the grid; old handles stay bad.
+/* Writes the recorded position and the data of every object, ascending by slot, then empties the grid; old handles answer 12 from then on.
    Answers 3, 9 with the number of objects. */
 chavrupas_count chavrupas_points_clear(
     chavrupas_point_nums *nums, size_t nums_n, const chavrupas_point_reals *reals, size_t reals_n,
@@ -182,7 +184,7 @@ chavrupas_count chavrupas_points_clear(
     chavrupas_position *places, size_t places_n, uint32_t *objs, size_t objs_n);
 
 /* The recorded position and the data of an object.
-   Answers 3, 5. */
+   Answers 3, 11, 12. */
 chavrupas_point_got chavrupas_points_get(
     const chavrupas_point_nums *nums, size_t nums_n, const chavrupas_point_reals *reals, size_t reals_n,
     const chavrupas_point_ints *ints, size_t ints_n, const uint64_t *map, size_t map_n, const chavrupas_pool_row *pool, size_t pool_n,
@@ -261,20 +263,20 @@ chavrupas_inserted chavrupas_boxes_insert(
     float left, float low, float right, float high, uint32_t obj);
 
 /* Another box for the object, at once.
-   Answers 3, 6, 5, 7, 8. */
+   Answers 3, 6, 11, 12, 7, 8. */
 uint32_t chavrupas_boxes_set_aabb(
     const chavrupas_box_nums *nums, size_t nums_n, chavrupas_aabb *reals, size_t reals_n, uint64_t *map, size_t map_n,
     chavrupas_pool_row *pool, size_t pool_n,
     uint32_t slot, uint32_t version, float left, float low, float right, float high);
 
 /* Takes the object out at once. Gives its data.
-   Answers 3, 5. */
+   Answers 3, 11, 12. */
 chavrupas_reply chavrupas_boxes_remove(
     chavrupas_box_nums *nums, size_t nums_n, const chavrupas_aabb *reals, size_t reals_n, uint64_t *map, size_t map_n,
     chavrupas_pool_row *pool, size_t pool_n,
     uint32_t slot, uint32_t version);
 
-/* Writes the box and the data of every object, ascending by slot, then empties the grid; old handles stay bad.
+/* Writes the box and the data of every object, ascending by slot, then empties the grid; old handles answer 12 from then on.
    Answers 3, 9 with the number of objects. */
 chavrupas_count chavrupas_boxes_clear(
     chavrupas_box_nums *nums, size_t nums_n, const chavrupas_aabb *reals, size_t reals_n, uint64_t *map, size_t map_n,
@@ -282,7 +284,7 @@ chavrupas_count chavrupas_boxes_clear(
     chavrupas_aabb *boxes, size_t boxes_n, uint32_t *objs, size_t objs_n);
 
 /* The box and the data of an object.
-   Answers 3, 5. */
+   Answers 3, 11, 12. */
 chavrupas_box_got chavrupas_boxes_get(
     const chavrupas_box_nums *nums, size_t nums_n, const chavrupas_aabb *reals, size_t reals_n, const uint64_t *map, size_t map_n,
     const chavrupas_pool_row *pool, size_t pool_n,

@@ -113,7 +113,7 @@ impl Boxes {
             return DOMAIN;
         }
         let object = match self.slots.get(h) {
-            None => return HANDLE,
+            None => return self.slots.why_not(h),
             Some(object) => object,
         };
         let (old, new) = (object.aabb.range(self.size), aabb.range(self.size));
@@ -131,7 +131,7 @@ impl Boxes {
 
     pub fn remove(&mut self, h: Handle) -> (u32, u32) {
         let object = match self.slots.get(h) {
-            None => return (HANDLE, 0),
+            None => return (self.slots.why_not(h), 0),
             Some(object) => object.clone(),
         };
         self.leave(h.slot, object.aabb.range(self.size));
@@ -141,7 +141,7 @@ impl Boxes {
 
     pub fn get(&self, h: Handle) -> (u32, Aabb, u32) {
         match self.slots.get(h) {
-            None => (HANDLE, Aabb::default(), 0),
+            None => (self.slots.why_not(h), Aabb::default(), 0),
             Some(object) => (DONE, object.aabb, object.data),
         }
     }

@@ -9,7 +9,7 @@ use crate::point_reading::Filled;
 use crate::port::{Count, Inserted, Reply};
 use crate::random::Rng;
 use crate::rules::*;
-use crate::slots::Handle;
+use crate::slots::{Handle, Issued};
 use crate::tables::{BoxTables, Out};
 use std::collections::HashMap;
 
@@ -22,6 +22,7 @@ pub struct BoxRound<'a> {
     old: OldBoxes,
     /// The data that each handle was given with, since the last `clear`.
     given: HashMap<(u32, u32), u32>,
+    issued: Issued,
     next: u32,
     pub log: &'a mut Log,
 }
@@ -41,9 +42,11 @@ impl<'a> BoxRound<'a> {
         log.hold(read_boxes(&tables).as_ref() == Ok(&reading), || format!("new gave {:?}", read_boxes(&tables)));
         let before = tables.clone();
         let old = OldBoxes::new(ground.size);
-        let mut round = BoxRound { rng, ground, tables, before, reading, old, given: HashMap::new(), next: 0, log };
+        let issued = Issued::of(&reading.slots);
+        let mut round = BoxRound { rng, ground, tables, before, reading, old, given: HashMap::new(), issued, next: 0, log };
         if round.rng.once_in(3) {
             age(&mut round.reading.slots, &mut round.tables.nums, &mut round.tables.map, &mut round.rng);
+            round.issued = Issued::of(&round.reading.slots);
             round.before.copy_from(&round.tables);
         }
         round
@@ -70,8 +73,10 @@ impl<'a> BoxRound<'a> {
         self.before.copy_from(&self.tables);
     }
 
-    /// A lost handle is lost to the original too.
-    fn lost(&mut self, h: Handle) {
+    /// A handle that is not good was refused by the number that its history says, and is lost to the original too.
+    fn lost(&mut self, h: Handle, answer: u32) {
+        let why = self.issued.why_not(h);
+        self.log.hold(answer == why, || format!("{h:?} got {answer}, by what was given out it is {why}"));
         if let Some(data) = self.given.get(&(h.slot, h.version)).copied() {
             let none = self.old.get(data).is_none() && self.old.remove(data).is_none();
             self.log.hold(none, || format!("{h:?} is lost, but the original has {data}"));
@@ -90,24 +95,27 @@ impl<'a> BoxRound<'a> {
             self.log.note("boxes of several cells", u64::from(aabb.range(self.ground.size).count() > 1));
             self.old.insert(aabb, data);
             self.given.insert((h.slot, h.version), data);
+            self.issued.give(h);
         }
         self.after(answer == DONE);
     }
 
     pub fn set_aabb(&mut self, h: Handle, aabb: Aabb) {
+        self.log.note(self.reading.slots.kind(h), 1);
         let answer = self.reading.set_aabb(h, aabb);
         let got = self.tables.call_set_aabb(h, aabb);
         self.log.call("boxes set_aabb", got);
         self.log.hold(got == answer, || format!("set_aabb({h:?}, {aabb:?}) gave {got}, 01 says {answer}"));
         match answer {
             DONE => self.old.set_aabb(self.reading.get(h).2, aabb),
-            HANDLE => self.lost(h),
+            NEVER_ISSUED | GONE => self.lost(h, got),
             _ => (),
         }
         self.after(answer == DONE);
     }
 
     pub fn remove(&mut self, h: Handle) {
+        self.log.note(self.reading.slots.kind(h), 1);
         let (answer, data) = self.reading.remove(h);
         let got = self.tables.call_remove(h);
         self.log.call("boxes remove", got.answer);
@@ -117,12 +125,13 @@ impl<'a> BoxRound<'a> {
             let old = self.old.remove(data);
             self.log.hold(old == Some(got.obj), || format!("remove({h:?}) gave {got:?}, the original {old:?}"));
         } else {
-            self.lost(h);
+            self.lost(h, got.answer);
         }
         self.after(answer == DONE);
     }
 
     pub fn get(&mut self, h: Handle) {
+        self.log.note(self.reading.slots.kind(h), 1);
         let (answer, aabb, data) = self.reading.get(h);
         let got = self.tables.call_get(h);
         self.log.call("boxes get", got.answer);
@@ -133,7 +142,7 @@ impl<'a> BoxRound<'a> {
             let old = self.old.get(data);
             self.log.hold(old == Some((given, got.obj)), || format!("get({h:?}) gave {got:?}, the original {old:?}"));
         } else {
-            self.lost(h);
+            self.lost(h, got.answer);
         }
         self.after(false);
     }

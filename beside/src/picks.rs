@@ -3,27 +3,52 @@ use crate::random::Rng;
 use crate::rules::LAST_VERSION;
 use crate::slots::{Handle, Slot, Slots};
 
-/// A good handle, if there is one.
-pub fn good<T>(slots: &Slots<T>, rng: &mut Rng) -> Option<Handle> {
+/// A slot that passes a test, if there is one.
+fn some_slot<T>(slots: &Slots<T>, rng: &mut Rng, passes: impl Fn(usize) -> bool) -> Option<usize> {
     let n = slots.slots.len();
     let start = rng.below(n as u64) as usize;
-    let slot = (start..n).chain(0..start).find(|s| slots.live(*s as u32).is_some())?;
-    Some(slots.handle(slot))
+    (start..n).chain(0..start).find(|s| passes(*s))
 }
 
-/// A handle of a call: good mostly, or lost, or never given.
+/// A good handle, if there is one.
+pub fn good<T>(slots: &Slots<T>, rng: &mut Rng) -> Option<Handle> {
+    some_slot(slots, rng, |s| slots.live(s as u32).is_some()).map(|s| slots.handle(s))
+}
+
+/// A handle of a call: good mostly, or of any kind that is refused.
 pub fn handle<T>(slots: &Slots<T>, rng: &mut Rng) -> Handle {
-    let n = slots.slots.len() as u64;
-    let slot = rng.below(n) as u32;
-    let version = slots.versions[slot as usize];
-    match rng.below(24) {
-        0 => Handle { slot, version: version.wrapping_sub(1) },
-        1 => Handle { slot, version: version.wrapping_add(1) },
-        2 => Handle { slot: slot + n as u32, version },
-        3 => Handle { slot: rng.bits(), version: rng.bits() },
-        4 => Handle { slot, version: 0 },
-        5 => Handle { slot, version },
-        _ => good(slots, rng).unwrap_or(Handle { slot, version }),
+    match good(slots, rng) {
+        Some(h) if !rng.once_in(4) => h,
+        _ => lost(slots, rng),
+    }
+}
+
+/// A handle that is mostly not good: of a slot in each state, half the time one that was used before, with a version before its own, after it, its own or 0;
+/// of a slot past the table, the last number too; any.
+fn lost<T>(slots: &Slots<T>, rng: &mut Rng) -> Handle {
+    let n = slots.slots.len() as u32;
+    let (state, used) = (rng.below(4), rng.once_in(2));
+    let wanted = |s: usize| match slots.slots[s] {
+        _ if used && slots.versions[s] == 1 => false,
+        Slot::Free => state == 0 || state == 3,
+        Slot::Live(_) => state == 1 || state == 3,
+        Slot::Retired => state == 2 || state == 3,
+    };
+    let slot = some_slot(slots, rng, wanted).unwrap_or(rng.below(n.into()) as usize) as u32;
+    let current = slots.versions[slot as usize];
+    let version = match rng.below(8) {
+        0 => current.wrapping_sub(1),
+        1 | 2 => 1 + rng.below(current.into()) as u32,
+        3 => current.wrapping_add(1),
+        4 => current | rng.bits(),
+        5 => 0,
+        _ => current,
+    };
+    match rng.below(12) {
+        0 => Handle { slot: n + slot, version },
+        1 => Handle { slot: u32::MAX, version },
+        2 => Handle { slot: rng.bits(), version: rng.bits() },
+        _ => Handle { slot, version },
     }
 }
 

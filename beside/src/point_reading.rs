@@ -90,10 +90,10 @@ impl Points {
     }
 
     pub fn set_position(&mut self, h: Handle, at: Spot) -> u32 {
-        let size = self.size;
+        let (size, why) = (self.size, self.slots.why_not(h));
         let object = self.slots.get_mut(h);
         let marked = object.as_ref().map_or(false, |o| o.state == State::Removed);
-        let answer = first(&[(!at.in_domain(), DOMAIN), (object.is_none(), HANDLE), (marked, MARKED)]);
+        let answer = first(&[(!at.in_domain(), DOMAIN), (object.is_none(), why), (marked, MARKED)]);
         if answer == DONE {
             let object = object.unwrap();
             let target = at.cell(size);
@@ -103,8 +103,9 @@ impl Points {
     }
 
     pub fn remove(&mut self, h: Handle) -> (u32, u32) {
+        let why = self.slots.why_not(h);
         match self.slots.get_mut(h) {
-            None => (HANDLE, 0),
+            None => (why, 0),
             Some(object) => {
                 object.state = State::Removed;
                 (DONE, object.data)
@@ -132,7 +133,7 @@ impl Points {
 
     pub fn remove_maintain(&mut self, h: Handle) -> (u32, u32) {
         let object = match self.slots.get(h) {
-            None => return (HANDLE, 0),
+            None => return (self.slots.why_not(h), 0),
             Some(object) => object.clone(),
         };
         let list = self.lists.get_mut(&object.cell).unwrap();
@@ -187,7 +188,7 @@ impl Points {
 
     pub fn get(&self, h: Handle) -> (u32, Spot, u32) {
         match self.slots.get(h) {
-            None => (HANDLE, Spot::default(), 0),
+            None => (self.slots.why_not(h), Spot::default(), 0),
             Some(object) => (DONE, object.at, object.data),
         }
     }

@@ -8,7 +8,7 @@ use crate::point_reading::{nearest_words, Deferred, Filled, Finding, Points};
 use crate::port::{BatchLists, BatchReply, Corners, Count, Inserted, Maintained, Reply};
 use crate::random::Rng;
 use crate::rules::*;
-use crate::slots::Handle;
+use crate::slots::{Handle, Issued};
 use crate::tables::{Out, Outs, PointTables};
 use std::collections::HashMap;
 
@@ -21,6 +21,7 @@ pub struct PointRound<'a> {
     old: OldPoints,
     /// The data that each handle was given with, since the last `clear`.
     given: HashMap<(u32, u32), u32>,
+    issued: Issued,
     /// The handle that the port gave with each data number, since the last `clear`.
     handles: HashMap<u32, Handle>,
     next: u32,
@@ -42,10 +43,11 @@ impl<'a> PointRound<'a> {
         log.hold(read_points(&tables).as_ref() == Ok(&reading), || format!("new gave {:?}", read_points(&tables)));
         let before = tables.clone();
         let old = OldPoints::new(ground.size);
-        let (given, handles) = (HashMap::new(), HashMap::new());
-        let mut round = PointRound { rng, ground, tables, before, reading, old, given, handles, next: 0, log };
+        let (given, handles, issued) = (HashMap::new(), HashMap::new(), Issued::of(&reading.slots));
+        let mut round = PointRound { rng, ground, tables, before, reading, old, given, issued, handles, next: 0, log };
         if round.rng.once_in(3) {
             age(&mut round.reading.slots, &mut round.tables.nums, &mut round.tables.map, &mut round.rng);
+            round.issued = Issued::of(&round.reading.slots);
             round.before.copy_from(&round.tables);
         }
         round
@@ -73,8 +75,10 @@ impl<'a> PointRound<'a> {
         self.before.copy_from(&self.tables);
     }
 
-    /// A lost handle is lost to the original too.
-    fn lost(&mut self, h: Handle) {
+    /// A handle that is not good was refused by the number that its history says, and is lost to the original too.
+    fn lost(&mut self, h: Handle, answer: u32) {
+        let why = self.issued.why_not(h);
+        self.log.hold(answer == why, || format!("{h:?} got {answer}, by what was given out it is {why}"));
         if let Some(data) = self.given.get(&(h.slot, h.version)).copied() {
             let none = self.old.get(data).is_none() && self.old.remove(data).is_none() && self.old.remove_maintain(data).is_none();
             self.log.hold(none, || format!("{h:?} is lost, but the original has {data}"));
@@ -92,12 +96,14 @@ impl<'a> PointRound<'a> {
             self.log.note("slots used again", u64::from(h.version > 1));
             self.old.insert(at, data);
             self.given.insert((h.slot, h.version), data);
+            self.issued.give(h);
             self.handles.insert(data, Handle { slot: got.slot, version: got.version });
         }
         self.after(answer == DONE, false);
     }
 
     pub fn set_position(&mut self, h: Handle, at: Spot) {
+        self.log.note(self.reading.slots.kind(h), 1);
         let answer = self.reading.set_position(h, at);
         let got = self.tables.call_set_position(h, at);
         self.log.call("points set_position", got);
@@ -105,13 +111,14 @@ impl<'a> PointRound<'a> {
         match answer {
             // On a marked object the Rust's call does nothing.
             DONE | MARKED => self.old.set_position(self.reading.get(h).2, at),
-            HANDLE => self.lost(h),
+            NEVER_ISSUED | GONE => self.lost(h, got),
             _ => (),
         }
         self.after(answer == DONE, false);
     }
 
     pub fn remove(&mut self, h: Handle, now: bool) {
+        self.log.note(self.reading.slots.kind(h), 1);
         let (answer, data) = if now { self.reading.remove_maintain(h) } else { self.reading.remove(h) };
         let got = if now { self.tables.call_remove_maintain(h) } else { self.tables.call_remove(h) };
         self.log.call(if now { "points remove_maintain" } else { "points remove" }, got.answer);
@@ -121,7 +128,7 @@ impl<'a> PointRound<'a> {
             let old = if now { self.old.remove_maintain(data) } else { self.old.remove(data) };
             self.log.hold(old == Some(got.obj), || format!("remove({h:?}) gave {got:?}, the original {old:?}"));
         } else {
-            self.lost(h);
+            self.lost(h, got.answer);
         }
         self.after(answer == DONE, false);
     }
@@ -142,11 +149,14 @@ impl<'a> PointRound<'a> {
         self.log.hold(filled, || format!("batch filled its output otherwise than 01 says: {calls:?}"));
         for (call, [answer, data]) in calls.iter().zip(&wanted.out) {
             self.log.note("deferred calls inside batches", 1);
+            self.log.note(self.reading.slots.kind(call.handle), 1);
             if *answer == DONE && call.kind == 0 {
                 self.old.set_position(self.reading.get(call.handle).2, call.at);
             } else if *answer == DONE {
                 let old = self.old.remove(*data);
                 self.log.hold(old == Some(*data), || format!("remove in a batch: the original gave {old:?}"));
+            } else if *answer == NEVER_ISSUED || *answer == GONE {
+                self.lost(call.handle, *answer);
             }
         }
         self.after(wanted.answer == DONE, calls.len() > 64);
@@ -168,6 +178,7 @@ impl<'a> PointRound<'a> {
     }
 
     pub fn get(&mut self, h: Handle) {
+        self.log.note(self.reading.slots.kind(h), 1);
         let (answer, at, data) = self.reading.get(h);
         let got = self.tables.call_get(h);
         self.log.call("points get", got.answer);
@@ -177,7 +188,7 @@ impl<'a> PointRound<'a> {
             let old = self.old.get(data);
             self.log.hold(old == Some((Spot::new(got.x, got.y), got.obj)), || format!("get({h:?}) gave {got:?}, the original {old:?}"));
         } else {
-            self.lost(h);
+            self.lost(h, got.answer);
         }
         self.after(false, false);
     }

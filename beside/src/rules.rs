@@ -1,4 +1,4 @@
-//! Document 01 read anew: the domain, the cell rule and ranges of cells.
+//! Document 01 read anew: the answers, with those of Req 03, the domain, the cell rule and ranges of cells.
 
 /// The greatest magnitude of a coordinate, the greatest radius and the greatest cell size.
 pub const EDGE: f32 = 1_048_576.0;
@@ -10,11 +10,12 @@ pub const MARKED: u32 = 1;
 pub const SIZE: u32 = 2;
 pub const TABLES: u32 = 3;
 pub const FULL: u32 = 4;
-pub const HANDLE: u32 = 5;
 pub const DOMAIN: u32 = 6;
 pub const CELLS: u32 = 7;
 pub const POOL: u32 = 8;
 pub const OUTPUT: u32 = 9;
+pub const NEVER_ISSUED: u32 = 11;
+pub const GONE: u32 = 12;
 
 /// Two binary32 numbers, equal when their bits are.
 #[derive(Clone, Copy, Debug, Default)]

@@ -3,7 +3,7 @@
 use crate::box_reading::Aabb;
 use crate::original::{OldBoxes, OldPoints};
 use crate::random::Rng;
-use crate::rules::Spot;
+use crate::rules::{Spot, DONE, GONE, MARKED};
 use std::collections::{BTreeSet, HashMap};
 use std::fs::File;
 use std::io::{BufWriter, Result, Write};
@@ -96,17 +96,17 @@ impl Sample {
         (*data, slot)
     }
 
-    /// The original says nothing: a lost handle is 5, a marked object 1.
+    /// The original says nothing: a lost handle is gone, 12, for each of them was given out; a marked object is 1.
     fn position(&mut self) -> Result<()> {
         let ((data, slot), [x, y]) = (self.some_point(), self.pair());
         self.points.set_position(data, spot([x, y]));
         let answer = if self.points.get(data).is_none() {
-            5
+            GONE
         } else if self.marked.contains(&data) {
-            1
+            MARKED
         } else {
             self.moved.insert(data);
-            0
+            DONE
         };
         self.line(format!("pos,{slot},1,{x},{y}"), answer.to_string())
     }
@@ -120,7 +120,7 @@ impl Sample {
             _ => drop(self.marked.remove(&data)),
         }
         let name = if now { "now" } else { "rem" };
-        self.line(format!("{name},{slot},1"), given.map_or("5".to_string(), |data| format!("0,{data}")))
+        self.line(format!("{name},{slot},1"), given.map_or(GONE.to_string(), |data| format!("0,{data}")))
     }
 
     /// The counts: the objects that had either new-position state, and how many fewer the original has.
@@ -182,7 +182,7 @@ impl Sample {
 
     fn box_remove(&mut self) -> Result<()> {
         let (data, slot) = self.some_box();
-        let answer = self.boxes.remove(data).map_or("5".to_string(), |data| format!("0,{data}"));
+        let answer = self.boxes.remove(data).map_or(GONE.to_string(), |data| format!("0,{data}"));
         self.line(format!("brem,{slot},1"), answer)
     }
 

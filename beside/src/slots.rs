@@ -1,5 +1,6 @@
-//! Document 01 read anew: slots, versions and handles of both grids.
-use crate::rules::LAST_VERSION;
+//! Document 01 read anew: slots, versions and handles of both grids; and Req 03: why a handle is not good.
+use crate::rules::{GONE, LAST_VERSION, NEVER_ISSUED};
+use std::collections::HashSet;
 
 #[derive(Clone, Copy, Debug, PartialEq, Eq)]
 pub struct Handle {
@@ -53,6 +54,37 @@ impl<T> Slots<T> {
         }
     }
 
+    /// Why a handle that is not good is refused. Gone: the slot exists and the version is at least 1 and below the slot's current one, or the slot is
+    /// retired and the version is its last. Never issued: every other.
+    pub fn why_not(&self, h: Handle) -> u32 {
+        let slot = h.slot as usize;
+        match self.slots.get(slot) {
+            Some(_) if (1..self.versions[slot]).contains(&h.version) => GONE,
+            Some(Slot::Retired) if h.version == LAST_VERSION => GONE,
+            _ => NEVER_ISSUED,
+        }
+    }
+
+    /// What kind of handle it is, for the counts of a run.
+    pub fn kind(&self, h: Handle) -> &'static str {
+        let slot = h.slot as usize;
+        let (state, current) = match self.slots.get(slot) {
+            None if h.slot == u32::MAX => return "handles: slot 4294967295",
+            None => return "handles: slot past the table",
+            Some(state) => (state, self.versions[slot]),
+        };
+        match (state, h.version) {
+            (_, 0) => "handles: version 0",
+            (_, version) if version > current => "handles: version above the slot's",
+            (Slot::Live(_), version) if version == current => "handles: good",
+            (Slot::Free, version) if version == current => "handles: free slot at its own version",
+            (Slot::Retired, version) if version == current => "handles: retired slot at its last version",
+            (Slot::Live(_), _) => "handles: older version of an occupied slot",
+            (Slot::Free, _) => "handles: older version of a free slot",
+            (Slot::Retired, _) => "handles: older version of a retired slot",
+        }
+    }
+
     pub fn live(&self, slot: u32) -> Option<&T> {
         match self.slots.get(slot as usize) {
             Some(Slot::Live(object)) => Some(object),
@@ -100,5 +132,34 @@ impl<T> Slots<T> {
             Slot::Live(object) => Some((self.handle(s), object)),
             _ => None,
         })
+    }
+}
+
+/// The handles that a grid has given out since it was built: 11 and 12 read a second time, by what happened and not by the versions of now.
+pub struct Issued {
+    given: HashSet<(u32, u32)>,
+    /// Of each slot the last version that counts as given out before: none in a new grid, some where slots were aged.
+    before: Vec<u32>,
+}
+
+impl Issued {
+    /// Of a grid that has no objects yet.
+    pub fn of<T>(slots: &Slots<T>) -> Self {
+        let before = slots.versions.iter().zip(&slots.slots).map(|(v, slot)| if let Slot::Retired = slot { *v } else { *v - 1 });
+        Issued { given: HashSet::new(), before: before.collect() }
+    }
+
+    pub fn give(&mut self, h: Handle) {
+        self.given.insert((h.slot, h.version));
+    }
+
+    /// Why a handle that is not good is refused: it was given out, or it never was.
+    pub fn why_not(&self, h: Handle) -> u32 {
+        let aged = self.before.get(h.slot as usize).map_or(false, |last| (1..=*last).contains(&h.version));
+        if aged || self.given.contains(&(h.slot, h.version)) {
+            GONE
+        } else {
+            NEVER_ISSUED
+        }
     }
 }

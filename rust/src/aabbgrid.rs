@@ -17,7 +17,7 @@ use crate::{map_words, rows, Aabb, Handle, Refusal};
 /// grid.set_aabb(b, Aabb::new([50.0, 50.0], [60.0, 60.0]))?;
 /// assert_eq!(grid.query_broad(Aabb::new([0.0, 0.0], [1.0, 1.0]))?, [a]);
 /// assert_eq!(grid.remove(a)?, 1);
-/// assert_eq!(grid.remove(a), Err(Refusal::BadHandle));
+/// assert_eq!(grid.remove(a), Err(Refusal::Gone));
 /// # Ok::<(), Refusal>(())
 /// ```
 #[derive(Clone)]
@@ -106,7 +106,8 @@ impl AabbGrid {
         call!(chavrupas_boxes_remove, self, as_mut_ptr, h.slot, h.version).result()
     }
 
-    /// Empties the grid. Gives the box and the data of each object, ascending by slot. No handle given out before is good after it.
+    /// Empties the grid. Gives the box and the data of each object, ascending by slot. Each handle given out before is
+    /// [`Refusal::Gone`] after it.
     pub fn clear(&mut self) -> impl ExactSizeIterator<Item = (Aabb, u32)> + '_ {
         let r = call!(chavrupas_boxes_clear, self, as_mut_ptr, self.boxes.as_mut_ptr(), self.boxes.len(), self.objs.as_mut_ptr(), self.objs.len());
         let n = done(r.answer, r.count as usize);

@@ -7,7 +7,7 @@ use crate::{map_words, rows, Handle, Refusal};
 /// A grid of points: flat_spatial's `Grid`, with the data a `u32`.
 ///
 /// ```
-/// use chavrupas::{Grid, Refusal};
+/// use chavrupas::{Grid, Handle, Refusal};
 ///
 /// let mut grid = Grid::new(10, 2)?;
 /// let a = grid.insert([5.0, 3.0], 7)?;
@@ -16,7 +16,8 @@ use crate::{map_words, rows, Handle, Refusal};
 /// assert_eq!(grid.remove(a)?, 7); // marked
 /// assert_eq!(grid.set_position(a, [0.0, 0.0]), Err(Refusal::Removed));
 /// assert_eq!(grid.maintain().removed, 1); // taken out
-/// assert_eq!(grid.get(a), Err(Refusal::BadHandle));
+/// assert_eq!(grid.get(a), Err(Refusal::Gone));
+/// assert_eq!(grid.get(Handle { slot: 1, version: 1 }), Err(Refusal::NeverIssued));
 /// # Ok::<(), Refusal>(())
 /// ```
 #[derive(Clone)]
@@ -66,7 +67,7 @@ pub struct Reply {
 }
 
 impl Reply {
-    /// As the call by itself would give it: the data of a removed object, 0 for a move.
+    /// As the call by itself would give it: the data of a removed object, 0 for a move. Panics on a number that no call answers.
     pub fn result(self) -> Result<u32, Refusal> {
         answered(self.answer, self.obj)
     }
@@ -179,7 +180,8 @@ impl Grid {
         done(r.answer, Maintained { moved: r.moved as usize, removed: r.removed as usize })
     }
 
-    /// Empties the grid. Gives the recorded position and the data of each object, ascending by slot. No handle given out before is good after it.
+    /// Empties the grid. Gives the recorded position and the data of each object, ascending by slot. Each handle given out before is
+    /// [`Refusal::Gone`] after it.
     pub fn clear(&mut self) -> impl ExactSizeIterator<Item = ([f32; 2], u32)> + '_ {
         let r = call!(chavrupas_points_clear, self, as_mut_ptr, self.places.as_mut_ptr(), self.places.len(), self.objs.as_mut_ptr(), self.objs.len());
         let n = done(r.answer, r.count as usize);

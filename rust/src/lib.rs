@@ -39,7 +39,8 @@ pub use aabbgrid::{AabbGrid, FoundBox};
 pub use grid::{Found, Grid, Kind, Maintained, Reply};
 pub use refusal::Refusal;
 
-/// An object: a slot, and the slot's version while the object is in it. A handle that was never given out is refused as any other that is not good.
+/// An object: a slot, and the slot's version while the object is in it. It is good until the object is taken out, and [`Refusal::Gone`] from then on; one
+/// that was never given out is [`Refusal::NeverIssued`].
 #[derive(Clone, Copy, Debug, Default, PartialEq, Eq, PartialOrd, Ord, Hash)]
 #[repr(C)]
 pub struct Handle {

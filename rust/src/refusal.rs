@@ -1,6 +1,6 @@
 use std::fmt;
 
-/// Why a call was refused: the answer numbers 1 to 9. A refused call has changed nothing.
+/// Why a call was refused, by answer number; 5 is no longer given, and 10 is the trace program's alone. A refused call has changed nothing.
 #[derive(Clone, Copy, Debug, PartialEq, Eq, Hash)]
 #[repr(u32)]
 pub enum Refusal {
@@ -12,8 +12,6 @@ pub enum Refusal {
     Tables = 3,
     /// 4: every slot is occupied or retired.
     NoUsableSlot = 4,
-    /// 5: no object has this handle, or none has it any more.
-    BadHandle = 5,
     /// 6: a coordinate or radius that is NaN or too large, a negative radius, a reversed box.
     OutsideDomain = 6,
     /// 7: more than 4,096 cells.
@@ -22,18 +20,22 @@ pub enum Refusal {
     PoolFull = 8,
     /// 9: fewer places for the replies than calls (in `batch`).
     OutputTooShort = 9,
+    /// 11: a handle that no object has had: there is no such slot, or no object was in it at this version.
+    NeverIssued = 11,
+    /// 12: a handle whose object was taken out.
+    Gone = 12,
 }
 
 impl Refusal {
-    /// The answer number, from 1 to 9.
+    /// The answer number.
     pub fn number(self) -> u32 {
         self as u32
     }
 
-    /// What an answer number says: nothing for 0, which is "done", and for numbers that are no answers.
+    /// What an answer number says: nothing for 0, which is "done", and for numbers that no call answers, as 5 and 10.
     pub fn of(answer: u32) -> Option<Refusal> {
         use Refusal::*;
-        let all = [Removed, CellSize, Tables, NoUsableSlot, BadHandle, OutsideDomain, TooManyCells, PoolFull, OutputTooShort];
+        let all = [Removed, CellSize, Tables, NoUsableSlot, OutsideDomain, TooManyCells, PoolFull, OutputTooShort, NeverIssued, Gone];
         all.into_iter().find(|r| r.number() == answer)
     }
 }
@@ -45,23 +47,24 @@ impl fmt::Display for Refusal {
             Refusal::CellSize => "cell size outside its limits",
             Refusal::Tables => "tables of wrong length or not holding a grid",
             Refusal::NoUsableSlot => "no usable slot",
-            Refusal::BadHandle => "handle not good",
             Refusal::OutsideDomain => "coordinate or radius outside the domain, box reversed",
             Refusal::TooManyCells => "range or box over 4,096 cells",
             Refusal::PoolFull => "entries in use, less the box's old ones, plus its new ones, exceed the pool",
             Refusal::OutputTooShort => "output shorter than the findings",
+            Refusal::NeverIssued => "handle never issued",
+            Refusal::Gone => "handle of an object that is gone",
         })
     }
 }
 
 impl std::error::Error for Refusal {}
 
-/// What a call gives, if it answers 0.
+/// What a call gives, if it answers 0. Another number that is no refusal must not pass for 0: a library from before 11 and 12 answers 5.
 pub(crate) fn answered<T>(answer: u32, given: T) -> Result<T, Refusal> {
-    match Refusal::of(answer) {
-        Some(refusal) => Err(refusal),
-        None => Ok(given),
+    if answer == 0 {
+        return Ok(given);
     }
+    Err(Refusal::of(answer).unwrap_or_else(|| panic!("{answer} is no answer of the library that this crate is for")))
 }
 
 /// For calls that nothing can refuse on tables that only these calls have changed.

@@ -53,8 +53,8 @@ fn points() {
     }
     let none = [Handle::default(), Handle { slot: 0, version: 2 }, Handle { slot: 2, version: 1 }, Handle { slot: u32::MAX, version: u32::MAX }];
     for h in none {
-        assert_eq!(g.set_position(h, [0.0; 2]), Err(BadHandle));
-        assert_eq!((g.remove(h), g.remove_maintain(h), g.get(h).err()), (Err(BadHandle), Err(BadHandle), Some(BadHandle)));
+        assert_eq!(g.set_position(h, [0.0; 2]), Err(NeverIssued));
+        assert_eq!((g.remove(h), g.remove_maintain(h), g.get(h).err()), (Err(NeverIssued), Err(NeverIssued), Some(NeverIssued)));
     }
     let found: Vec<_> = g.query([0.0; 2], [63.0; 2]).unwrap().collect();
     assert_eq!(found, [Found { handle: a, position: [3.0, 4.0], obj: 1 }]);
@@ -201,19 +201,182 @@ fn boxes() {
             assert_eq!((g.query(b).err(), g.query_broad(b).err()), (Some(why), Some(why)));
         }
     }
-    assert_eq!(g.set_aabb(Handle { slot: 0, version: 2 }, unit), Err(BadHandle));
+    assert_eq!(g.set_aabb(Handle { slot: 0, version: 2 }, unit), Err(NeverIssued));
     assert_eq!((g.get(a), g.len()), (Ok((unit, 1)), 1));
     g.insert(unit, 2).unwrap();
     assert_eq!(g.insert(unit, 3), Err(NoUsableSlot));
     assert_eq!(g.clear().collect::<Vec<_>>(), [(unit, 1), (unit, 2)]);
-    assert_eq!(g.get(a), Err(BadHandle));
+    assert_eq!(g.get(a), Err(Gone));
+}
+
+/// Handles that are not good where, of three slots, 0 is occupied at version 2, 1 is free at version 2, and 2 was never used.
+fn lost() -> impl Iterator<Item = (Handle, Refusal)> {
+    let past = [(3, 1), (3, 0), (64, 1), (u32::MAX, 1), (u32::MAX, u32::MAX)];
+    let never = [(0, 0), (1, 0), (2, 0), (0, 3), (0, u32::MAX), (1, 3), (2, 2), (1, 2), (2, 1)];
+    let gone = [(0, 1), (1, 1)];
+    let never = past.into_iter().chain(never).map(|h| (h, NeverIssued));
+    never.chain(gone.map(|h| (h, Gone))).map(|((slot, version), why)| (Handle { slot, version }, why))
+}
+
+#[test]
+fn lost_points() {
+    let mut g = Grid::new(10, 3).unwrap();
+    let (a, b) = (g.insert([0.0; 2], 1).unwrap(), g.insert([5.0; 2], 2).unwrap());
+    assert_eq!((g.remove(a), g.maintain().removed, g.remove_maintain(b)), (Ok(1), 1, Ok(2)));
+    let again = g.insert([7.0; 2], 3).unwrap();
+    assert_eq!(again, Handle { slot: 0, version: 2 });
+    let before = told(&mut g);
+    for (h, why) in lost() {
+        assert_eq!((g.get(h), g.remove(h), g.remove_maintain(h)), (Err(why), Err(why), Err(why)));
+        // a bad position is told before the handle
+        assert_eq!((g.set_position(h, [0.0; 2]), g.set_position(h, [0.0, NAN])), (Err(why), Err(OutsideDomain)));
+        let (kinds, at) = ([Kind::SetPosition, Kind::Remove, Kind::SetPosition], [[0.0; 2], [NAN; 2], [NAN; 2]]);
+        let mut out = [Reply { answer: 77, obj: 77 }; 3];
+        assert_eq!(g.batch(&kinds, &[h; 3], &at, &mut out), Ok(3));
+        assert_eq!(out.map(|r| [r.answer, r.obj]), [[why.number(), 0], [why.number(), 0], [6, 0]]);
+    }
+    assert_eq!(told(&mut g), before);
+    assert_eq!(g.clear().count(), 1);
+    assert_eq!((g.get(again), g.get(a), g.get(b)), (Err(Gone), Err(Gone), Err(Gone)));
+    assert_eq!(g.get(Handle { slot: 0, version: 3 }), Err(NeverIssued)); // what the next insert gives
+}
+
+#[test]
+fn lost_boxes() {
+    let mut g = AabbGrid::new(1, 3, 8).unwrap();
+    let unit = Aabb::new([0.0; 2], [0.5; 2]);
+    let (a, b) = (g.insert(unit, 1).unwrap(), g.insert(unit, 2).unwrap());
+    assert_eq!((g.remove(a), g.remove(b)), (Ok(1), Ok(2)));
+    let again = g.insert(unit, 3).unwrap();
+    assert_eq!(again, Handle { slot: 0, version: 2 });
+    for (h, why) in lost() {
+        assert_eq!((g.get(h), g.remove(h), g.set_aabb(h, unit)), (Err(why), Err(why), Err(why)));
+        // a bad box is told before the handle; one of too many cells, or that the pool has no room for, is not
+        for bad in [Aabb::new([1.0, 0.0], [0.0; 2]), Aabb::new([0.0; 2], [NAN; 2])] {
+            assert_eq!(g.set_aabb(h, bad), Err(OutsideDomain));
+        }
+        for large in [Aabb::new([0.0; 2], [64.0, 63.0]), Aabb::new([0.0; 2], [8.0; 2])] {
+            assert_eq!(g.set_aabb(h, large), Err(why));
+        }
+    }
+    assert_eq!((g.get(again), g.len()), (Ok((unit, 3)), 1));
+    assert_eq!(g.clear().count(), 1);
+    assert_eq!((g.get(again), g.get(a), g.get(b)), (Err(Gone), Err(Gone), Err(Gone)));
+    assert_eq!(g.get(Handle { slot: 0, version: 3 }), Err(NeverIssued)); // what the next insert gives
+}
+
+/// What each call that takes a handle gives for it: `get`, `set_position`, both removals, and a batch of the deferred ones.
+fn asked(t: &mut Lent, slot: u32, version: u32) -> [[u32; 4]; 6] {
+    let words = |r: Reply| [r.answer, r.obj, 0, 0];
+    let got = call!(chavrupas_points_get, t, slot, version);
+    let moved = call!(chavrupas_points_set_position, t, slot, version, 0.0, 0.0);
+    let marked = call!(chavrupas_points_remove, t, slot, version);
+    let taken = call!(chavrupas_points_remove_maintain, t, slot, version);
+    let (kinds, handles, at) = ([0, 1], [Handle { slot, version }; 2], [[0.0; 2]; 2]);
+    let mut out = [Reply { answer: 77, obj: 77 }; 2];
+    let batch = call!(chavrupas_points_batch, t, kinds.as_ptr(), 2, handles.as_ptr(), 2, at.as_ptr(), 2, out.as_mut_ptr(), 2);
+    assert_eq!((batch.answer, batch.count), (0, 2));
+    let got = [got.answer, got.x.to_bits(), got.y.to_bits(), got.obj];
+    [got, [moved, 0, 0, 0], words(marked), words(taken), words(out[0]), words(out[1])]
+}
+
+/// A point in slot 0 at the last version, which no history of this length reaches: the version is written to the table.
+fn last_point() -> Lent {
+    let mut t = Lent::default();
+    assert_eq!(call!(chavrupas_points_new, t, 10), 0);
+    assert_eq!(call!(chavrupas_points_insert, t, 1.0, 2.0, 5).answer, 0);
+    t.nums[0][0] = u32::MAX;
+    assert_eq!(call!(chavrupas_points_get, t, 0, u32::MAX).obj, 5);
+    assert_eq!(asked(&mut t, 0, u32::MAX - 1), [[12, 0, 0, 0]; 6]);
+    t
+}
+
+#[test]
+fn retired_points() {
+    for way in 0..3 {
+        let mut t = last_point();
+        let (mut at, mut objs) = ([[0.0; 2]; 1], [0; 1]);
+        match way {
+            0 => assert_eq!(call!(chavrupas_points_remove_maintain, t, 0, u32::MAX).obj, 5),
+            1 => assert_eq!(call!(chavrupas_points_clear, t, at.as_mut_ptr(), 1, objs.as_mut_ptr(), 1).count, 1),
+            _ => {
+                assert_eq!(call!(chavrupas_points_remove, t, 0, u32::MAX).obj, 5);
+                assert_eq!(call!(chavrupas_points_maintain, t).removed, 1);
+            }
+        }
+        for (version, answer) in [(u32::MAX, 12), (u32::MAX - 1, 12), (1, 12), (0, 11)] {
+            assert_eq!(asked(&mut t, 0, version), [[answer, 0, 0, 0]; 6]);
+            assert_eq!(call!(chavrupas_points_set_position, t, 0, version, NAN, 0.0), 6);
+        }
+        // the slot serves no more
+        let next = call!(chavrupas_points_insert, t, 1.0, 2.0, 6);
+        assert_eq!((next.answer, next.slot, next.version), (0, 1, 1));
+    }
+}
+
+/// The tables of a box grid of two slots and two entries, lent as C lends them.
+#[derive(Default)]
+struct LentBoxes {
+    nums: [[u32; 4]; 2],
+    reals: [Aabb; 2],
+    map: [u64; 4],
+    pool: [[u64; 2]; 2],
+}
+
+macro_rules! call_boxes {
+    ($export:ident, $t:expr $(, $arg:expr)*) => {
+        unsafe {
+            ffi::$export(
+                $t.nums.as_mut_ptr(), 2, $t.reals.as_mut_ptr(), 2, $t.map.as_mut_ptr(), 4, $t.pool.as_mut_ptr(), 2 $(, $arg)*
+            )
+        }
+    };
+}
+
+/// What each call of the box grid that takes a handle gives for it, boxes by bits.
+fn asked_boxes(t: &mut LentBoxes, slot: u32, version: u32) -> [[u32; 6]; 3] {
+    let got = call_boxes!(chavrupas_boxes_get, t, slot, version);
+    let set = call_boxes!(chavrupas_boxes_set_aabb, t, slot, version, 0.0, 0.0, 1.0, 1.0);
+    let taken = call_boxes!(chavrupas_boxes_remove, t, slot, version);
+    let [l, b, r, u] = [got.aabb.ll[0], got.aabb.ll[1], got.aabb.ur[0], got.aabb.ur[1]].map(f32::to_bits);
+    [[got.answer, l, b, r, u, got.obj], [set, 0, 0, 0, 0, 0], [taken.answer, taken.obj, 0, 0, 0, 0]]
+}
+
+#[test]
+fn retired_boxes() {
+    for clears in [false, true] {
+        let mut t = LentBoxes::default();
+        assert_eq!(call_boxes!(chavrupas_boxes_new, t, 10), 0);
+        assert_eq!(call_boxes!(chavrupas_boxes_insert, t, 1.0, 2.0, 3.0, 4.0, 5).answer, 0);
+        t.nums[0][0] = u32::MAX;
+        assert_eq!(call_boxes!(chavrupas_boxes_get, t, 0, u32::MAX).obj, 5);
+        assert_eq!(asked_boxes(&mut t, 0, u32::MAX - 1), [[12, 0, 0, 0, 0, 0]; 3]);
+        let (mut boxes, mut objs) = ([Aabb::default(); 1], [0; 1]);
+        if clears {
+            assert_eq!(call_boxes!(chavrupas_boxes_clear, t, boxes.as_mut_ptr(), 1, objs.as_mut_ptr(), 1).count, 1);
+        } else {
+            assert_eq!(call_boxes!(chavrupas_boxes_remove, t, 0, u32::MAX).obj, 5);
+        }
+        for (version, answer) in [(u32::MAX, 12), (u32::MAX - 1, 12), (1, 12), (0, 11)] {
+            assert_eq!(asked_boxes(&mut t, 0, version), [[answer, 0, 0, 0, 0, 0]; 3]);
+            assert_eq!(call_boxes!(chavrupas_boxes_set_aabb, t, 0, version, 1.0, 0.0, 0.0, 0.0), 6);
+        }
+        // the slot serves no more
+        let next = call_boxes!(chavrupas_boxes_insert, t, 1.0, 2.0, 3.0, 4.0, 6);
+        assert_eq!((next.answer, next.slot, next.version), (0, 1, 1));
+    }
 }
 
 #[test]
 fn numbers() {
-    for n in 1..=9 {
-        assert_eq!(Refusal::of(n).unwrap().number(), n);
-    }
-    assert_eq!((Refusal::of(0), Refusal::of(10)), (None, None));
-    assert_eq!(BadHandle.to_string(), "handle not good");
+    let all: Vec<u32> = (0..100).filter(|n| Refusal::of(*n).is_some()).collect();
+    assert_eq!(all, [1, 2, 3, 4, 6, 7, 8, 9, 11, 12]);
+    assert!(all.iter().all(|n| Refusal::of(*n).unwrap().number() == *n));
+    assert_eq!((NeverIssued.to_string(), Gone.to_string()), ("handle never issued".to_string(), "handle of an object that is gone".to_string()));
+}
+
+#[test]
+#[should_panic(expected = "5 is no answer")]
+fn five() {
+    let _ = Reply { answer: 5, obj: 0 }.result();
 }

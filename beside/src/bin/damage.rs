@@ -82,6 +82,10 @@ fn try_points(t: &PointTables, calls: &[PointCall], log: &mut Log) {
     log.note(held.as_ref().err().unwrap_or(&"tables that hold a grid"), 1);
     let mut after = t.clone();
     for call in calls {
+        // The other calls are given the same handle.
+        if let (PointCall::Get(h), Ok(grid)) = (call, &held) {
+            log.note(grid.slots.kind(*h), 1);
+        }
         let got = call.of_port(&mut after);
         let (wanted, grid) = call.wanted(t, &held);
         told(log, "points", &got, &wanted, format!("{call:?} ({:?})", held.as_ref().err()));
@@ -103,6 +107,9 @@ fn try_boxes(t: &BoxTables, calls: &[BoxCall], log: &mut Log) {
     log.note(held.as_ref().err().unwrap_or(&"tables that hold a grid"), 1);
     let mut after = t.clone();
     for call in calls {
+        if let (BoxCall::Get(h), Ok(grid)) = (call, &held) {
+            log.note(grid.slots.kind(*h), 1);
+        }
         let got = call.of_port(&mut after);
         let (wanted, grid) = call.wanted(t, &held);
         told(log, "boxes", &got, &wanted, format!("{call:?} ({:?})", held.as_ref().err()));

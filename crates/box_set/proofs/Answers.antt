@@ -5,7 +5,8 @@ use Rattle.basics.specs.Meaning.Refusals.{Refusal, unless, orElse, firstOf}
 use Rattle.geometry.specs.Meaning.Domain.{aabbInDomain}
 use Rattle.geometry.specs.declared.Aabb.{Aabb}
 use Rattle.slots.specs.declared.Handle.{Handle}
-use Rattle.slots.specs.Meaning.Slot.{handleTest, handleRefusal}
+use Rattle.slots.specs.Meaning.Slot.{whyNotGood, handleTest, handleRefusal}
+use Rattle.slots.proofs.laws.HandleLaws.{why-some}
 use Rattle.box_tables.specs.Meaning.Tables.{Tables, sizeOf, usedOf, aabbOn, covers}
 use Rattle.box_tables.specs.Meaning.Holds.{Holds}
 use Rattle.box_tables.specs.Meaning.Decide.{holds, holds-says}
@@ -31,7 +32,7 @@ first-lost r rs = go (r .passes)
     go true n = absurd (n refl)
     go false n = refl
 
-by-five : (t : Tables) (h : Handle) (b : Aabb) → answerBy (holds t) (aabbInDomain b) (isGood t h) (fewCells (sizeOf t) b) (hasRoomFor t (h .slot) b) ≡ setAabbAnswer t h b
+by-five : (t : Tables) (h : Handle) (b : Aabb) → answerBy (holds t) (aabbInDomain b) (isGood t h) (whyNotGood (t .nums) h) (fewCells (sizeOf t) b) (hasRoomFor t (h .slot) b) ≡ setAabbAnswer t h b
 unfolding setAabbAnswer
 by-five t h b = refl
 
@@ -100,19 +101,19 @@ module _ {t : Tables} {h : Handle} {b : Aabb} {c : Change} where
           record { answers = a ∙ (rw (w .held, w .inside, w .good, few t b eq l, x) at (by-five t h b)); spans = λ z. (eo ∙ ep, en ∙ eq) }
 
 -- ---- the outcome
-all-passed : (a i g f r : Bool) → answerBy a i g f r ≡ 0 → (a ≡ true) × (i ≡ true) × (g ≡ true) × (f ≡ true) × (r ≡ true)
-all-passed true true true true true e = (refl, refl, refl, refl, refl)
-all-passed true true true true false e = absurd (omega arith)
-all-passed true true true false r e = absurd (omega arith)
-all-passed true true false f r e = absurd (omega arith)
-all-passed true false g f r e = absurd (omega arith)
-all-passed false i g f r e = absurd (omega arith)
+all-passed : (a i g f r : Bool) (n : ℕ) → (n ≡ 0 → ⊥) → answerBy a i g n f r ≡ 0 → (a ≡ true) × (i ≡ true) × (g ≡ true) × (f ≡ true) × (r ≡ true)
+all-passed true true true true true n z e = (refl, refl, refl, refl, refl)
+all-passed true true true true false n z e = absurd (omega arith)
+all-passed true true true false r n z e = absurd (omega arith)
+all-passed true true false f r n z e = absurd (z e)
+all-passed true false g f r n z e = absurd (omega arith)
+all-passed false i g f r n z e = absurd (omega arith)
 
 module _ (t : Tables) (h : Handle) (b : Aabb) (a : ℕ) (ea : a ≡ setAabbAnswer t h b) where
   pub movable : (w : ℕ) → w ≡ h .slot → a ≡ 0 → Movable t w b
   unfolding setAabbAnswer
   movable w ew z =
-      let k = all-passed (holds t) (aabbInDomain b) (isGood t h) (fewCells (sizeOf t) b) (hasRoomFor t (h .slot) b) (sym ea ∙ z) in
+      let k = all-passed (holds t) (aabbInDomain b) (isGood t h) (fewCells (sizeOf t) b) (hasRoomFor t (h .slot) b) (whyNotGood (t .nums) h) (why-some (t .nums) h) (sym ea ∙ z) in
       let n = names t h (k .2) in
       rw ew
       (record {

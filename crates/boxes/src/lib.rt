@@ -1,5 +1,6 @@
-// The public calls of the box grid: src/aabbgrid.rs of the Rust. Each but `new` checks the tables first and answers by document 01's numbers, listed
-// with each call in their order. No call has a `requires`, and a refused call changes no table and no output.
+// The public calls of the box grid: src/aabbgrid.rs of the Rust. Each but `new` checks the tables first and answers by the numbers of documents 01 and 02,
+// listed with each call in their order: a handle that is not good gets 12 if it is gone, else 11. No call has a `requires`, and a refused call changes no
+// table and no output.
 // In the examples the four tables are lent as the calls name them, and what a call writes to stands last.
 
 // Builds an empty grid with cells of this size. Refusals: 3 (wrong lengths), 2 (size outside its limits).
@@ -13,23 +14,23 @@ pub use box_insert::new;
 //     // r.answer is 0, and r.handle names the object from now on
 pub use box_insert::insert;
 
-// Another box for the object, at once. Refusals: 3, 6, 5, 7, 8.
+// Another box for the object, at once. Refusals: 3, 6, 11, 12, 7, 8.
 //     let face = Aabb { ll: Position { x: 600.0, y: 80.0 }, ur: Position { x: 760.0, y: 280.0 } };
 //     let a = boxes::set_aabb(nums, reals, map, pool, care, face);
 //     // 0: queries see it at once; 8 if the pool has no room for its cells, and then nothing changed
 pub use box_set::set_aabb;
 
-// Takes the object out at once and gives its data. Refusals: 3, 5.
+// Takes the object out at once and gives its data. Refusals: 3, 11, 12.
 //     let r = boxes::remove(nums, reals, map, pool, care);
 //     // r.obj is its data, and no query finds it any more
 pub use box_remove::remove;
 
 // Writes box and data of each object, ascending by slot, then empties the grid. Refusals: 3, 9.
 //     let r = boxes::clear(nums, reals, map, pool, areas, objs);
-//     // areas[j] and objs[j] for j below r.count; every old handle answers 5 from now on
+//     // areas[j] and objs[j] for j below r.count; every old handle answers 12 from now on
 pub use box_clear::clear;
 
-// The box and the data. Refusals: 3, 5.
+// The box and the data. Refusals: 3, 11, 12.
 //     let r = boxes::get(nums, reals, map, pool, care);
 //     // r.aabb and r.obj
 pub use box_get::get;

@@ -1,9 +1,11 @@
 -- The laws.
 pub mod BoxDemands
+pub mod BoxHandles
 pub mod BoxSteps
 pub mod Demands
 pub mod Determined
 pub mod FindingLaws
+pub mod Handles
 pub mod Lengths
 pub mod PointSteps
 pub mod Tested

@@ -69,7 +69,7 @@ pub extern "C" fn chavrupas_boxes_insert(
     }
 }
 
-// `set_aabb`. 3, 6, 5, 7, 8.
+// `set_aabb`. 3, 6, 11, 12, 7, 8.
 #[no_mangle]
 pub extern "C" fn chavrupas_boxes_set_aabb(
     nums: &[[u32; 4]],
@@ -98,7 +98,7 @@ pub extern "C" fn chavrupas_boxes_set_aabb(
     )
 }
 
-// `remove`. 3, 5.
+// `remove`. 3, 11, 12.
 #[no_mangle]
 pub extern "C" fn chavrupas_boxes_remove(
     nums: &mut [[u32; 4]],
@@ -136,7 +136,7 @@ pub extern "C" fn chavrupas_boxes_clear(
     }
 }
 
-// `get`. 3, 5.
+// `get`. 3, 11, 12.
 #[no_mangle]
 pub extern "C" fn chavrupas_boxes_get(
     nums: &[[u32; 4]],

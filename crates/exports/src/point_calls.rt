@@ -78,7 +78,7 @@ pub extern "C" fn chavrupas_points_insert(
     }
 }
 
-// `set_position`. 3, 6, 5, 1.
+// `set_position`. 3, 6, 11, 12, 1.
 #[no_mangle]
 pub extern "C" fn chavrupas_points_set_position(
     nums: &mut [[u32; 4]],
@@ -108,7 +108,7 @@ pub extern "C" fn chavrupas_points_set_position(
     )
 }
 
-// `remove`. 3, 5.
+// `remove`. 3, 11, 12.
 #[no_mangle]
 pub extern "C" fn chavrupas_points_remove(
     nums: &mut [[u32; 4]],
@@ -196,7 +196,7 @@ pub extern "C" fn chavrupas_points_maintain(
     }
 }
 
-// `remove_maintain`. 3, 5.
+// `remove_maintain`. 3, 11, 12.
 #[no_mangle]
 pub extern "C" fn chavrupas_points_remove_maintain(
     nums: &mut [[u32; 4]],
@@ -249,7 +249,7 @@ pub extern "C" fn chavrupas_points_clear(
     }
 }
 
-// `get`. 3, 5.
+// `get`. 3, 11, 12.
 #[no_mangle]
 pub extern "C" fn chavrupas_points_get(
     nums: &[[u32; 4]],

@@ -1,8 +1,9 @@
-// A first frame at a desk, on a grid of two slots: what a person reads is what the gate compares. Each line is a call, its answer and its
-// numbers.
+// A first frame at a desk, on a grid of two slots, and then a slot at its last version: what a person reads is what the gate compares. Each line
+// is a call, its answer and its numbers.
 use geometry::Position;
 use libc::STDOUT_FILENO;
 use replies::Count;
+use slots::Handle;
 
 fn say(what: &[u8]) {
     io::write_all(STDOUT_FILENO, what);
@@ -205,7 +206,7 @@ fn told(answer: u32, out: [[u32; 2]; 5]) {
     line(b"refused ", d[0], e[0], e[1]);
 }
 
-// Five deferred calls with one check: far moves, two removals of one object, a move of what is removed, a handle that is not good.
+// Five deferred calls with one check: far moves, two removals of one object, a move of what is removed, a handle that was never issued.
 fn frame(
     nums: &mut [[u32; 4]; 2],
     reals: &mut [[f32; 4]; 2],
@@ -291,6 +292,98 @@ fn open(
     enter(nums, reals, ints, map, pool, spots, cells, near, 9);
 }
 
+// A handle is asked for: answer, data, and its version.
+fn ask(
+    nums: &[[u32; 4]; 2],
+    reals: &[[f32; 4]; 2],
+    ints: &[[i32; 4]; 2],
+    map: &[u64; 4],
+    pool: &[[u64; 2]; 2],
+    spots: &[[f32; 2]; 2],
+    cells: &[[u64; 2]; 2],
+    slot: u32,
+    version: u32,
+) {
+    let h = Handle {
+        slot: slot,
+        version: version,
+    };
+    let r = points::get(nums, reals, ints, map, pool, spots, cells, h);
+    line(b"get ", r.answer, r.obj, version);
+}
+
+// The object of slot 0 is taken out at the last version, which is set in the table: no history of a few calls gets there.
+fn retire(
+    nums: &mut [[u32; 4]; 2],
+    reals: &mut [[f32; 4]; 2],
+    ints: &mut [[i32; 4]; 2],
+    map: &mut [u64; 4],
+    pool: &mut [[u64; 2]; 2],
+    spots: &mut [[f32; 2]; 2],
+    cells: &mut [[u64; 2]; 2],
+) {
+    let mut row = nums[0];
+    row[0] = 4294967295;
+    nums[0] = row;
+    let h = Handle {
+        slot: 0,
+        version: 4294967295,
+    };
+    let r = points::remove_maintain(nums, reals, ints, map, pool, spots, cells, h);
+    line(b"taken ", r.answer, r.obj, 0);
+}
+
+// Everything is taken out.
+fn empty(
+    nums: &mut [[u32; 4]; 2],
+    reals: &mut [[f32; 4]; 2],
+    ints: &mut [[i32; 4]; 2],
+    map: &mut [u64; 4],
+    pool: &mut [[u64; 2]; 2],
+    spots: &mut [[f32; 2]; 2],
+    cells: &mut [[u64; 2]; 2],
+) {
+    let mut places = [[77.0f32; 2]; 2];
+    let mut objs = [77u32; 2];
+    let r = points::clear(
+        nums,
+        reals,
+        ints,
+        map,
+        pool,
+        spots,
+        cells,
+        &mut places,
+        &mut objs,
+    );
+    line(b"clear ", r.answer, r.count, objs[0]);
+}
+
+// All that the retired slot had is gone, version 0 was never issued, and the next point takes the other slot; once that is emptied its handle
+// is gone too.
+fn last(
+    nums: &mut [[u32; 4]; 2],
+    reals: &mut [[f32; 4]; 2],
+    ints: &mut [[i32; 4]; 2],
+    map: &mut [u64; 4],
+    pool: &mut [[u64; 2]; 2],
+    spots: &mut [[f32; 2]; 2],
+    cells: &mut [[u64; 2]; 2],
+) {
+    let made = points::new(nums, reals, ints, map, pool, spots, cells, 10);
+    line(b"new ", made, 0, 0);
+    let home = Position { x: 0.0, y: 0.0 };
+    enter(nums, reals, ints, map, pool, spots, cells, home, 7);
+    retire(nums, reals, ints, map, pool, spots, cells);
+    ask(nums, reals, ints, map, pool, spots, cells, 0, 4294967295);
+    ask(nums, reals, ints, map, pool, spots, cells, 0, 4294967294);
+    ask(nums, reals, ints, map, pool, spots, cells, 0, 1);
+    ask(nums, reals, ints, map, pool, spots, cells, 0, 0);
+    enter(nums, reals, ints, map, pool, spots, cells, home, 8);
+    empty(nums, reals, ints, map, pool, spots, cells);
+    ask(nums, reals, ints, map, pool, spots, cells, 1, 1);
+}
+
 fn run(
     nums: &mut [[u32; 4]; 2],
     reals: &mut [[f32; 4]; 2],
@@ -306,6 +399,7 @@ fn run(
     // a table in the place of another is found out
     list(nums, reals, ints, map, cells, spots, cells);
     settle(nums, reals, ints, map, pool, spots, cells);
+    last(nums, reals, ints, map, pool, spots, cells);
 }
 
 fn main() {

@@ -17,7 +17,7 @@ use Rattle.point_records.specs.Meaning.States.{isRemoved, aimed}
 use Rattle.point_tables.specs.Meaning.Tables.{Tables, tables}
 use Rattle.point_tables.specs.Meaning.Outcome.{Outcome, outcome}
 use Rattle.slots.specs.declared.Handle.{Handle}
-use Rattle.slots.specs.Meaning.Slot.{good, handleRefusal}
+use Rattle.slots.specs.Meaning.Slot.{good, whyNotGood, handleRefusal}
 use Rattle.basics.specs.Meaning.Refusals.{orElse}
 use Rattle.point_tables.specs.Meaning.Tables.{rowsOf}
 use Rattle.point_tables.specs.Meaning.Decide.{holds, holds-says}
@@ -48,7 +48,7 @@ back p = toZ-ofZ (sfits-of p)
 pub not-good : (nums : List (List ℕ)) (h : Handle) (a : ℕ) → a ≡ handleRefusal nums h → (a ≡ 0 → ⊥) → good nums (h .slot) (h .version) ≡ false
 not-good nums h a e n = go (good nums (h .slot) (h .version)) e
   where
-    go : (b : Bool) → a ≡ orElse b 5 0 → b ≡ false
+    go : (b : Bool) → a ≡ orElse b (whyNotGood nums h) 0 → b ≡ false
     go true q = absurd (n q)
     go false q = refl
 

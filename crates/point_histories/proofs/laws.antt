@@ -1,2 +1,3 @@
 -- The laws.
 pub mod HistoryLaws
+pub mod OnwardLaws

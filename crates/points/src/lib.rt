@@ -1,5 +1,6 @@
-// The public calls of the point grid: src/grid.rs of the Rust. Each but `new` checks the tables first and answers by document 01's numbers, listed
-// with each call in their order. No call has a `requires`, and a refused call changes no table and no output.
+// The public calls of the point grid: src/grid.rs of the Rust. Each but `new` checks the tables first and answers by the numbers of documents 01 and 02,
+// listed with each call in their order: a handle that is not good gets 12 if it is gone, else 11. No call has a `requires`, and a refused call changes no
+// table and no output.
 // In the examples the seven tables are lent as the calls name them, and what a call writes to stands last.
 
 // Builds an empty grid with cells of this size. Refusals: 3 (wrong lengths), 2 (size outside its limits).
@@ -13,13 +14,13 @@ pub use point_insert::new;
 //     // r.answer is 0, and r.handle names the object from now on
 pub use point_insert::insert;
 
-// Where the object shall be after the next maintain. Refusals: 3, 6, 5, 1.
+// Where the object shall be after the next maintain. Refusals: 3, 6, 11, 12, 1.
 //     let far = Position { x: 12.5, y: 700.0 };
 //     let a = points::set_position(nums, reals, ints, map, pool, spots, cells, hand, far);
 //     // 0, however far it is; until maintain every query still gives the old position
 pub use point_deferred::set_position;
 
-// Marks the object; the next maintain takes it out. Gives the data, again if asked again. Refusals: 3, 5.
+// Marks the object; the next maintain takes it out. Gives the data, again if asked again. Refusals: 3, 11, 12.
 //     let r = points::remove(nums, reals, ints, map, pool, spots, cells, hand);
 //     // r.answer is 0 and r.obj the data; until maintain every query still finds it
 pub use point_deferred::remove;
@@ -35,17 +36,17 @@ pub use point_batch::batch;
 //     // r.moved and r.removed count; from here on queries find each object at its last accepted position
 pub use point_maintain_run::maintain;
 
-// Takes the object out now, whatever its state. Gives the data. Refusals: 3, 5.
+// Takes the object out now, whatever its state. Gives the data. Refusals: 3, 11, 12.
 //     let r = points::remove_maintain(nums, reals, ints, map, pool, spots, cells, hand);
 //     // r.obj is its data, and no query finds it any more
 pub use point_remove::remove_maintain;
 
 // Writes recorded position and data of every object, ascending by slot, and empties the grid. Refusals: 3, 9 with the number of objects.
 //     let r = points::clear(nums, reals, ints, map, pool, spots, cells, places, objs);
-//     // places[j] and objs[j] for j below r.count; every old handle answers 5 from now on
+//     // places[j] and objs[j] for j below r.count; every old handle answers 12 from now on
 pub use point_clear::clear;
 
-// The recorded position and the data. Refusals: 3, 5.
+// The recorded position and the data. Refusals: 3, 11, 12.
 //     let r = points::get(nums, reals, ints, map, pool, spots, cells, hand);
 //     // r.position is where the last maintain put it (or insert), r.obj its data
 pub use point_get::get;

@@ -34,7 +34,7 @@ pub fn set_position_for(
     points::set_position(nums, reals, ints, map, pool, spots, cells, h, at)
 }
 
-// Where the object shall be after the next maintain. 3, 6, 5, 1.
+// Where the object shall be after the next maintain. 3, 6, 11, 12, 1.
 pub fn set_position(
     records: &mut [Record],
     nums: &mut [Row],
@@ -75,7 +75,7 @@ pub fn remove_for(
     points::remove(nums, reals, ints, map, pool, spots, cells, h)
 }
 
-// Marks the object; gives the data. 3, 5.
+// Marks the object; gives the data. 3, 11, 12.
 pub fn remove(
     records: &mut [Record],
     nums: &mut [Row],

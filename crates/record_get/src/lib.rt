@@ -36,7 +36,7 @@ pub fn get_for(
     points::get(nums, reals, ints, map, pool, spots, cells, h)
 }
 
-// The recorded position and the data. 3, 5.
+// The recorded position and the data. 3, 11, 12.
 pub fn get(
     records: &[Record],
     nums: &mut [Row],

@@ -1,12 +1,12 @@
--- What the proofs of slots share: a row of four numbers, and a good handle and a slot test by test. Assumes nothing.
-use Rattle.basics.specs.Words.{ℕ, _≤_, _<_, _≡_, refl, sym, subst, Bool, true, false, List, [], _∷_, length, getD, set, eqb, arith, lt-ltb, le-ltb, eq-eqb}
-use Rattle.basics.specs.Words.{ne-eqb}
+-- What the proofs of slots share: a row of four numbers, and a good handle, a gone one and a slot test by test. Assumes nothing.
+use Rattle.basics.specs.Words.{ℕ, _≤_, _<_, _≡_, refl, sym, subst, Bool, true, false, _&&_, _||_, List, [], _∷_, length, getD, set, eqb, leb, ltb, arith}
+use Rattle.basics.specs.Words.{lt-ltb, le-ltb, le-leb, eq-eqb, ne-eqb}
 use Rattle.basics.specs.Meaning.Says.{Says}
 use Rattle.basics.proofs.laws.Says.{says-yes, says-no, apart}
 use Rattle.basics.specs.Meaning.Refusals.{pick}
 use Rattle.slots.specs.Meaning.Map.{usable}
 use Rattle.slots.proofs.laws.MapLaws.{not-usable}
-use Rattle.slots.specs.Meaning.Slot.{live, versionAt, phaseAt, good, nextVersion, nextPhase, emptiedRow, SlotHolds}
+use Rattle.slots.specs.Meaning.Slot.{live, retired, versionAt, phaseAt, good, gone, nextVersion, nextPhase, emptiedRow, SlotHolds}
 
 -- a row with another version and phase
 pub row-emptied : (row : List ℕ) (v p : ℕ) → length row ≡ 4 → v ≡ nextVersion (getD row 0 0) → p ≡ nextPhase (getD row 0 0) → set (set row 0 v) 1 p ≡ emptiedRow row
@@ -27,6 +27,38 @@ module _ (nums : List (List ℕ)) (slot version i : ℕ) (e : i ≡ slot) where
   pub by-version : i < length nums → phaseAt nums i ≡ live → eqb (versionAt nums i) version ≡ good nums slot version
   unfolding good
   by-version h p = rw (← e, lt-ltb i (length nums) h, eq-eqb (phaseAt nums i) live p)
+
+  -- ---- and those that say whether it is gone
+  pub past-not-gone : length nums ≤ i → false ≡ gone nums slot version
+  unfolding gone
+  past-not-gone h = rw (← e, le-ltb i (length nums) h)
+
+  pub gone-at-version : i < length nums → versionAt nums i ≡ version → eqb (phaseAt nums i) retired ≡ gone nums slot version
+  unfolding gone
+  gone-at-version h v = rw (← e, lt-ltb i (length nums) h, eq-eqb (versionAt nums i) version v, le-ltb version (versionAt nums i) (omega arith)) (go (leb 1 version) (eqb (phaseAt nums i) retired))
+    where
+      go : (a b : Bool) → b ≡ ((a && false) || (b && true))
+      go true true = refl
+      go true false = refl
+      go false true = refl
+      go false false = refl
+
+  pub zero-not-gone : i < length nums → (versionAt nums i ≡ version → ⊥) → version ≡ 0 → false ≡ gone nums slot version
+  unfolding gone
+  zero-not-gone h n z = rw (← e, lt-ltb i (length nums) h, ne-eqb (versionAt nums i) version n, z) (go (eqb (phaseAt nums i) retired))
+    where
+      go : (b : Bool) → false ≡ (b && false)
+      go true = refl
+      go false = refl
+
+  pub gone-below : i < length nums → (versionAt nums i ≡ version → ⊥) → (version ≡ 0 → ⊥) → ltb version (versionAt nums i) ≡ gone nums slot version
+  unfolding gone
+  gone-below h n z = rw (← e, lt-ltb i (length nums) h, ne-eqb (versionAt nums i) version n, le-leb 1 version (omega (arith, z))) (go (ltb version (versionAt nums i)) (eqb (phaseAt nums i) retired))
+    where
+      go : (a b : Bool) → a ≡ (a || (b && false))
+      go true b = refl
+      go false true = refl
+      go false false = refl
 
 -- ---- a slot's tests, in the order of the code; b is whether the map has it
 module _ (version phase : ℕ) (b : Bool) where

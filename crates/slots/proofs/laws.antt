@@ -1,5 +1,7 @@
 -- Laws, and what the proofs share.
 pub mod HandleLaws
+pub mod GoneLaws
+pub mod OnwardLaws
 pub mod SlotLaws
 pub mod CountLaws
 pub mod BitLaws

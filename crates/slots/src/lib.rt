@@ -6,7 +6,8 @@ ghost use Rattle.basics.specs.Meaning.Says.{Says};
 ghost use Rattle.basics.specs.Meaning.Refusals.{pick};
 ghost use Rattle.slots.specs.Meaning.Map.{wordsFor, usable, taken, givenBack, lowestUsable};
 ghost use Rattle.slots.specs.Inner.Map.{usableBelow, NonePast};
-ghost use Rattle.slots.specs.Meaning.Slot.{lastVersion, good, handleRefusal, nextVersion, nextPhase, emptiedRow, emptiedNums, emptiedMap, SlotHolds};
+ghost use Rattle.slots.specs.Meaning.Slot.{lastVersion, good, gone, handleRefusal, nextVersion, nextPhase, emptiedRow, emptiedNums, emptiedMap};
+ghost use Rattle.slots.specs.Meaning.Slot.{SlotHolds};
 
 // The row of a slot: version, phase, data, state.
 pub type Row = [u32; 4];
@@ -20,6 +21,11 @@ pub const RETIRED: u32 = 2;
 
 // A slot that is emptied at this version is retired.
 pub const LAST_VERSION: u32 = 4294967295;
+
+// Why a handle is refused.
+pub const NEVER_ISSUED: u32 = 11;
+
+pub const GONE: u32 = 12;
 
 pub struct Handle {
     pub slot: u32,
@@ -47,6 +53,24 @@ pub fn is_good(nums: &[Row], h: Handle) -> bool
     row[0] == h.version
 }
 
+// Whether the handle's object has been taken out: its slot is past its version, or retired at it.
+pub fn is_gone(nums: &[Row], h: Handle) -> bool
+    ensures { λ r. ⌜ r ≡ gone (was nums) (h .slot) (h .version) ⌝ }
+{
+    let s = basics::wide(h.slot);
+    if s >= nums.len() {
+        return false;
+    }
+    let row = nums[s];
+    if row[0] == h.version {
+        return row[1] == RETIRED;
+    }
+    if h.version == 0 {
+        return false;
+    }
+    h.version < row[0]
+}
+
 // Why a handle is refused, or 0: every call that takes one asks here.
 pub fn refusal_of(nums: &[Row], h: Handle) -> u32
     ensures { λ r. ⌜ r ≡ handleRefusal (was nums) h ⌝ }
@@ -54,7 +78,10 @@ pub fn refusal_of(nums: &[Row], h: Handle) -> u32
     if is_good(nums, h) {
         return 0;
     }
-    5
+    if is_gone(nums, h) {
+        return GONE;
+    }
+    NEVER_ISSUED
 }
 
 // Words of 64 bits for n slots.

@@ -1,7 +1,7 @@
 -- A bool that says whether a fact holds, and facts that can be decided. Assumes nothing.
 -- Here: the laws.
-use Rattle.basics.specs.Words.{ℕ, zero, suc, _<_, _≤_, _≡_, refl, sym, subst, ap, Bool, true, false, not, _&&_, _⊎_, inl, inr, ⊎-elim, T, eqb, leb, ltb}
-use Rattle.basics.specs.Words.{ℤ, pos, negsuc, arith, ltb-true, ltb-false, leb-true, leb-false, eqb-true, eqb-false}
+use Rattle.basics.specs.Words.{ℕ, zero, suc, _<_, _≤_, _≡_, refl, sym, subst, ap, Bool, true, false, not, _&&_, _||_, _⊎_, inl, inr, ⊎-elim, T, eqb, leb}
+use Rattle.basics.specs.Words.{ltb, ℤ, pos, negsuc, arith, ltb-true, ltb-false, lt-ltb, leb-true, leb-false, le-leb, eqb-true, eqb-false, eq-eqb}
 use Rattle.basics.specs.Meaning.Says.{Says, Decided, said}
 
 pub apart : false ≡ true → ⊥
@@ -49,6 +49,24 @@ also e = rw e
 pub says-and : {P Q : Type 0} (a b : Bool) → Says a P → Says b Q → Says (a && b) (P × Q)
 says-and true b p q = record { yes = λ e. (p .yes refl, q .yes e); no = λ x. q .no (x .1) }
 says-and false b p q = record { yes = λ e. absurd (apart e); no = λ x. p .no (x .0) }
+
+pub says-or : {P Q : Type 0} (a b : Bool) → Says a P → Says b Q → Says (a || b) (P ⊎ Q)
+says-or true b p q = record { yes = λ e. inl (p .yes refl); no = λ x. refl }
+says-or false b p q = record { yes = λ e. inr (q .yes e); no = λ x. ⊎-elim (λ y. absurd (apart (p .no y))) (q .no) x }
+
+pub or-true : (a : Bool) {b : Bool} → b ≡ true → (a || b) ≡ true
+or-true true e = refl
+or-true false e = e
+
+-- ---- the tests of numbers
+pub eqb-says : (a b : ℕ) → Says (eqb a b) (a ≡ b)
+eqb-says a b = record { yes = eqb-true a b; no = eq-eqb a b }
+
+pub leb-says : (a b : ℕ) → Says (leb a b) (a ≤ b)
+leb-says a b = record { yes = leb-true a b; no = le-leb a b }
+
+pub ltb-says : (a b : ℕ) → Says (ltb a b) (a < b)
+ltb-says a b = record { yes = ltb-true a b; no = lt-ltb a b }
 
 pub said-says : {P : Type 0} (d : Decided P) → Says (said d) P
 said-says (inl p) = says-yes p

@@ -1,17 +1,21 @@
 -- `clear`: what each answer leaves and writes, and that tables that hold a grid still do after it. Assumes nothing.
-use Rattle.basics.specs.Words.{ℕ, min, _≡_, sym, ap, _∙_, List, map, ⊎-elim, length, eq-eqb, ne-eqb}
+use Rattle.basics.specs.Words.{ℕ, min, _≡_, sym, ap, _∙_, true, List, map, ⊎-elim, length, arith, eq-eqb, ne-eqb}
 use lib.Ieee.{Float}
 use Rattle.basics.proofs.laws.Says.{d-eq}
 use Rattle.basics.specs.Inner.Counting.{countBelow}
-use Rattle.slots.specs.Meaning.Slot.{live, phaseAt}
+use Rattle.slots.specs.declared.Handle.{Handle}
+use Rattle.slots.specs.Meaning.Slot.{live, phaseAt, good, gone}
+use Rattle.slots.proofs.laws.HandleLaws.{good-says}
+use Rattle.slot_walks.proofs.laws.ClearedLaws.{cleared-row-gone}
 use Rattle.storage.specs.Meaning.Keyed.{written}
 use Rattle.slot_walks.proofs.laws.Live.{liveAt}
 use Rattle.slot_walks.specs.Meaning.Live.{objAt}
 use Rattle.box_tables.specs.Meaning.Tables.{Tables, slotsOf}
 use Rattle.box_tables.specs.Meaning.Holds.{Holds}
+use Rattle.box_tables.specs.Meaning.Decide.{holds-says}
 use Rattle.box_tables.specs.Meaning.Outcome.{Outcome, outcome}
 use Rattle.box_get.specs.Meaning.Live.{liveSlots}
-use Rattle.box_get.proofs.laws.LiveLaws.{listAnswer, listCount, answer-of, live-count, list-counts}
+use Rattle.box_get.proofs.laws.LiveLaws.{listAnswer, listCount, answer-of, list-passed, live-count, list-counts}
 use Rattle.box_clear.specs.Meaning.Clear.{cleared, boxAt, Written, wrote, clearOf}
 use Rattle.box_clear.proofs.laws.ClearKeeps.{cleared-none, cleared-keeps}
 use Rattle.replies.specs.declared.Count.{Count}
@@ -54,6 +58,15 @@ module _ (t : Tables) (boxes : List (List Float)) (objs : List ℕ) where
   -- after 0 no slot is live
   pub clear-none : clearOf t boxes objs .result .returned .answer ≡ 0 → (s : ℕ) → phaseAt (clearOf t boxes objs .after .nums) s ≡ live → ⊥
   clear-none e s l = cleared-none t s (ap (λ o. phaseAt (o .after .nums) s) (sym (accepted e)) ∙ l)
+
+  -- and every handle that was good is gone, at the last version too
+  pub cleared-gone : clearOf t boxes objs .result .returned .answer ≡ 0 → (h : Handle) → good (t .nums) (h .slot) (h .version) ≡ true
+      → gone (clearOf t boxes objs .after .nums) (h .slot) (h .version) ≡ true
+  unfolding cleared
+  cleared-gone e h g =
+      let n = good-says (t .nums) (h .slot) (h .version) .yes g in
+      let k = holds-says t .yes (list-passed t room (sym (answer-of t room) ∙ ap (λ c. c .answer) (sym clear-returned) ∙ e) .0) in
+      rw (accepted e) (cleared-row-gone (t .nums) (h .slot) (h .version) g (omega (arith, n .2, k .slots .each (h .slot) (n .0) .versioned)))
 
   -- tables that hold a grid still do
   module _ (h : Holds t) where

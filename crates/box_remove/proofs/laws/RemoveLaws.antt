@@ -3,8 +3,9 @@
 use Rattle.basics.specs.Words.{ℕ, _+_, _<_, _≡_, refl, _∙_, ap, Bool, true, false, eqb, arith, ne-eqb}
 use Rattle.basics.specs.Meaning.Refusals.{pick, orElse}
 use Rattle.slots.specs.declared.Handle.{Handle}
-use Rattle.slots.specs.Meaning.Slot.{live, phaseAt, versionAt, good}
-use Rattle.slots.proofs.laws.HandleLaws.{good-says, emptied-not-good}
+use Rattle.slots.specs.Meaning.Slot.{live, phaseAt, versionAt, good, gone, whyNotGood}
+use Rattle.slots.proofs.laws.HandleLaws.{good-says, why-some, emptied-not-good}
+use Rattle.slots.proofs.laws.GoneLaws.{emptied-gone}
 use Rattle.box_tables.specs.Meaning.Tables.{Tables, slotsOf, objOn}
 use Rattle.box_tables.specs.Meaning.Holds.{Holds}
 use Rattle.box_tables.specs.Meaning.Decide.{holds, holds-says}
@@ -31,9 +32,9 @@ module _ (t : Tables) (h : Handle) where
   -- the outcome by the two tests
   abbrev removeBy : Bool → Bool → Outcome Reply
   removeBy a b =
-      pick (eqb (orElse a 3 (orElse b 5 0)) 0)
+      pick (eqb (orElse a 3 (orElse b (whyNotGood (t .nums) h) 0)) 0)
       (outcome (reply 0 (objOn t (h .slot))) (takenOut t (h .slot)))
-      (outcome (reply (orElse a 3 (orElse b 5 0)) 0) t)
+      (outcome (reply (orElse a 3 (orElse b (whyNotGood (t .nums) h) 0)) 0) t)
 
   by-tests : removeOf t h ≡ removeBy (holds t) (isGood t h)
   unfolding removeOf removeAnswer
@@ -49,7 +50,9 @@ module _ (t : Tables) (h : Handle) where
     where
       go : (a b : Bool) → (b ≡ true → Names t h) → P (removeBy a b)
       go false b g = refuse 3 (λ e. omega arith)
-      go true false g = refuse 5 (λ e. omega arith)
+      go true false g =
+          let z = why-some (t .nums) h in
+          rw (ne-eqb (whyNotGood (t .nums) h) 0 z) (refuse (whyNotGood (t .nums) h) z)
       go true true g = accept (g refl)
 
   -- tables that hold a grid still do
@@ -72,3 +75,10 @@ module _ (t : Tables) (h : Handle) where
     pub remove-not-good : (v : ℕ) → good (removeOf t h .after .nums) (h .slot) v ≡ false
     unfolding takenOut
     remove-not-good v = rw accepted (emptied-not-good (t .nums) (h .slot) v)
+
+    -- and gone, at the last version too
+    pub remove-gone : gone (removeOf t h .after .nums) (h .slot) (h .version) ≡ true
+    unfolding takenOut
+    remove-gone =
+        let n = good-says (t .nums) (h .slot) (h .version) .yes g in
+        rw accepted (emptied-gone (t .nums) (h .slot) (h .version) g (omega (arith, n .2, k .slots .each (h .slot) (n .0) .versioned)))

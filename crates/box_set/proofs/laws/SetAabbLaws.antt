@@ -1,12 +1,14 @@
 -- `set_aabb`: exactly when each answer is given, what it then leaves, that every handle stays as good as it was, and that tables that hold a
 -- grid still do after it. Assumes nothing.
-use Rattle.basics.specs.Words.{ℕ, _+_, _≤_, _≡_, refl, _∙_, ap, Bool, true, false, length, T, eqb, arith, leb-true, le-leb}
+use Rattle.basics.specs.Words.{ℕ, _+_, _≤_, _≡_, refl, _∙_, ap, Bool, true, false, length, T, eqb, arith, leb-true, le-leb, ne-eqb}
 use Rattle.basics.specs.Meaning.Says.{Says}
 use Rattle.basics.proofs.laws.Says.{says-t, not-said}
 use Rattle.basics.specs.Meaning.Refusals.{pick, orElse}
 use Rattle.geometry.specs.Meaning.Domain.{aabbInDomain}
 use Rattle.geometry.specs.declared.Aabb.{Aabb}
 use Rattle.slots.specs.declared.Handle.{Handle}
+use Rattle.slots.specs.Meaning.Slot.{whyNotGood}
+use Rattle.slots.proofs.laws.HandleLaws.{why-some}
 use Rattle.box_tables.specs.Meaning.Tables.{Tables, sizeOf, usedOf, aabbOn, covers}
 use Rattle.box_tables.specs.Meaning.Holds.{Holds}
 use Rattle.box_tables.specs.Meaning.Decide.{holds, holds-says}
@@ -18,9 +20,9 @@ use Rattle.box_set.specs.Meaning.SetAabb.{cellsStay, boxRecorded, boxMov
 use Rattle.box_remove.proofs.laws.RemoveLaws.{isGood, Names, names}
 use Rattle.box_set.proofs.laws.SetAabbKeeps.{other-box-keeps, other-box-used}
 
--- the answer by the five tests
-abbrev pub answerBy : Bool → Bool → Bool → Bool → Bool → ℕ
-answerBy held inside named few room = orElse held 3 (orElse inside 6 (orElse named 5 (orElse few 7 (orElse room 8 0))))
+-- the answer by the five tests, and why the handle is not good
+abbrev pub answerBy : Bool → Bool → Bool → ℕ → Bool → Bool → ℕ
+answerBy held inside named why few room = orElse held 3 (orElse inside 6 (orElse named why (orElse few 7 (orElse room 8 0))))
 
 module _ (t : Tables) (s : ℕ) (b : Aabb) where
   -- entries in use, less the box's old ones, plus its new ones, are within the pool
@@ -42,7 +44,9 @@ module _ (t : Tables) (s : ℕ) (b : Aabb) where
 module _ (t : Tables) (h : Handle) (b : Aabb) where
   -- the outcome by the tests
   abbrev setBy : Bool → Bool → Bool → Bool → Bool → Outcome ℕ
-  setBy a i g f r = pick (eqb (answerBy a i g f r) 0) (outcome 0 (withOtherBox t (h .slot) b)) (outcome (answerBy a i g f r) t)
+  setBy a i g f r =
+      let answer = answerBy a i g (whyNotGood (t .nums) h) f r in
+      pick (eqb answer 0) (outcome 0 (withOtherBox t (h .slot) b)) (outcome answer t)
 
   by-tests : setAabbOf t h b ≡ setBy (holds t) (aabbInDomain b) (isGood t h) (fewCells (sizeOf t) b) (hasRoomFor t (h .slot) b)
   unfolding setAabbOf setAabbAnswer
@@ -64,7 +68,9 @@ module _ (t : Tables) (h : Handle) (b : Aabb) where
       go : (a i g f r : Bool) → (i ≡ true → T (aabbInDomain b)) → (g ≡ true → Names t h) → (f ≡ true → Few t b) → (r ≡ true → RoomFor t (h .slot) b) → P (setBy a i g f r)
       go false i g f r ei eg ef er = refuse 3 (λ e. omega arith)
       go true false g f r ei eg ef er = refuse 6 (λ e. omega arith)
-      go true true false f r ei eg ef er = refuse 5 (λ e. omega arith)
+      go true true false f r ei eg ef er =
+          let z = why-some (t .nums) h in
+          rw (ne-eqb (whyNotGood (t .nums) h) 0 z) (refuse (whyNotGood (t .nums) h) z)
       go true true true false r ei eg ef er = refuse 7 (λ e. omega arith)
       go true true true true false ei eg ef er = refuse 8 (λ e. omega arith)
       go true true true true true ei eg ef er = accept (ei refl) (eg refl) (ef refl) (er refl)

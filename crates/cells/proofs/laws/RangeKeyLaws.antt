@@ -1,10 +1,9 @@
 -- The keys of a range: in a row one after the other, from row to row 2 ^ 32 further, so that key order is range order; and whether a
 -- cell lies in a range, told from its key. Assumes nothing.
 use Rattle.basics.specs.Words.{ℕ, zero, suc, _+_, _-_, _*_, _≤_, _<_, _≡_, refl, sym, ap, ap₂, _∙_, subst, _&&_, _∷_, _++_, map, map-append, inl, inr, leb, ℤ}
-use Rattle.basics.specs.Words.{pos, negsuc, _+ℤ_, +ℤ-idr, mul-le-mul, arith, lt-ltb, le-ltb, leb-true, le-leb, lt-leb}
+use Rattle.basics.specs.Words.{pos, negsuc, _+ℤ_, +ℤ-idr, mul-le-mul, arith, lt-ltb, le-ltb, le-leb, lt-leb}
 use lib.Signed.{mag, leZ}
-use Rattle.basics.specs.Meaning.Says.{Says}
-use Rattle.basics.proofs.laws.Says.{says-same, says-via, d-le, d-lt}
+use Rattle.basics.proofs.laws.Says.{says-same, says-via, leb-says, d-le, d-lt}
 use Rattle.cells.specs.declared.Cell.{Cell}
 use Rattle.cells.proofs.laws.Numbers.{Fits}
 use Rattle.cells.specs.Inner.Numbers.{Near}
@@ -105,9 +104,6 @@ range-rising a b fa fb =
     (runs-rising (keyOf a) (countFrom (a .x) (b .x)) (countFrom (a .y) (b .y)) (count-most (a .x) (b .x) (fa .x) (fb .x)))
 
 -- ---- in a range, by keys
-pub leb-says : (a b : ℕ) → Says (leb a b) (a ≤ b)
-leb-says a b = record { yes = leb-true a b; no = le-leb a b }
-
 pub upward-order : (a b : ℤ) → mag a < 2147483648 → mag b < 2147483648 → leZ a b ≡ leb (upward a) (upward b)
 upward-order (pos a) (pos b) ha hb = says-same (leb a b) (leb (a + 2147483648) (b + 2147483648)) (leb-says a b) (says-via (λ h. omega arith) (λ h. omega arith) (leb-says (a + 2147483648) (b + 2147483648)))
 upward-order (pos a) (negsuc b) ha hb = sym (lt-leb (a + 2147483648) (2147483647 - b) (omega arith))

@@ -13,7 +13,7 @@ use Rattle.box_insert.proofs.laws.InsertLaws.{insert-holds}
 use Rattle.box_set.proofs.laws.SetAabbLaws.{set-aabb-holds}
 use Rattle.box_remove.proofs.laws.RemoveLaws.{remove-holds}
 use Rattle.box_clear.proofs.laws.ClearLaws.{clear-holds}
-use Rattle.demands.proofs.laws.Tested.{first-answer, first-refused}
+use Rattle.demands.proofs.laws.Tested.{first-answer, first-refused, handle-no-three}
 use Rattle.demands.specs.Meaning.BoxCalls.{BoxCall, new, insert, setAabb, remove, clear, get, len, handles, queryBroad, query, leaves, refusals}
 use Rattle.demands.specs.Meaning.BoxCalls.{refusedWith}
 use Rattle.demands.proofs.laws.BoxSteps.{step}
@@ -32,10 +32,10 @@ no-three : (t : Tables) (c : BoxCall) → Holds t → applies (refusals t c) 3 �
 unfolding refusals
 no-three t (new size) h = rw (sized-says t .no (h .sized))
 no-three t (insert b d) h = rw (holds-says t .no h)
-no-three t (setAabb g b) h = rw (holds-says t .no h)
-no-three t (remove g) h = rw (holds-says t .no h)
+no-three t (setAabb g b) h = rw (holds-says t .no h, handle-no-three (t .nums) g)
+no-three t (remove g) h = rw (holds-says t .no h, handle-no-three (t .nums) g)
 no-three t (clear bs os) h = rw (holds-says t .no h)
-no-three t (get g) h = rw (holds-says t .no h)
+no-three t (get g) h = rw (holds-says t .no h, handle-no-three (t .nums) g)
 no-three t len h = rw (holds-says t .no h)
 no-three t (handles out) h = rw (holds-says t .no h)
 no-three t (queryBroad q hs) h = rw (holds-says t .no h)

@@ -34,7 +34,7 @@ use Rattle.whereabouts.specs.Meaning.Stands.{nextMaintain}
 use Rattle.whereabouts.proofs.laws.ReportLaws.{circle-reports, reports-once}
 use Rattle.whereabouts.specs.Meaning.Moved.{Other}
 use Rattle.whereabouts.proofs.laws.MovedLaws.{moved-found}
-use Rattle.demands.proofs.laws.Tested.{first-answer, first-refused}
+use Rattle.demands.proofs.laws.Tested.{first-answer, first-refused, handle-no-three}
 use Rattle.demands.specs.Meaning.PointCalls.{PointCall, new, insert, setPosition, remove, batch, maintain, removeMaintain, clear}
 use Rattle.demands.specs.Meaning.PointCalls.{get, len, handles, query, queryAround, queryAabb, nearest}
 use Rattle.demands.specs.Meaning.PointCalls.{leaves, refusals, refusedWith, uneven}
@@ -55,17 +55,17 @@ holding-three : (t : Tables) (c : PointCall) → Holds t → applies (refusals t
 unfolding refusals uneven
 holding-three t (new size) h = rw (sized-says t .no (h .sized))
 holding-three t (insert p d) h = rw (holds-says t .no h)
-holding-three t (setPosition g p) h = rw (holds-says t .no h)
-holding-three t (remove g) h = rw (holds-says t .no h)
+holding-three t (setPosition g p) h = rw (holds-says t .no h, handle-no-three (t .nums) g)
+holding-three t (remove g) h = rw (holds-says t .no h, handle-no-three (t .nums) g)
 holding-three t (batch ks hs ps out) h = rw (holds-says t .no h) (go (even ks hs ps))
   where
     go : (b : Bool) → (not (b && true) || false) ≡ not b
     go true = refl
     go false = refl
 holding-three t maintain h = rw (holds-says t .no h)
-holding-three t (removeMaintain g) h = rw (holds-says t .no h)
+holding-three t (removeMaintain g) h = rw (holds-says t .no h, handle-no-three (t .nums) g)
 holding-three t (clear ps os) h = rw (holds-says t .no h)
-holding-three t (get g) h = rw (holds-says t .no h)
+holding-three t (get g) h = rw (holds-says t .no h, handle-no-three (t .nums) g)
 holding-three t len h = rw (holds-says t .no h)
 holding-three t (handles out) h = rw (holds-says t .no h)
 holding-three t (query ll ur o) h = rw (holds-says t .no h)

@@ -1,7 +1,10 @@
 -- A call that makes its tests one after the other, and leaves what a refused call leaves if one does not pass. Assumes nothing.
-use Rattle.basics.specs.Words.{ℕ, _≡_, refl, sym, ap, _∙_, Bool, true, false, List, eqb, eqb-true, ne-eqb}
-use Rattle.basics.specs.Meaning.Refusals.{Refusal, firstOf, pick, byTests, order, firstThat}
+use Rattle.basics.specs.Words.{ℕ, _≡_, refl, sym, ap, _∙_, Bool, true, false, List, [], _∷_, _++_, eqb, eqb-true, ne-eqb}
+use Rattle.basics.specs.Meaning.Refusals.{Refusal, unless, firstOf, pick, byTests, order, firstThat}
 use Rattle.basics.proofs.laws.RefusalLaws.{ordered, in-order}
+use Rattle.slots.specs.declared.Handle.{Handle}
+use Rattle.slots.specs.Meaning.Slot.{whyNotGood}
+use Rattle.slots.proofs.laws.HandleLaws.{by-why, why-not-three}
 use Rattle.demands.specs.Meaning.Left.{Outputs, zeros, theCount, Left, left, refused}
 
 -- what a call leaves, l, is `done` if they pass, and else what `refusal` says of the first that does not
@@ -24,6 +27,19 @@ module _ {T P : Type 0} {rs : List Refusal} {refusal : ℕ → Left T P} {l : Le
   pub first-refused : (firstThat rs ≡ 0 → ⊥) → l ≡ refusal (firstThat rs)
   first-refused n =
       s .by-tests ∙ rw (ne-eqb (firstOf rs) 0 (λ z. n (sym (in-order rs (s .in-turn)) ∙ z))) (ap refusal (in-order rs (s .in-turn)))
+
+-- ---- a handle's test in its place among the others, whichever of its two numbers it has: the order asks for the numbers alone
+abbrev numbered : List ℕ → List Refusal
+numbered [] = []
+numbered (n ∷ ns) = unless true n ∷ numbered ns
+
+pub handle-in-turn : (front back : List ℕ) → ordered order (numbered (front ++ (11 ∷ back))) ≡ true → ordered order (numbered (front ++ (12 ∷ back))) ≡ true
+    → (nums : List (List ℕ)) (h : Handle) → ordered order (numbered (front ++ (whyNotGood nums h ∷ back))) ≡ true
+handle-in-turn front back = by-why (λ (n : ℕ). ordered order (numbered (front ++ (n ∷ back))) ≡ true)
+
+-- and neither of them is 3
+pub handle-no-three : (nums : List (List ℕ)) (h : Handle) → eqb (whyNotGood nums h) 3 ≡ false
+handle-no-three nums h = ne-eqb (whyNotGood nums h) 3 (why-not-three nums h)
 
 -- ---- what a call gives, x or y by its tests, seen as what it leaves
 module _ {R T P : Type 0} {refusal : ℕ → Left T P} (view : R → Left T P) (x : R) (y : ℕ → R) where

@@ -4,6 +4,10 @@ use Rattle.basics.specs.Words.{ℕ, _<_, _≤_, min, _≡_, refl, _∙_, Bool, 
 use lib.Ieee.{Float}
 use Rattle.basics.specs.Meaning.Refusals.{pick, orElse}
 use Rattle.basics.proofs.laws.Says.{apart}
+use Rattle.slots.specs.declared.Handle.{Handle}
+use Rattle.slots.specs.Meaning.Slot.{good, gone}
+use Rattle.slots.proofs.laws.HandleLaws.{good-says}
+use Rattle.slot_walks.proofs.laws.ClearedLaws.{cleared-row-gone}
 use Rattle.storage.specs.Meaning.Keyed.{written}
 use Rattle.point_tables.specs.Meaning.Tables.{Tables, usedOf}
 use Rattle.point_tables.specs.Meaning.Holds.{Holds}
@@ -54,6 +58,20 @@ module _ (t : Tables) (places : List (List Float)) (objs : List ℕ) where
       go false b n = refl
       go true false n = refl
       go true true n = absurd (n refl)
+
+  -- after 0 every handle that was good is gone, at the last version too
+  pub cleared-gone : clearOf t places objs .result .returned .answer ≡ 0 → (h : Handle) → good (t .nums) (h .slot) (h .version) ≡ true
+      → gone (clearOf t places objs .after .nums) (h .slot) (h .version) ≡ true
+  unfolding cleared
+  cleared-gone = rw by-tests (go (holds t) (leb found room) (holds-says t .yes))
+    where
+      go : (a b : Bool) → (a ≡ true → Holds t) → clearBy a b .result .returned .answer ≡ 0 → (h : Handle) → good (t .nums) (h .slot) (h .version) ≡ true
+          → gone (clearBy a b .after .nums) (h .slot) (h .version) ≡ true
+      go false b k e h g = absurd (omega arith)
+      go true false k e h g = absurd (omega arith)
+      go true true k e h g =
+          let n = good-says (t .nums) (h .slot) (h .version) .yes g in
+          cleared-row-gone (t .nums) (h .slot) (h .version) g (omega (arith, n .2, k refl .slots .each (h .slot) (n .0) .versioned))
 
   -- tables that hold a grid still do
   pub clear-holds : Holds t → Holds (clearOf t places objs .after)

@@ -6,7 +6,8 @@ use Rattle.basics.specs.Meaning.Refusals.{orElse, pick}
 use Rattle.geometry.specs.Meaning.Domain.{positionInDomain}
 use Rattle.geometry.specs.declared.Position.{Position}
 use Rattle.slots.specs.declared.Handle.{Handle}
-use Rattle.slots.specs.Meaning.Slot.{good}
+use Rattle.slots.specs.Meaning.Slot.{good, gone, whyNotGood}
+use Rattle.slots.proofs.laws.HandleLaws.{why-not-three}
 use Rattle.point_records.specs.Meaning.States.{isRemoved}
 use Rattle.point_tables.specs.Meaning.Tables.{Tables, recordOn}
 use Rattle.point_tables.specs.Meaning.Holds.{Holds}
@@ -30,35 +31,36 @@ pub remove-answer-is : (t : Tables) (h : Handle) → removeOf t h .result .answe
 remove-answer-is t h = ⊎-elim (λ e. rw (remove-done t h e) (sym e)) (λ n. rw (remove-refused t h n)) (d-eq (removeAnswer t h) 0)
 
 -- ---- which answers there are
-remove-tests : (a b : Bool) → Among (0 ∷ 3 ∷ 5 ∷ []) (orElse a 3 (orElse b 5 0))
-remove-tests true true = inl refl
-remove-tests false b = inr (inl refl)
-remove-tests true false = inr (inr (inl refl))
+remove-tests : (a b g : Bool) → Among (0 ∷ 3 ∷ 11 ∷ 12 ∷ []) (orElse a 3 (orElse b (pick g 12 11) 0))
+remove-tests true true g = inl refl
+remove-tests false b g = inr (inl refl)
+remove-tests true false false = inr (inr (inl refl))
+remove-tests true false true = inr (inr (inr (inl refl)))
 
-pub remove-answers : (t : Tables) (h : Handle) → Among (0 ∷ 3 ∷ 5 ∷ []) (removeOf t h .result .answer)
+pub remove-answers : (t : Tables) (h : Handle) → Among (0 ∷ 3 ∷ 11 ∷ 12 ∷ []) (removeOf t h .result .answer)
 unfolding removeAnswer
-remove-answers t h = rw (remove-answer-is t h) (remove-tests (holds t) (good (t .nums) (h .slot) (h .version)))
+remove-answers t h = rw (remove-answer-is t h) (remove-tests (holds t) (good (t .nums) (h .slot) (h .version)) (gone (t .nums) (h .slot) (h .version)))
 
 -- ---- 3 exactly where the tables hold no grid
-set-three : (a b c d : Bool) → Says (not a) (orElse a 3 (orElse b 6 (orElse c 5 (orElse d 1 0))) ≡ 3)
-set-three true true true true = says-no (λ e. omega arith)
-set-three true true true false = says-no (λ e. omega arith)
-set-three true true false d = says-no (λ e. omega arith)
-set-three true false c d = says-no (λ e. omega arith)
-set-three false b c d = says-yes refl
+set-three : (a b c d : Bool) (n : ℕ) → (n ≡ 3 → ⊥) → Says (not a) (orElse a 3 (orElse b 6 (orElse c n (orElse d 1 0))) ≡ 3)
+set-three true true true true n u = says-no (λ e. omega arith)
+set-three true true true false n u = says-no (λ e. omega arith)
+set-three true true false d n u = says-no u
+set-three true false c d n u = says-no (λ e. omega arith)
+set-three false b c d n u = says-yes refl
 
-remove-three : (a b : Bool) → Says (not a) (orElse a 3 (orElse b 5 0) ≡ 3)
-remove-three true true = says-no (λ e. omega arith)
-remove-three true false = says-no (λ e. omega arith)
-remove-three false b = says-yes refl
+remove-three : (a b : Bool) (n : ℕ) → (n ≡ 3 → ⊥) → Says (not a) (orElse a 3 (orElse b n 0) ≡ 3)
+remove-three true true n u = says-no (λ e. omega arith)
+remove-three true false n u = says-no u
+remove-three false b n u = says-yes refl
 
 pub set-unheld : (t : Tables) (h : Handle) (at : Position) → Says (not (holds t)) (setPositionOf t h at .result .answer ≡ 3)
 unfolding setPositionAnswer
-set-unheld t h at = rw (set-answer-is t h at) (set-three (holds t) (positionInDomain at) (good (t .nums) (h .slot) (h .version)) (not (isRemoved (recordOn t (h .slot) .state))))
+set-unheld t h at = rw (set-answer-is t h at) (set-three (holds t) (positionInDomain at) (good (t .nums) (h .slot) (h .version)) (not (isRemoved (recordOn t (h .slot) .state))) (whyNotGood (t .nums) h) (why-not-three (t .nums) h))
 
 pub remove-unheld : (t : Tables) (h : Handle) → Says (not (holds t)) (removeOf t h .result .answer ≡ 3)
 unfolding removeAnswer
-remove-unheld t h = rw (remove-answer-is t h) (remove-three (holds t) (good (t .nums) (h .slot) (h .version)))
+remove-unheld t h = rw (remove-answer-is t h) (remove-three (holds t) (good (t .nums) (h .slot) (h .version)) (whyNotGood (t .nums) h) (why-not-three (t .nums) h))
 
 -- ---- a call of either kind
 module _ (t : Tables) (c : Call) where

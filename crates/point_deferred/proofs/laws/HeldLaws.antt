@@ -8,7 +8,8 @@ use Rattle.basics.specs.Meaning.Refusals.{orElse}
 use Rattle.geometry.specs.Meaning.Domain.{positionInDomain}
 use Rattle.geometry.specs.declared.Position.{Position}
 use Rattle.slots.specs.declared.Handle.{Handle}
-use Rattle.slots.specs.Meaning.Slot.{good}
+use Rattle.slots.specs.Meaning.Slot.{good, whyNotGood}
+use Rattle.slots.proofs.laws.HandleLaws.{why-some, not-refused}
 use Rattle.point_records.specs.Meaning.States.{isRemoved}
 use Rattle.point_tables.specs.Meaning.Tables.{Tables, sizeOf, recordOn}
 use Rattle.point_tables.specs.Meaning.Holds.{Holds}
@@ -53,14 +54,10 @@ held-pool t pool spots c = go (eqb (heldAnswer t c) 0) refl
     go false e = rw e
 
 -- ---- accepted: slot s has an object, and a new position is in the domain
-three : (a b d : Bool) → orElse a 6 (orElse b 5 (orElse d 1 0)) ≡ 0 → (a ≡ true) × (b ≡ true)
-three true true d e = (refl, refl)
-three true false d e = absurd (omega arith)
-three false b d e = absurd (omega arith)
-
-one : (a : Bool) → orElse a 5 0 ≡ 0 → a ≡ true
-one true e = refl
-one false e = absurd (omega arith)
+three : (a b d : Bool) (n : ℕ) → (n ≡ 0 → ⊥) → orElse a 6 (orElse b n (orElse d 1 0)) ≡ 0 → (a ≡ true) × (b ≡ true)
+three true true d n z e = (refl, refl)
+three true false d n z e = absurd (z e)
+three false b d n z e = absurd (omega arith)
 
 pub held-accepted : (t : Tables) (c : Call) → heldAnswer t c ≡ 0 → Workable t (c .handle .slot) (c .kind) (c .at)
 unfolding setRefusal removeRefusal
@@ -68,11 +65,11 @@ held-accepted t c e = go (eqb (c .kind) 0) refl
   where
     go : (b : Bool) → eqb (c .kind) 0 ≡ b → Workable t (c .handle .slot) (c .kind) (c .at)
     go true q =
-        let f = three (positionInDomain (c .at)) (good (t .nums) (c .handle .slot) (c .handle .version)) (not (isRemoved (recordOn t (c .handle .slot) .state))) (rw q at e) in
+        let f = three (positionInDomain (c .at)) (good (t .nums) (c .handle .slot) (c .handle .version)) (not (isRemoved (recordOn t (c .handle .slot) .state))) (whyNotGood (t .nums) (c .handle)) (why-some (t .nums) (c .handle)) (rw q at e) in
         let g = named t (c .handle) (f .1) in
         record { inside = g .inside; occupied = g .occupied; in-domain = λ k. subst T (sym (f .0)) tt }
     go false q =
-        let g = named t (c .handle) (one (good (t .nums) (c .handle .slot) (c .handle .version)) (rw q at e)) in
+        let g = named t (c .handle) (not-refused (t .nums) (c .handle) (rw q at e)) in
         record { inside = g .inside; occupied = g .occupied; in-domain = λ k. absurd (eqb-false (c .kind) 0 q k) }
 
 -- ---- the outcome, refused and accepted

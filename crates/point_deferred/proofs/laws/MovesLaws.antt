@@ -1,12 +1,12 @@
 -- The answers of the deferred calls: what each says, that there is no other, and that a refused call changes nothing. Assumes nothing.
-use Rattle.basics.specs.Words.{_<_, _≡_, refl, sym, subst, Bool, true, false, not, T, arith, eq-eqb, ne-eqb}
+use Rattle.basics.specs.Words.{ℕ, _<_, _≡_, refl, sym, subst, Bool, true, false, not, T, arith, eq-eqb, ne-eqb}
 use Rattle.basics.specs.Meaning.Refusals.{orElse}
 use Rattle.basics.proofs.laws.Says.{untrue}
 use Rattle.geometry.specs.Meaning.Domain.{positionInDomain}
 use Rattle.geometry.specs.declared.Position.{Position}
 use Rattle.slots.specs.declared.Handle.{Handle}
-use Rattle.slots.specs.Meaning.Slot.{live, phaseAt, versionAt, good}
-use Rattle.slots.proofs.laws.HandleLaws.{good-says}
+use Rattle.slots.specs.Meaning.Slot.{live, phaseAt, versionAt, good, whyNotGood}
+use Rattle.slots.proofs.laws.HandleLaws.{good-says, why-some}
 use Rattle.point_records.specs.declared.State.the-variants.{Removed}
 use Rattle.point_records.specs.Meaning.Occupied.{InDomain}
 use Rattle.point_records.specs.Meaning.States.{isRemoved, aimed}
@@ -37,22 +37,22 @@ pub record Removable (t : Tables) (h : Handle) : Type 0 where
   pub held : Holds t
   pub names : Named t h
 
-four : (a b c d : Bool) → orElse a 3 (orElse b 6 (orElse c 5 (orElse d 1 0))) ≡ 0 → (a ≡ true) × (b ≡ true) × (c ≡ true) × (d ≡ true)
-four true true true true e = (refl, refl, refl, refl)
-four true true true false e = absurd (omega arith)
-four true true false d e = absurd (omega arith)
-four true false c d e = absurd (omega arith)
-four false b c d e = absurd (omega arith)
+four : (a b c d : Bool) (n : ℕ) → (n ≡ 0 → ⊥) → orElse a 3 (orElse b 6 (orElse c n (orElse d 1 0))) ≡ 0 → (a ≡ true) × (b ≡ true) × (c ≡ true) × (d ≡ true)
+four true true true true n z e = (refl, refl, refl, refl)
+four true true true false n z e = absurd (omega arith)
+four true true false d n z e = absurd (z e)
+four true false c d n z e = absurd (omega arith)
+four false b c d n z e = absurd (omega arith)
 
-two : (a b : Bool) → orElse a 3 (orElse b 5 0) ≡ 0 → (a ≡ true) × (b ≡ true)
-two true true e = (refl, refl)
-two true false e = absurd (omega arith)
-two false b e = absurd (omega arith)
+two : (a b : Bool) (n : ℕ) → (n ≡ 0 → ⊥) → orElse a 3 (orElse b n 0) ≡ 0 → (a ≡ true) × (b ≡ true)
+two true true n z e = (refl, refl)
+two true false n z e = absurd (z e)
+two false b n z e = absurd (omega arith)
 
 pub set-accepted : (t : Tables) (h : Handle) (at : Position) → setPositionAnswer t h at ≡ 0 → Settable t h at
 unfolding setPositionAnswer
 set-accepted t h at e =
-    let f = four (holds t) (positionInDomain at) (good (t .nums) (h .slot) (h .version)) (not (isRemoved (recordOn t (h .slot) .state))) e in
+    let f = four (holds t) (positionInDomain at) (good (t .nums) (h .slot) (h .version)) (not (isRemoved (recordOn t (h .slot) .state))) (whyNotGood (t .nums) h) (why-some (t .nums) h) e in
     record {
       held = holds-says t .yes (f .0);
       in-domain = subst T (sym (f .1)) tt;
@@ -63,7 +63,7 @@ set-accepted t h at e =
 pub remove-accepted : (t : Tables) (h : Handle) → removeAnswer t h ≡ 0 → Removable t h
 unfolding removeAnswer
 remove-accepted t h e =
-    let f = two (holds t) (good (t .nums) (h .slot) (h .version)) e in
+    let f = two (holds t) (good (t .nums) (h .slot) (h .version)) (whyNotGood (t .nums) h) (why-some (t .nums) h) e in
     record { held = holds-says t .yes (f .0); names = named t h (f .1) }
 
 -- ---- the outcome, refused and accepted

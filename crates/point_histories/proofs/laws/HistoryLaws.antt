@@ -1,5 +1,5 @@
 -- The length law: since an accepted `new`, the number of objects is that of the accepted inserts less the objects taken out. Assumes nothing.
-use Rattle.basics.specs.Words.{ℕ, _+_, _≡_, refl, sym, ap, _∙_, Bool, true, false, List, [], _∷_, eqb, arith, eqb-true, eqb-false}
+use Rattle.basics.specs.Words.{ℕ, _+_, _≡_, refl, sym, ap, _∙_, Bool, true, false, List, [], _∷_, eqb, arith, eqb-true, eqb-false, ne-eqb}
 use lib.Ieee.{Float}
 use Rattle.basics.proofs.laws.Says.{apart, says-t}
 use Rattle.geometry.specs.declared.Position.{Position}
@@ -7,6 +7,8 @@ use Rattle.geometry.specs.Meaning.Domain.{positionInDomain}
 use Rattle.slots.specs.declared.Handle.{Handle}
 use Rattle.slots.specs.declared.Usable.{Usable}
 use Rattle.slots.specs.declared.Usable.the-variants.{At, Nothing}
+use Rattle.slots.specs.Meaning.Slot.{whyNotGood}
+use Rattle.slots.proofs.laws.HandleLaws.{why-some}
 use Rattle.slots.proofs.laws.SlotLaws.{lowest-free}
 use Rattle.storage.proofs.laws.FilterLaws.{by-test}
 use Rattle.point_tables.specs.Meaning.Tables.{Tables, usedOf}
@@ -87,7 +89,7 @@ module _ (t : Tables) (h : Holds t) where
   taken-used g =
       by-test (isGood t g)
       (λ e. rw (ap (λ w. w .result .answer) (remove-done t g (holds-says t .no h) e)) (remove-count t g h e))
-      (λ e. rw (remove-lost t g (holds-says t .no h) e) (omega arith))
+      (λ e. rw (remove-lost t g (holds-says t .no h) e, ne-eqb (whyNotGood (t .nums) g) 0 (why-some (t .nums) g)) (omega arith))
 
   cleared-used : (ps : List (List Float)) (os : List ℕ) → usedOf (clearOf t ps os .after) + accepted (clearOf t ps os .result .returned .answer) (clearOf t ps os .result .returned .count) ≡ usedOf t
   cleared-used ps os =

@@ -16,7 +16,7 @@ use Rattle.replies.specs.Meaning.Replies.{reply}
 use Rattle.point_deferred.specs.Meaning.Moves.{pended, setPositionAnswer, setPositionOf, removeAnswer, removeOf}
 use Rattle.records.specs.Inner.Alike.{Alike, withColumns}
 use Rattle.records.proofs.laws.Alike.{Respects}
-use Rattle.records.proofs.laws.AlikeLaws.{both-hold, good-alike}
+use Rattle.records.proofs.laws.AlikeLaws.{both-hold, good-alike, gone-alike}
 use Rattle.records.proofs.laws.StoredLaws.{stored-alike}
 use Rattle.record_histories.proofs.laws.SameLaws.{Same, same-pick, to-respect}
 
@@ -38,7 +38,7 @@ module _ (t u : Tables) where
     module _ (h : Holds t) (k : Holds v) where
       set-answer : (g : Handle) (at : Position) → setPositionAnswer t g at ≡ setPositionAnswer v g at
       unfolding setPositionAnswer
-      set-answer g at = cc (both-hold t v like h k, good-alike t v like (g .slot) (g .version), like .each (g .slot))
+      set-answer g at = cc (both-hold t v like h k, good-alike t v like (g .slot) (g .version), gone-alike t v like (g .slot) (g .version), like .each (g .slot))
 
       set-same : (g : Handle) (at : Position) → Same (setPositionOf t g at) (setPositionOf v g at)
       unfolding setPositionOf
@@ -50,7 +50,7 @@ module _ (t u : Tables) where
 
       remove-answer : (g : Handle) → removeAnswer t g ≡ removeAnswer v g
       unfolding removeAnswer
-      remove-answer g = cc (both-hold t v like h k, good-alike t v like (g .slot) (g .version))
+      remove-answer g = cc (both-hold t v like h k, good-alike t v like (g .slot) (g .version), gone-alike t v like (g .slot) (g .version))
 
       remove-same : (g : Handle) → Same (removeOf t g) (removeOf v g)
       unfolding removeOf

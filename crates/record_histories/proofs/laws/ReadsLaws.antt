@@ -17,7 +17,7 @@ use Rattle.point_query.specs.Meaning.Queries.{aroundOf}
 use Rattle.geometry.specs.Meaning.Circle.{cornerBelow, cornerAbove}
 use Rattle.records.specs.Inner.Alike.{Alike, withColumns}
 use Rattle.records.proofs.laws.Alike.{Reads}
-use Rattle.records.proofs.laws.AlikeLaws.{both-hold, good-alike}
+use Rattle.records.proofs.laws.AlikeLaws.{both-hold, good-alike, gone-alike}
 use Rattle.record_histories.proofs.laws.SameLaws.{to-read}
 
 map-same : {A B : Type 0} (f g : A → B) → ((x : A) → f x ≡ g x) → (l : List A) → map f l ≡ map g l
@@ -50,7 +50,7 @@ module _ (t u : Tables) where
     module _ (h : Holds t) (k : Holds v) where
       get-same : (g : Handle) → getOf t g ≡ getOf v g
       unfolding getOf
-      get-same g = cc (both-hold t v like h k, good-alike t v like (g .slot) (g .version), like .each (g .slot))
+      get-same g = cc (both-hold t v like h k, good-alike t v like (g .slot) (g .version), gone-alike t v like (g .slot) (g .version), like .each (g .slot))
 
       len-same : lenOf t ≡ lenOf v
       unfolding lenOf liveHandles

@@ -2,7 +2,7 @@
 use Rattle.basics.specs.Words.{ℕ, _+_, _*_, _≤_, _<_, _≡_, refl, sym, ap, subst, _∙_, getD}
 use Rattle.cells.specs.Meaning.Key.{keyOf}
 use Rattle.slots.specs.Meaning.Map.{head, wordsFor, usable}
-use Rattle.slots.specs.Meaning.Slot.{phaseAt, good, SlotHolds}
+use Rattle.slots.specs.Meaning.Slot.{phaseAt, good, gone, SlotHolds}
 use Rattle.storage.specs.Meaning.Packed.{second}
 use Rattle.point_records.specs.declared.Record.{Record}
 use Rattle.point_records.specs.Meaning.Columns.{tagOf}
@@ -97,3 +97,7 @@ module _ (t u : Tables) (like : Alike t u) where
   pub good-alike : (slot version : ℕ) → good (t .nums) slot version ≡ good (u .nums) slot version
   unfolding good
   good-alike slot version = cc (like .of-nums, ap (λ (r : Record). r .phase) (like .each slot), ap (λ (r : Record). r .version) (like .each slot))
+
+  pub gone-alike : (slot version : ℕ) → gone (t .nums) slot version ≡ gone (u .nums) slot version
+  unfolding gone
+  gone-alike slot version = cc (like .of-nums, ap (λ (r : Record). r .phase) (like .each slot), ap (λ (r : Record). r .version) (like .each slot))

@@ -1,14 +1,16 @@
 -- Clearing slot by slot: the rows of which the first are cleared, and the map with their bits; and each slot after it. Assumes nothing.
 use Rattle.basics.specs.Words.{ℕ, zero, suc, _+_, _/_, _<_, _≤_, _≡_, refl, sym, ap, _∙_, subst, Bool, true, false, List, [], _∷_, _++_, map, map-append}
-use Rattle.basics.specs.Words.{append-nil, append-assoc, ⊎-elim, length, getD, take, drop, length-append, length-map, List·getD-map, take-append-drop, take-suc}
-use Rattle.basics.specs.Words.{take-length, drop-length, drop-cons, length-take-le, getD-at, set-at, eqb, add-one, arith, eqb-true, eq-eqb, ne-eqb}
+use Rattle.basics.specs.Words.{append-nil, append-assoc, inr, ⊎-elim, length, getD, take, drop, length-append, length-map, List·getD-map, take-append-drop}
+use Rattle.basics.specs.Words.{take-suc, take-length, drop-length, drop-cons, length-take-le, getD-at, set-at, eqb, add-one, arith, eqb-true, eq-eqb, ne-eqb}
 use Rattle.basics.specs.Meaning.Refusals.{pick}
 use Rattle.basics.proofs.laws.Says.{d-eq}
 use Rattle.slots.specs.Meaning.Map.{head, wordsFor, givenBack}
 use Rattle.slots.proofs.laws.MapLaws.{given-back-length, given-back-head}
-use Rattle.slots.specs.Meaning.Slot.{free, live, retired, lastVersion, versionAt, phaseAt, nextVersion, nextPhase, good, emptiedRow, emptiedNums}
+use Rattle.slots.specs.Meaning.Slot.{free, live, retired, lastVersion, versionAt, phaseAt, nextVersion, nextPhase, good, gone, emptiedRow, emptiedNums}
 use Rattle.slots.specs.Meaning.Slot.{emptiedMap, SlotsHold}
 use Rattle.slots.proofs.laws.HandleLaws.{good-says}
+use Rattle.slots.proofs.laws.GoneLaws.{gone-says, next-gone}
+use Rattle.slots.proofs.laws.OnwardLaws.{Onward, later-emptied}
 use Rattle.slots.proofs.laws.SlotLaws.{emptied-holds}
 use Rattle.slot_walks.specs.Meaning.Live.{rowLive}
 use Rattle.slot_walks.specs.Meaning.Cleared.{clearedRow, clearedBit, clearedMap, clearedRows}
@@ -153,6 +155,24 @@ module _ (nums : List (List ℕ)) where
   -- every other slot stays as it was
   pub cleared-idle : (s : ℕ) → (phaseAt nums s ≡ live → ⊥) → getD (clearedRows nums) s [] ≡ getD nums s []
   cleared-idle s n = cleared-row s ∙ rw (ne-eqb (phaseAt nums s) live n)
+
+  -- so every slot goes onward, and a good handle is gone, at the last version too
+  pub onward-cleared : Onward nums (clearedRows nums)
+  onward-cleared =
+      record {
+        as-long = length-map nums clearedRow;
+        each = λ s l.
+            ⊎-elim
+            (λ e. let r = cleared-live s e in rw (r .0, r .1) (later-emptied (versionAt nums s) (phaseAt nums s)))
+            (λ n. rw (cleared-idle s n) (inr (refl, λ k. omega arith)))
+            (d-eq (phaseAt nums s) live);
+      }
+
+  pub cleared-row-gone : (s v : ℕ) → good nums s v ≡ true → 1 ≤ v → gone (clearedRows nums) s v ≡ true
+  cleared-row-gone s v e l =
+      let g = good-says nums s v .yes e in
+      let r = cleared-live s (g .1) in
+      gone-says (clearedRows nums) s v .no (omega (arith, length-map nums clearedRow, g .0), rw (r .0, r .1) (next-gone (versionAt nums s) v (g .2) l))
 
   pub cleared-none : (s : ℕ) → phaseAt (clearedRows nums) s ≡ live → ⊥
   cleared-none s e =

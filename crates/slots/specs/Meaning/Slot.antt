@@ -1,5 +1,5 @@
--- A slot's version and phase, which stand first in its row of numbers, and when a handle is good. Assumes nothing.
-use Rattle.basics.specs.Words.{ℕ, _+_, _*_, _≤_, _<_, _≡_, Bool, _&&_, List, [], _∷_, length, getD, set, drop, eqb, ltb}
+-- A slot's version and phase, which stand first in its row of numbers, and when a handle is good, gone or never issued. Assumes nothing.
+use Rattle.basics.specs.Words.{ℕ, _+_, _*_, _≤_, _<_, _≡_, Bool, not, _&&_, _||_, List, [], _∷_, length, getD, set, drop, eqb, leb, ltb}
 use Rattle.basics.specs.Meaning.Refusals.{Refusal, unless, firstOf, pick}
 use Rattle.slots.specs.declared.Handle.{Handle}
 use Rattle.slots.specs.Meaning.Map.{wordsFor, usable, givenBack}
@@ -27,9 +27,23 @@ phaseAt nums s = getD (getD nums s []) 1 0
 unfoldable pub good : List (List ℕ) → ℕ → ℕ → Bool
 good nums slot version = ltb slot (length nums) && (eqb (phaseAt nums slot) live && eqb (versionAt nums slot) version)
 
--- ---- why a handle is refused: 5, it is not good. Every call that takes a handle has this test in its place
+-- it is gone: its slot exists, and its version is at least 1 and below the slot's, or the slot is retired and at that version
+unfoldable pub gone : List (List ℕ) → ℕ → ℕ → Bool
+gone nums slot version =
+    ltb slot (length nums)
+    && ((leb 1 version && ltb version (versionAt nums slot)) || (eqb (phaseAt nums slot) retired && eqb (versionAt nums slot) version))
+
+-- every other handle that is not good was never issued
+abbrev pub neverIssued : List (List ℕ) → ℕ → ℕ → Bool
+neverIssued nums slot version = not (good nums slot version) && not (gone nums slot version)
+
+-- ---- why a handle that is not good is refused: 12, it is gone; 11, it was never issued
+abbrev pub whyNotGood : List (List ℕ) → Handle → ℕ
+whyNotGood nums h = pick (gone nums (h .slot) (h .version)) 12 11
+
+-- every call that takes a handle has this test in its place
 abbrev pub handleTest : List (List ℕ) → Handle → Refusal
-handleTest nums h = unless (good nums (h .slot) (h .version)) 5
+handleTest nums h = unless (good nums (h .slot) (h .version)) (whyNotGood nums h)
 
 -- 0, or why it is refused
 abbrev pub handleRefusal : List (List ℕ) → Handle → ℕ

@@ -1,8 +1,7 @@
 -- Keys in and out of a window, and how the walk of a sorted pool skips those that are out. Assumes nothing.
 use Rattle.basics.specs.Words.{ℕ, _+_, _*_, _<_, _≤_, _≡_, true, false, List, [], ⊎-elim, length, take, arith}
-use Rattle.basics.proofs.laws.Says.{not-said, says-and, d-lt}
+use Rattle.basics.proofs.laws.Says.{not-said, says-and, leb-says, d-lt}
 use Rattle.cells.specs.Inner.Key.{columnOf, lineOf}
-use Rattle.cells.proofs.laws.RangeKeyLaws.{leb-says}
 use Rattle.storage.specs.Inner.Keyed.{Sorted}
 use Rattle.storage.specs.Meaning.Keyed.{below}
 use Rattle.storage.specs.Meaning.Entries.{rowKey}

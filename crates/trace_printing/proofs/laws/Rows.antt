@@ -6,8 +6,8 @@ use Rattle.trace_decimals.specs.Meaning.Text.{decimal, signedText}
 use Rattle.trace_printing.specs.declared.Said.the-variants.{Refused, One, Two, Points}
 use Rattle.trace_printing.specs.Meaning.Said.{recordText}
 
--- 5
-refused : recordText (Refused 5) [] [] [] [] ≡ 53 ∷ 13 ∷ 10 ∷ []
+-- 12
+refused : recordText (Refused 12) [] [] [] [] ≡ 49 ∷ 50 ∷ 13 ∷ 10 ∷ []
 unfolding recordText decimal
 refused = refl
 

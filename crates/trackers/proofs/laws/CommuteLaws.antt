@@ -5,7 +5,8 @@ use Rattle.basics.proofs.laws.Says.{d-eq}
 use Rattle.basics.specs.Meaning.Refusals.{orElse, pick}
 use Rattle.geometry.specs.Meaning.Domain.{positionInDomain}
 use Rattle.slots.specs.declared.Handle.{Handle}
-use Rattle.slots.specs.Meaning.Slot.{versionAt, good}
+use Rattle.slots.specs.Meaning.Slot.{versionAt, good, gone, whyNotGood}
+use Rattle.slots.proofs.laws.HandleLaws.{why-some}
 use Rattle.storage.proofs.laws.FilterLaws.{by-test}
 use Rattle.point_records.specs.declared.State.{State}
 use Rattle.point_records.specs.declared.Record.{Record}
@@ -27,33 +28,34 @@ use Rattle.point_deferred.proofs.laws.HeldLaws.{call-held, held-accepted, held-
 use Rattle.trackers.proofs.laws.PendedCommuteLaws.{pended-commute}
 use Rattle.replies.specs.Meaning.Replies.{reply}
 
--- ---- what a call looks at in the tables: the head of the map, whether its handle is good, and the record of a good handle
+-- ---- what a call looks at in the tables: the head of the map, whether its handle is good and else why not, and the record of a good handle
 record Unseen (t u : Tables) (c : Call) : Type 0 where
   map : u .map ≡ t .map
   handle : good (u .nums) (c .handle .slot) (c .handle .version) ≡ good (t .nums) (c .handle .slot) (c .handle .version)
+  why : whyNotGood (u .nums) (c .handle) ≡ whyNotGood (t .nums) (c .handle)
   object : good (t .nums) (c .handle .slot) (c .handle .version) ≡ true → recordOn u (c .handle .slot) ≡ recordOn t (c .handle .slot)
 
-refusal-same : (nums ons : List (List ℕ)) (x y : State) (c : Call) (b : Bool) → good ons (c .handle .slot) (c .handle .version) ≡ b → good nums (c .handle .slot) (c .handle .version) ≡ b → (b ≡ true → y ≡ x)
-    → refusalOf ons y c ≡ refusalOf nums x c
+refusal-same : (nums ons : List (List ℕ)) (x y : State) (c : Call) (b : Bool) → good ons (c .handle .slot) (c .handle .version) ≡ b → good nums (c .handle .slot) (c .handle .version) ≡ b → whyNotGood ons (c .handle) ≡ whyNotGood nums (c .handle)
+    → (b ≡ true → y ≡ x) → refusalOf ons y c ≡ refusalOf nums x c
 unfolding setRefusal removeRefusal
-refusal-same nums ons x y c true e f h = rw (e, f, h refl)
-refusal-same nums ons x y c false e f h = rw (e, f)
+refusal-same nums ons x y c true e f w h = rw (e, f, h refl)
+refusal-same nums ons x y c false e f w h = rw (e, f, w)
 
 unseen-answer : (t u : Tables) (c : Call) → Unseen t u c → heldAnswer u c ≡ heldAnswer t c
 unseen-answer t u c e =
-    refusal-same (t .nums) (u .nums) (recordOn t (c .handle .slot) .state) (recordOn u (c .handle .slot) .state) c (good (t .nums) (c .handle .slot) (c .handle .version)) (e .handle) refl
+    refusal-same (t .nums) (u .nums) (recordOn t (c .handle .slot) .state) (recordOn u (c .handle .slot) .state) c (good (t .nums) (c .handle .slot) (c .handle .version)) (e .handle) refl (e .why)
     (λ g. ap (λ (r : Record). r .state) (e .object g))
 
 -- an accepted call: its handle is good
-bad-refused : (k d : Bool) → pick k (orElse d 6 5) 5 ≡ 0 → ⊥
-bad-refused true true e = omega arith
-bad-refused true false e = omega arith
-bad-refused false d e = omega arith
+bad-refused : (k d : Bool) (n : ℕ) → (n ≡ 0 → ⊥) → pick k (orElse d 6 n) n ≡ 0 → ⊥
+bad-refused true true n z e = z e
+bad-refused true false n z e = omega arith
+bad-refused false d n z e = z e
 
 accepted-good : (t : Tables) (c : Call) → heldAnswer t c ≡ 0 → good (t .nums) (c .handle .slot) (c .handle .version) ≡ true
 unfolding setRefusal removeRefusal
 accepted-good t c e =
-    by-test (good (t .nums) (c .handle .slot) (c .handle .version)) (λ q. q) (λ q. absurd (bad-refused (eqb (c .kind) 0) (positionInDomain (c .at)) (rw q at e)))
+    by-test (good (t .nums) (c .handle .slot) (c .handle .version)) (λ q. q) (λ q. absurd (bad-refused (eqb (c .kind) 0) (positionInDomain (c .at)) (whyNotGood (t .nums) (c .handle)) (why-some (t .nums) (c .handle)) (rw q at e)))
 
 -- what is returned, and what becomes pending, is the same
 module _ (t u : Tables) (c : Call) (e : Unseen t u c) where
@@ -77,7 +79,7 @@ module _ (t u : Tables) (c : Call) (e : Unseen t u c) where
       ∙ ap (λ (m : List ℕ). pended u (c .handle .slot) (nextState (getD m 0 0) (recordOn t (c .handle .slot)) (c .kind) (c .at))) (e .map)
 
 unseen-self : (t : Tables) (c : Call) → Unseen t t c
-unseen-self t c = record { map = refl; handle = refl; object = λ g. refl }
+unseen-self t c = record { map = refl; handle = refl; why = refl; object = λ g. refl }
 
 -- ---- two versions of a slot are not both good, so that good handles that differ have different slots
 same-handle : (g h : Handle) → g .slot ≡ h .slot → g .version ≡ h .version → g ≡ h
@@ -86,10 +88,14 @@ same-handle g h e f = ap₂ {C = Handle} (λ (s v : ℕ). record { slot = s; ver
 other-slot : (t : Tables) (g h : Handle) → good (t .nums) (g .slot) (g .version) ≡ true → good (t .nums) (h .slot) (h .version) ≡ true → (g ≡ h → ⊥) → g .slot ≡ h .slot → ⊥
 other-slot t g h a b n e = n (same-handle g h e (sym (named t g a .version) ∙ ap (versionAt (t .nums)) e ∙ named t h b .version))
 
--- a pending state changes no handle
+-- a pending state touches no version and no phase, so it changes no handle: what is good stays good, what is gone stays gone
 good-kept : (t : Tables) (s : ℕ) (x : State) → Ready t → s < slotsOf t → (j v : ℕ) → good (pended t s x .nums) j v ≡ good (t .nums) j v
 unfolding good
 good-kept t s x ready l j v = rw (nums-long t s x, kept t s x ready l (λ (r : Record). r .phase) refl j, kept t s x ready l (λ (r : Record). r .version) refl j)
+
+gone-kept : (t : Tables) (s : ℕ) (x : State) → Ready t → s < slotsOf t → (j v : ℕ) → gone (pended t s x .nums) j v ≡ gone (t .nums) j v
+unfolding gone
+gone-kept t s x ready l j v = rw (nums-long t s x, kept t s x ready l (λ (r : Record). r .phase) refl j, kept t s x ready l (λ (r : Record). r .version) refl j)
 
 -- ---- a call with another handle changes nothing that a call looks at
 unseen : (t : Tables) → Ready t → (c d : Call) → (c .handle ≡ d .handle → ⊥) → Unseen t (heldOf t d .after) c
@@ -103,6 +109,7 @@ unseen t ready c d n =
     (record {
       map = map-kept t s x;
       handle = good-kept t s x ready l (c .handle .slot) (c .handle .version);
+      why = ap (λ (b : Bool). pick b 12 11) (gone-kept t s x ready l (c .handle .slot) (c .handle .version));
       object = λ g. record-other t s x ready l (c .handle .slot) (other-slot t (c .handle) (d .handle) g (accepted-good t d q) n);
     }))
     (λ m. rw (unseen-refused t t d (unseen-self t d) m) (unseen-self t c))

@@ -1,6 +1,6 @@
 -- Why no handle may be shared, and why a tracker's own order is kept: a removal and a move of one object reply otherwise in the other
 -- order. Assumes nothing.
-use Rattle.basics.specs.Words.{ℕ, _≡_, refl, sym, ap, _∙_, true, List, [], _∷_, ⊎-elim, eqb, arith, eq-eqb}
+use Rattle.basics.specs.Words.{ℕ, _≡_, refl, sym, ap, _∙_, true, List, [], _∷_, inl, inr, eqb, arith, eq-eqb}
 use Rattle.geometry.specs.declared.Position.{Position}
 use Rattle.slots.specs.declared.Handle.{Handle}
 use Rattle.slots.specs.Meaning.Slot.{good}
@@ -12,7 +12,7 @@ use Rattle.replies.specs.declared.Reply.{Reply}
 use Rattle.point_deferred.specs.Meaning.Moves.{setPositionOf, removeOf, setPositionAnswer, removeAnswer}
 use Rattle.point_deferred.specs.Meaning.Calls.{callOf, replies}
 use Rattle.point_deferred.specs.Inner.Held.{call}
-use Rattle.point_deferred.proofs.laws.AnswerLaws.{set-answer-is, remove-answers}
+use Rattle.point_deferred.proofs.laws.AnswerLaws.{Among, set-answer-is, remove-answers}
 use Rattle.point_deferred.proofs.laws.AgainLaws.{removed-stays}
 use Rattle.point_deferred.proofs.laws.MovesLaws.{set-accepted}
 use Rattle.trackers.specs.Meaning.Merges.{those, Alike}
@@ -37,7 +37,14 @@ module _ (t : Tables) (h : Handle) (at : Position) (e : setPositionAnswer t h at
   move-after = set-answer-is (removeOf t h .after) h at ∙ removed-stays t h removable at (set-accepted t h at e .in-domain)
 
   removal-after : removeOf (setPositionOf t h at .after) h .result .answer ≡ 1 → ⊥
-  removal-after q = ⊎-elim (λ z. omega (arith, z)) (λ x. ⊎-elim (λ z. omega (arith, z)) (λ y. ⊎-elim (λ z. omega (arith, z)) (λ z. z) y) x) (remove-answers (setPositionOf t h at .after) h)
+  removal-after q = go (remove-answers (setPositionOf t h at .after) h)
+    where
+      go : Among (0 ∷ 3 ∷ 11 ∷ 12 ∷ []) (removeOf (setPositionOf t h at .after) h .result .answer) → ⊥
+      go (inl z) = omega (arith, z, q)
+      go (inr (inl z)) = omega (arith, z, q)
+      go (inr (inr (inl z))) = omega (arith, z, q)
+      go (inr (inr (inr (inl z)))) = omega (arith, z, q)
+      go (inr (inr (inr (inr z)))) = z
 
   -- tracker j removes an object that tracker k moves, which may be the same tracker
   pub order-matters : (j k : ℕ) → Alike t (turn j (call 1 h at) ∷ turn k (call 0 h at) ∷ []) (turn k (call 0 h at) ∷ turn j (call 1 h at) ∷ []) → ⊥

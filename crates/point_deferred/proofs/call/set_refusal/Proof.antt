@@ -2,7 +2,7 @@
 use Rattle.basics.specs.Words.{ℕ, _<_, _≡_, ap, sym, _∙_, Bool, true, false, [], length, getD, arith, not-true, not-false, needs}
 use Rattle.basics.specs.Meaning.Refusals.{orElse}
 use Rattle.geometry.specs.Meaning.Domain.{positionInDomain}
-use Rattle.slots.specs.Meaning.Slot.{good}
+use Rattle.slots.specs.Meaning.Slot.{good, whyNotGood}
 use Rattle.slots.proofs.laws.HandleLaws.{good-says, not-refused}
 use Rattle.point_records.specs.Meaning.Columns.{tagIn, recordAt}
 use Rattle.point_records.specs.Meaning.States.{isRemoved}
@@ -37,7 +37,7 @@ returns-2 c =
     let q = c .before .refusal-of .ensures in
     let a = c .before .before .before .before .args in
     let f : good (a .nums .now) (a .h .slot) (a .h .version) ≡ false = not-good (a .nums .now) (a .h) _ q (c .if2 .taken) in
-    rw (near (c .before .before), f) (q ∙ ap (λ (b : Bool). orElse b 5 0) f)
+    rw (near (c .before .before), f) (q ∙ ap (λ (b : Bool). orElse b (whyNotGood (a .nums .now) (a .h)) 0) f)
 
 returns-3 : tie.Need-returns-3
 unfolding setRefusal
