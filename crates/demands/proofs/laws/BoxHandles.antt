@@ -3,7 +3,7 @@
 use Rattle.basics.specs.Words.{ℕ, _≡_, refl, Bool, true, false, _||_, List, [], _∷_}
 use Rattle.geometry.specs.declared.Aabb.{Aabb}
 use Rattle.slots.specs.declared.Handle.{Handle}
-use Rattle.slots.specs.Meaning.Slot.{good, gone, handleRefusal}
+use Rattle.slots.specs.Meaning.Slot.{gone, handleRefusal}
 use Rattle.slots.proofs.laws.HandleLaws.{issued-no-11}
 use Rattle.slots.proofs.laws.OnwardLaws.{Onward, onward-none, Lasting, lasting-none, lasting-then, onward-lasting}
 use Rattle.storage.specs.Meaning.Keyed.{All}
@@ -13,6 +13,7 @@ use Rattle.box_tables.specs.Meaning.Decide.{holds, holds-says}
 use Rattle.box_insert.specs.Meaning.Insert.{insertOf}
 use Rattle.box_set.specs.Meaning.SetAabb.{setAabbOf}
 use Rattle.box_remove.specs.Meaning.Remove.{removeOf}
+use Rattle.box_remove.proofs.laws.RemoveLaws.{isGood}
 use Rattle.box_clear.specs.Meaning.Clear.{clearOf}
 use Rattle.box_histories.specs.Inner.History as Changes
 use Rattle.box_histories.proofs.laws.OnwardLaws.{after-onward, insert-good}
@@ -23,9 +24,6 @@ use Rattle.demands.proofs.laws.BoxDemands.{keeps-a-grid}
 -- any call but building
 abbrev pub NotBuilding : BoxCall → Type 0
 NotBuilding c = (size : ℕ) → c ≡ new size → ⊥
-
-abbrev pub isGood : Tables → Handle → Bool
-isGood t h = good (t .nums) (h .slot) (h .version)
 
 abbrev pub isGone : Tables → Handle → Bool
 isGone t h = gone (t .nums) (h .slot) (h .version)

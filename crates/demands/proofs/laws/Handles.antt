@@ -4,7 +4,7 @@ use Rattle.basics.specs.Words.{ℕ, _≡_, refl, sym, _∙_, Bool, true, false,
 use Rattle.basics.proofs.laws.Says.{apart, not-said}
 use Rattle.geometry.specs.declared.Position.{Position}
 use Rattle.slots.specs.declared.Handle.{Handle}
-use Rattle.slots.specs.Meaning.Slot.{good, gone, handleRefusal}
+use Rattle.slots.specs.Meaning.Slot.{gone, handleRefusal}
 use Rattle.slots.proofs.laws.HandleLaws.{issued-no-11}
 use Rattle.slots.proofs.laws.OnwardLaws.{Onward, onward-none, Lasting, lasting-none, lasting-then, onward-lasting, onward-then}
 use Rattle.storage.specs.Meaning.Keyed.{All}
@@ -16,6 +16,7 @@ use Rattle.point_deferred.specs.Meaning.Moves.{setPositionOf, removeOf}
 use Rattle.point_batch.specs.Meaning.Batch.{even, batchOf}
 use Rattle.point_maintain.specs.Meaning.Maintain.{maintainOf}
 use Rattle.point_remove.specs.Meaning.RemoveMaintain.{removeMaintainOf}
+use Rattle.point_remove.proofs.laws.RemoveLaws.{isGood}
 use Rattle.point_clear.specs.Meaning.Clear.{clearOf}
 use Rattle.point_histories.specs.Inner.History as Changes
 use Rattle.point_histories.proofs.laws.OnwardLaws.{calls-onward, after-onward, insert-good}
@@ -34,9 +35,6 @@ use Rattle.demands.proofs.laws.Demands.{keeps-a-grid}
 -- any call but building
 abbrev pub NotBuilding : PointCall → Type 0
 NotBuilding c = (size : ℕ) → c ≡ new size → ⊥
-
-abbrev pub isGood : Tables → Handle → Bool
-isGood t h = good (t .nums) (h .slot) (h .version)
 
 abbrev pub isGone : Tables → Handle → Bool
 isGone t h = gone (t .nums) (h .slot) (h .version)
