@@ -1,9 +1,7 @@
 -- What follows from tables that hold a grid: lengths, the order of the entries, what each names; and, the other way, tables that hold a
 -- grid by facts of the list of their entries. Assumes nothing.
-use Rattle.basics.specs.Words.{ℕ, _/_, _<_, _≤_, _≡_, sym, ap, _∙_, subst, Bool, false, List, [], inl, inr, length, length-take-le, eqb, arith, eqb-true}
-use Rattle.basics.specs.Words.{eq-eqb, ne-eqb}
-use Rattle.basics.specs.Meaning.Says.{Says}
-use Rattle.basics.proofs.laws.Says.{says-same, says-via, d-lt}
+use Rattle.basics.specs.Words.{ℕ, _/_, _<_, _≤_, _≡_, sym, ap, _∙_, subst, Bool, false, List, [], inl, inr, length, length-take-le, eqb, arith, ne-eqb}
+use Rattle.basics.proofs.laws.Says.{says-same, says-via, eqb-says, d-lt}
 use Rattle.cells.specs.Inner.Numbers.{Near}
 use Rattle.slots.specs.Meaning.Slot.{live, phaseAt, SlotsHold}
 use Rattle.storage.specs.Meaning.Keyed.{All, filter}
@@ -35,9 +33,6 @@ pub record Listing (t : Tables) (rows : List (List ℕ)) : Type 0 where
   pub ordered : Sorted rowKey rows
   pub each : All (Named t) rows
   pub every : (s : ℕ) → s < slotsOf t → phaseAt (t .nums) s ≡ live → StandsOn t rows s
-
-eqb-says : (a b : ℕ) → Says (eqb a b) (a ≡ b)
-eqb-says a b = record { yes = eqb-true a b; no = eq-eqb a b }
 
 pub named-slot : (t : Tables) (r : List ℕ) (w : Named t r) → slotOf r ≡ w .slot
 named-slot t r w = ap (λ (i : ℕ). i / 2) (w .item) ∙ item-slot (w .slot) (eqb (covers (sizeOf t) (aabbOn t (w .slot))) 1)
