@@ -41,16 +41,15 @@ pub cut-mid : (e t : ℕ) → 127 ≤ e → e ≤ 157 → (t + 8388608) * 2 ^ e 
 unfolding cutFields
 cut-mid e t g h = simp (le-ltb e 127 g, le-ltb 157 e h)
 
--- p is the power of two that the table has
-module _ (e t p : ℕ) where
-  pub cut-down : p ≡ 2 ^ (150 - e) → 127 ≤ e → e ≤ 157 → e ≤ 150 → (t + 8388608) / p ≡ cutFields e t
-  cut-down i g h k = ap (λ (n : ℕ). (t + 8388608) / n) i ∙ shifted-down (t + 8388608) e k ∙ cut-mid e t g h
+module _ (e t : ℕ) where
+  pub cut-down : 127 ≤ e → e ≤ 157 → e ≤ 150 → (t + 8388608) / 2 ^ (150 - e) ≡ cutFields e t
+  cut-down g h k = shifted-down (t + 8388608) e k ∙ cut-mid e t g h
 
-  pub cut-up : p ≡ 2 ^ (e - 150) → 127 ≤ e → e ≤ 157 → 150 < e → (t + 8388608) * p ≡ cutFields e t
-  cut-up i g h k = ap (λ (n : ℕ). (t + 8388608) * n) i ∙ shifted-up (t + 8388608) e (omega arith) ∙ cut-mid e t g h
+  pub cut-up : 127 ≤ e → e ≤ 157 → 150 ≤ e → (t + 8388608) * 2 ^ (e - 150) ≡ cutFields e t
+  cut-up g h k = shifted-up (t + 8388608) e k ∙ cut-mid e t g h
 
-  pub scaled-fits : p ≡ 2 ^ (e - 150) → t < 8388608 → e ≤ 157 → (t + 8388608) * p < 2 ^ 32
-  scaled-fits i d h = subst (λ (n : ℕ). (t + 8388608) * n < 2 ^ 32) (sym i) (lt-of-lt-of-le (shl-lt 24 (e - 150) (with-lead t d)) (pow-mono (room e h)))
+  pub scaled-fits : t < 8388608 → e ≤ 157 → (t + 8388608) * 2 ^ (e - 150) < 2 ^ 32
+  scaled-fits d h = lt-of-lt-of-le (shl-lt 24 (e - 150) (with-lead t d)) (pow-mono (room e h))
 
 -- ---- `toSigned` of a value
 abbrev pub capped : Bool → ℕ → ℤ

@@ -1,5 +1,4 @@
 -- What the proofs of this crate's functions share.
-pub mod Table
 pub mod Fields
 pub mod Signs
 pub mod Edges

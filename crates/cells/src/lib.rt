@@ -1,5 +1,5 @@
 // The cell of a coordinate and of a position, ranges of cells and the keys of cells: the arithmetic of src/storage.rs.
-ghost use Rattle.basics.specs.Words.{_+_, _*_, _<_, _≤_, _^_, _≡_, T, pos};
+ghost use Rattle.basics.specs.Words.{_+_, _*_, _<_, _≤_, _≡_, T, pos};
 ghost use lib.Signed.{mag, _<ℤ_};
 ghost use lib.Ieee.{binary32, ofInt};
 ghost use Rattle.basics.specs.Meaning.Says.{Says};
@@ -27,42 +27,6 @@ pub struct Span {
     pub hi: f32,
 }
 
-// POWERS[k] is 2 ^ k.
-const POWERS: [u32; 24] = [
-    1,
-    2,
-    4,
-    8,
-    16,
-    32,
-    64,
-    128,
-    256,
-    512,
-    1024,
-    2048,
-    4096,
-    8192,
-    16384,
-    32768,
-    65536,
-    131072,
-    262144,
-    524288,
-    1048576,
-    2097152,
-    4194304,
-    8388608,
-];
-
-fn power(k: u32) -> u32
-    requires { ⌜ k < 24 ⌝ }
-    ensures { λ r. ⌜ r ≡ 2 ^ k ⌝ }
-{
-    let i = basics::wide(k);
-    POWERS[i]
-}
-
 // The magnitude, without its fraction and at most 2 ^ 31, of the f32 with the pattern b.
 fn cut(b: u32) -> u32
     ensures { λ r. ⌜ r ≡ cutBits b ⌝ }
@@ -75,10 +39,11 @@ fn cut(b: u32) -> u32
     if e > 157 {
         return 2147483648;
     }
+    // The number is m * 2 ^ (e - 150).
     if e <= 150 {
-        m / power(150 - e)
+        m >> (150 - e)
     } else {
-        m * power(e - 150)
+        m << (e - 150)
     }
 }
 

@@ -1,5 +1,5 @@
--- `cells::cut` meets its contract. Assumes nothing.
-use Rattle.basics.specs.Words.{ℕ, _/_, _%_, _<_, sym, subst, mod-lt, needs}
+-- `cells::cut` meets its contract: a shift is a power of two, and to the left no digit is lost. Assumes nothing.
+use Rattle.basics.specs.Words.{_/_, _%_, _∙_, mod-lt, mod-eq-of-lt, needs}
 use lib.Pow.{pow-pos}
 use Rattle.cells.specs.Inner.Cut.{cutBits}
 use Rattle.cells.proofs.Fields.{cut-low, cut-high, cut-down, cut-up, scaled-fits}
@@ -14,33 +14,15 @@ returns-2 : tie.Need-returns-2
 unfolding cutBits
 returns-2 c = cut-high _ _ (search needs) (search needs)
 
-div-result : tie.Need-div-result
-div-result c = subst (λ (n : ℕ). 0 < n) (sym (c .power .ensures)) (pow-pos _)
-
-mul-result : tie.Need-mul-result
-mul-result c =
-    let b = c .before .before .before .before .args .b in
-    record { fits = scaled-fits (b / 8388608 % 256) _ _ (c .power2 .ensures) (mod-lt b (pow-pos 23)) (search needs) }
-
 returns-3 : tie.Need-returns-3
 unfolding cutBits
-returns-3 c = cut-down _ _ _ (c .power .ensures) (search needs) (search needs) (search needs)
+returns-3 c = cut-down _ _ (search needs) (search needs) (search needs)
 
 returns-4 : tie.Need-returns-4
 unfolding cutBits
-returns-4 c = cut-up _ _ _ (c .power2 .ensures) (search needs) (search needs) (search needs)
+returns-4 c =
+    let b = c .before .before .before .args .b in
+    mod-eq-of-lt (scaled-fits (b / 8388608 % 256) _ (mod-lt b (pow-pos 23)) (search needs)) ∙ cut-up _ _ (search needs) (search needs) (search needs)
 
 pub cut-spec : {M : Type 1} → statement M
-cut-spec =
-    tie.close
-    (tie.spec
-    (λ c. search needs)
-    returns
-    returns-2
-    (λ c κs. search needs)
-    div-result
-    (λ c. search needs)
-    (λ c κs. search needs)
-    mul-result
-    returns-3
-    returns-4)
+cut-spec = tie.close (tie.spec (λ c. search needs) returns returns-2 (λ c. search needs) (λ c. search needs) (λ c. search needs) returns-3 returns-4)
