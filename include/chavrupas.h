@@ -318,6 +318,29 @@ chavrupas_count chavrupas_boxes_query(
     float left, float low, float right, float high, chavrupas_handle *found, size_t found_n, chavrupas_aabb *boxes, size_t boxes_n,
     uint32_t *objs, size_t objs_n);
 
+/* ---- the map for the video encoder, above a point grid and a box grid that both have cells of 16: a byte for each 16 by 16 block of a frame of 80 by 45
+   blocks. Byte j * 80 + i is the block from (16 i, 16 j) to (16 i + 16, 16 j + 16), row by row, y growing downwards. */
+
+#define CHAVRUPAS_FRAME_COLUMNS 80
+#define CHAVRUPAS_FRAME_ROWS 45
+#define CHAVRUPAS_FRAME_BLOCKS 3600
+#define CHAVRUPAS_MOST_CIRCLES 16
+
+typedef struct { float x, y, radius; } chavrupas_circle;
+
+/* Fills the map. 3: a point that some circle finds, as `query_around` would, lies in the block, left and top edge in, right and bottom out; else 2: the box
+   `query` with the block's four corners finds a box; else 1: some point is recorded in the block; else 0. What is pending does not count: a point stands
+   where it is recorded, and one that is marked removed counts, until `maintain`. The grids are only read; circles_n may be 0.
+   Answers 3 (also if a grid's cell size is not 16, bytes_n is not 3,600 or circles_n is over 16), 6 if any circle is outside the domain, 7 if any circle's
+   range has over 4,096 cells: all are looked at for 6 before one is for 7. */
+uint32_t chavrupas_encoder_fill_map(
+    const chavrupas_point_nums *nums, size_t nums_n, const chavrupas_point_reals *reals, size_t reals_n, const chavrupas_point_ints *ints, size_t ints_n,
+    const uint64_t *map, size_t map_n, const chavrupas_pool_row *pool, size_t pool_n, const chavrupas_position *spots, size_t spots_n,
+    const chavrupas_cell_row *cells, size_t cells_n,
+    const chavrupas_box_nums *box_nums, size_t box_nums_n, const chavrupas_aabb *box_reals, size_t box_reals_n,
+    const uint64_t *box_map, size_t box_map_n, const chavrupas_pool_row *box_pool, size_t box_pool_n,
+    const chavrupas_circle *circles, size_t circles_n, uint8_t *bytes, size_t bytes_n);
+
 #ifdef __cplusplus
 }
 #endif

@@ -1,0 +1,2 @@
+-- Laws, and what the proofs share.
+pub mod laws

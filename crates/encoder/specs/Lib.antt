@@ -1,0 +1,3 @@
+-- The map for the encoder: what `fill_map` answers and writes.
+pub mod Meaning
+pub mod Inner

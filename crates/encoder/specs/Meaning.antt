@@ -1,0 +1,3 @@
+-- What must be believed: what the public calls and the demands cite.
+pub mod Map
+pub mod FillMap

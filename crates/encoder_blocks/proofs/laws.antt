@@ -1,0 +1,4 @@
+-- Laws, and what the proofs share.
+pub mod BlockLaws
+pub mod PlaceLaws
+pub mod BoxLaws

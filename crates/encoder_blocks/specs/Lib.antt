@@ -1,0 +1,3 @@
+-- The blocks of the frame, and which block a cell is.
+pub mod Meaning
+pub mod Inner

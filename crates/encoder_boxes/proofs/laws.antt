@@ -1,0 +1,6 @@
+-- Laws, and what the proofs share.
+pub mod HasLaws
+pub mod WindowLaws
+pub mod MetLaws
+pub mod OverlayLaws
+pub mod NarrowLaws

@@ -1,0 +1,4 @@
+-- Laws, and what the proofs share.
+pub mod SomeLaws
+pub mod MarkLaws
+pub mod PointLaws

@@ -1,0 +1,2 @@
+-- What must be believed: what the public calls and the demands cite.
+pub mod Points
