@@ -2,9 +2,9 @@
 """believe.py [ROOT] [--trace] [--text] [--files] [--guard]: what a reader must believe, definition by definition.
 
 It follows what is cited, from
-- the contracts of the public calls: every `pub use` and `pub fn` of points, boxes and exports, and every `pub fn` of the record_ crates but those that end
-  in _for (these only serve the others there);
-- the statements of the user's demands: the `pub` theorems of the files Demands and BoxDemands of crates/demands;
+- the contracts of the public calls: every `pub use` and `pub fn` of points, boxes, encoder and exports, and every `pub fn` of the record_ crates but those
+  that end in _for (these only serve the others there);
+- the statements of the user's demands: the `pub` theorems of the files Demands, BoxDemands and EncoderDemands of crates/demands;
 - with --trace the contracts of the trace: every `pub fn` of trace_replay, and of src/records.rt of trace_blocks; the program of ./trace runs them.
 A definition (abbrev, unfoldable, record, data) is followed in full. A law is followed by its statement alone, and is not counted. A decider (a shut
 definition `f` beside a law `f-says`) is followed by that law's statement: what it decides is believed, not how. A private abbreviation inside a file of the
@@ -17,10 +17,10 @@ import re
 import sys
 from tree import Decl, Source, Tree, asked, read
 
-CALLS = 'points', 'boxes', 'exports'
+CALLS = 'points', 'boxes', 'encoder', 'exports'
 RECORDS = 'record_deferred', 'record_insert', 'record_maintain', 'record_get', 'record_query'
 TRACE = ('trace_replay', 'lib'), ('trace_blocks', 'records')
-DEMANDS = 'demands', ('Demands', 'BoxDemands')
+DEMANDS = 'demands', ('Demands', 'BoxDemands', 'EncoderDemands')
 # what a statement ends in
 CLAIM = re.compile(r'(^|\s)(≡|≤|<|Says|Dec|⊥|⊎|×|T)(\s|$)')
 

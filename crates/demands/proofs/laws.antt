@@ -4,6 +4,7 @@ pub mod BoxHandles
 pub mod BoxSteps
 pub mod Demands
 pub mod Determined
+pub mod EncoderDemands
 pub mod FindingLaws
 pub mod Handles
 pub mod Lengths

@@ -1,5 +1,5 @@
-// The cases of the encoder's map, run. Each line is what was asked, the answer, and the bytes that are not 0 with their places; of a refused call how many
-// bytes are as they were.
+// The cases of the encoder's map, run, each from the grids as given. A line is what was asked, the answer, and the bytes that are not 0 with their places;
+// of a refused call how many bytes are as they were.
 use geometry::Aabb;
 use geometry::Position;
 use libc::STDOUT_FILENO;
@@ -30,7 +30,7 @@ fn tell_bytes(bytes: &[u8]) {
     }
 }
 
-// How many bytes are 7, which the map never has.
+// How many bytes are 7, which every byte of a map is before its call.
 fn as_they_were(bytes: &[u8]) -> u64 {
     let mut n = 0u64;
     let mut k = 0;
@@ -43,11 +43,26 @@ fn as_they_were(bytes: &[u8]) -> u64 {
     n
 }
 
-fn at(x: f32, y: f32) -> Position {
-    Position { x: x, y: y }
+fn tell(what: &[u8], answer: u32, bytes: &[u8]) {
+    say(what);
+    number(answer as u64);
+    if answer == 0 {
+        tell_bytes(bytes);
+    } else {
+        say(b" ");
+        number(as_they_were(bytes));
+    }
+    say(b"\n");
 }
 
-fn insert(
+fn at(place: [f32; 2]) -> Position {
+    Position {
+        x: place[0],
+        y: place[1],
+    }
+}
+
+fn insert_all(
     nums: &mut [[u32; 4]; 8],
     reals: &mut [[f32; 4]; 8],
     ints: &mut [[i32; 4]; 8],
@@ -55,13 +70,16 @@ fn insert(
     pool: &mut [[u64; 2]; 8],
     spots: &mut [[f32; 2]; 8],
     cells: &mut [[u64; 2]; 8],
-    x: f32,
-    y: f32,
+    places: &[[f32; 2]],
 ) {
-    points::insert(nums, reals, ints, map, pool, spots, cells, at(x, y), 7);
+    let mut k = 0;
+    while k < places.len() {
+        points::insert(nums, reals, ints, map, pool, spots, cells, at(places[k]), 7);
+        k += 1;
+    }
 }
 
-// The six points that are given.
+// The six points that are given, and more.
 fn build_points(
     nums: &mut [[u32; 4]; 8],
     reals: &mut [[f32; 4]; 8],
@@ -71,14 +89,19 @@ fn build_points(
     spots: &mut [[f32; 2]; 8],
     cells: &mut [[u64; 2]; 8],
     size: u32,
+    more: &[[f32; 2]],
 ) {
+    let given = [
+        [8.0f32, 8.0],
+        [24.0, 8.0],
+        [40.0, 8.0],
+        [1279.0, 719.0],
+        [1280.0, 8.0],
+        [-1.0, 8.0],
+    ];
     points::new(nums, reals, ints, map, pool, spots, cells, size);
-    insert(nums, reals, ints, map, pool, spots, cells, 8.0, 8.0);
-    insert(nums, reals, ints, map, pool, spots, cells, 24.0, 8.0);
-    insert(nums, reals, ints, map, pool, spots, cells, 40.0, 8.0);
-    insert(nums, reals, ints, map, pool, spots, cells, 1279.0, 719.0);
-    insert(nums, reals, ints, map, pool, spots, cells, 1280.0, 8.0);
-    insert(nums, reals, ints, map, pool, spots, cells, -1.0, 8.0);
+    insert_all(nums, reals, ints, map, pool, spots, cells, &given);
+    insert_all(nums, reals, ints, map, pool, spots, cells, more);
 }
 
 // The box that is given.
@@ -91,26 +114,30 @@ fn build_boxes(
 ) {
     boxes::new(nums, reals, map, pool, size);
     let b = Aabb {
-        ll: at(48.0, 0.0),
-        ur: at(64.0, 16.0),
+        ll: at([48.0, 0.0]),
+        ur: at([64.0, 16.0]),
     };
     boxes::insert(nums, reals, map, pool, b, 7);
 }
 
-// The third point is sent far away, and the second is marked removed.
-fn send_and_mark(
+fn first_of(slot: u32) -> Handle {
+    Handle { slot, version: 1 }
+}
+
+// Two steps of a frame, of which so many are made: the third point is sent far away and the second marked removed; then both are settled.
+fn go_on(
     nums: &mut [[u32; 4]; 8],
     reals: &mut [[f32; 4]; 8],
     ints: &mut [[i32; 4]; 8],
-    map: &[u64; 4],
-    pool: &[[u64; 2]; 8],
-    spots: &[[f32; 2]; 8],
+    map: &mut [u64; 4],
+    pool: &mut [[u64; 2]; 8],
+    spots: &mut [[f32; 2]; 8],
     cells: &mut [[u64; 2]; 8],
+    steps: u32,
 ) {
-    let third = Handle {
-        slot: 2,
-        version: 1,
-    };
+    if steps == 0 {
+        return;
+    }
     points::set_position(
         nums,
         reals,
@@ -119,56 +146,16 @@ fn send_and_mark(
         pool,
         spots,
         cells,
-        third,
-        at(200.0, 200.0),
+        first_of(2),
+        at([200.0, 200.0]),
     );
-    let second = Handle {
-        slot: 1,
-        version: 1,
-    };
-    points::remove(nums, reals, ints, map, pool, spots, cells, second);
+    points::remove(nums, reals, ints, map, pool, spots, cells, first_of(1));
+    if steps == 2 {
+        points::maintain(nums, reals, ints, map, pool, spots, cells);
+    }
 }
 
-// The map as it is filled.
-fn show(
-    what: &[u8],
-    nums: &[[u32; 4]; 8],
-    reals: &[[f32; 4]; 8],
-    ints: &[[i32; 4]; 8],
-    map: &[u64; 4],
-    pool: &[[u64; 2]; 8],
-    spots: &[[f32; 2]; 8],
-    cells: &[[u64; 2]; 8],
-    boxnums: &[[u32; 4]; 4],
-    boxreals: &[[f32; 4]; 4],
-    boxmap: &[u64; 4],
-    boxpool: &[[u64; 2]; 16],
-    circles: &[[f32; 3]],
-) {
-    let mut bytes = [0u8; 3600];
-    let answer = encoder::fill_map(
-        nums,
-        reals,
-        ints,
-        map,
-        pool,
-        spots,
-        cells,
-        boxnums,
-        boxreals,
-        boxmap,
-        boxpool,
-        circles,
-        &mut bytes,
-    );
-    say(what);
-    number(answer as u64);
-    tell_bytes(&bytes);
-    say(b"\n");
-}
-
-// A call that is refused, and a map that had 7 in every byte.
-fn refuse(
+fn ask(
     what: &[u8],
     nums: &[[u32; 4]; 8],
     reals: &[[f32; 4]; 8],
@@ -199,465 +186,19 @@ fn refuse(
         circles,
         bytes,
     );
-    say(what);
-    number(answer as u64);
-    say(b" ");
-    number(as_they_were(bytes));
-    say(b"\n");
+    tell(what, answer, bytes);
 }
 
-// As given; with what is pending; and then settled.
-fn frame(
-    nums: &mut [[u32; 4]; 8],
-    reals: &mut [[f32; 4]; 8],
-    ints: &mut [[i32; 4]; 8],
-    map: &mut [u64; 4],
-    pool: &mut [[u64; 2]; 8],
-    spots: &mut [[f32; 2]; 8],
-    cells: &mut [[u64; 2]; 8],
-    boxnums: &[[u32; 4]; 4],
-    boxreals: &[[f32; 4]; 4],
-    boxmap: &[u64; 4],
-    boxpool: &[[u64; 2]; 16],
+// One case: more points than are given, steps of a frame, and the cell sizes of both grids.
+fn case(
+    what: &[u8],
+    more: &[[f32; 2]],
+    steps: u32,
+    size: u32,
+    box_size: u32,
+    circles: &[[f32; 3]],
+    bytes: &mut [u8],
 ) {
-    let circle = [[8.0f32, 8.0, 1.0]];
-    build_points(nums, reals, ints, map, pool, spots, cells, 16);
-    show(
-        b"as given: ",
-        nums,
-        reals,
-        ints,
-        map,
-        pool,
-        spots,
-        cells,
-        boxnums,
-        boxreals,
-        boxmap,
-        boxpool,
-        &circle,
-    );
-    send_and_mark(nums, reals, ints, map, pool, spots, cells);
-    show(
-        b"sent and marked: ",
-        nums,
-        reals,
-        ints,
-        map,
-        pool,
-        spots,
-        cells,
-        boxnums,
-        boxreals,
-        boxmap,
-        boxpool,
-        &circle,
-    );
-    points::maintain(nums, reals, ints, map, pool, spots, cells);
-    show(
-        b"settled: ",
-        nums,
-        reals,
-        ints,
-        map,
-        pool,
-        spots,
-        cells,
-        boxnums,
-        boxreals,
-        boxmap,
-        boxpool,
-        &circle,
-    );
-}
-
-// No circle; and two points more, on the corner of four blocks and at -0.0.
-fn more_points(
-    nums: &mut [[u32; 4]; 8],
-    reals: &mut [[f32; 4]; 8],
-    ints: &mut [[i32; 4]; 8],
-    map: &mut [u64; 4],
-    pool: &mut [[u64; 2]; 8],
-    spots: &mut [[f32; 2]; 8],
-    cells: &mut [[u64; 2]; 8],
-    boxnums: &[[u32; 4]; 4],
-    boxreals: &[[f32; 4]; 4],
-    boxmap: &[u64; 4],
-    boxpool: &[[u64; 2]; 16],
-) {
-    let none: [[f32; 3]; 0] = [];
-    let circle = [[8.0f32, 8.0, 1.0]];
-    build_points(nums, reals, ints, map, pool, spots, cells, 16);
-    show(
-        b"no circle: ",
-        nums,
-        reals,
-        ints,
-        map,
-        pool,
-        spots,
-        cells,
-        boxnums,
-        boxreals,
-        boxmap,
-        boxpool,
-        &none,
-    );
-    insert(nums, reals, ints, map, pool, spots, cells, 16.0, 16.0);
-    insert(nums, reals, ints, map, pool, spots, cells, -0.0, 32.0);
-    show(
-        b"two points: ",
-        nums,
-        reals,
-        ints,
-        map,
-        pool,
-        spots,
-        cells,
-        boxnums,
-        boxreals,
-        boxmap,
-        boxpool,
-        &circle,
-    );
-}
-
-// A circle more, that finds a point where a box is; and the largest circle that is not refused.
-fn more_circles(
-    nums: &mut [[u32; 4]; 8],
-    reals: &mut [[f32; 4]; 8],
-    ints: &mut [[i32; 4]; 8],
-    map: &mut [u64; 4],
-    pool: &mut [[u64; 2]; 8],
-    spots: &mut [[f32; 2]; 8],
-    cells: &mut [[u64; 2]; 8],
-    boxnums: &[[u32; 4]; 4],
-    boxreals: &[[f32; 4]; 4],
-    boxmap: &[u64; 4],
-    boxpool: &[[u64; 2]; 16],
-) {
-    let circles = [[8.0f32, 8.0, 1.0], [56.0, 8.0, 9.0]];
-    let large = [[0.0f32, 0.0, 511.0]];
-    build_points(nums, reals, ints, map, pool, spots, cells, 16);
-    show(
-        b"radius 511: ",
-        nums,
-        reals,
-        ints,
-        map,
-        pool,
-        spots,
-        cells,
-        boxnums,
-        boxreals,
-        boxmap,
-        boxpool,
-        &large,
-    );
-    insert(nums, reals, ints, map, pool, spots, cells, 50.0, 8.0);
-    show(
-        b"two circles: ",
-        nums,
-        reals,
-        ints,
-        map,
-        pool,
-        spots,
-        cells,
-        boxnums,
-        boxreals,
-        boxmap,
-        boxpool,
-        &circles,
-    );
-}
-
-// 7 alone, and 6 before 7: a later circle that is outside the domain counts more than an earlier one that is too wide.
-fn refused_circles(
-    nums: &[[u32; 4]; 8],
-    reals: &[[f32; 4]; 8],
-    ints: &[[i32; 4]; 8],
-    map: &[u64; 4],
-    pool: &[[u64; 2]; 8],
-    spots: &[[f32; 2]; 8],
-    cells: &[[u64; 2]; 8],
-    boxnums: &[[u32; 4]; 4],
-    boxreals: &[[f32; 4]; 4],
-    boxmap: &[u64; 4],
-    boxpool: &[[u64; 2]; 16],
-) {
-    let mut bytes = [7u8; 3600];
-    let zero = 0.0f32;
-    let wide = [[0.0f32, 0.0, 512.0]];
-    let negative = [[0.0f32, 0.0, 512.0], [0.0, 0.0, -1.0]];
-    let nan = [[0.0f32, 0.0, 512.0], [0.0, 0.0, zero / zero]];
-    refuse(
-        b"radius 512: ",
-        nums,
-        reals,
-        ints,
-        map,
-        pool,
-        spots,
-        cells,
-        boxnums,
-        boxreals,
-        boxmap,
-        boxpool,
-        &wide,
-        &mut bytes,
-    );
-    refuse(
-        b"then -1: ",
-        nums,
-        reals,
-        ints,
-        map,
-        pool,
-        spots,
-        cells,
-        boxnums,
-        boxreals,
-        boxmap,
-        boxpool,
-        &negative,
-        &mut bytes,
-    );
-    refuse(
-        b"then NaN: ",
-        nums,
-        reals,
-        ints,
-        map,
-        pool,
-        spots,
-        cells,
-        boxnums,
-        boxreals,
-        boxmap,
-        boxpool,
-        &nan,
-        &mut bytes,
-    );
-}
-
-// A byte too few, one too many, and a circle too many.
-fn refused_lengths(
-    nums: &[[u32; 4]; 8],
-    reals: &[[f32; 4]; 8],
-    ints: &[[i32; 4]; 8],
-    map: &[u64; 4],
-    pool: &[[u64; 2]; 8],
-    spots: &[[f32; 2]; 8],
-    cells: &[[u64; 2]; 8],
-    boxnums: &[[u32; 4]; 4],
-    boxreals: &[[f32; 4]; 4],
-    boxmap: &[u64; 4],
-    boxpool: &[[u64; 2]; 16],
-) {
-    let mut bytes = [7u8; 3600];
-    let mut short = [7u8; 3599];
-    let mut long = [7u8; 3601];
-    let circle = [[8.0f32, 8.0, 1.0]];
-    let many = [[8.0f32, 8.0, 1.0]; 17];
-    refuse(
-        b"3,599 bytes: ",
-        nums,
-        reals,
-        ints,
-        map,
-        pool,
-        spots,
-        cells,
-        boxnums,
-        boxreals,
-        boxmap,
-        boxpool,
-        &circle,
-        &mut short,
-    );
-    refuse(
-        b"3,601 bytes: ",
-        nums,
-        reals,
-        ints,
-        map,
-        pool,
-        spots,
-        cells,
-        boxnums,
-        boxreals,
-        boxmap,
-        boxpool,
-        &circle,
-        &mut long,
-    );
-    refuse(
-        b"17 circles: ",
-        nums,
-        reals,
-        ints,
-        map,
-        pool,
-        spots,
-        cells,
-        boxnums,
-        boxreals,
-        boxmap,
-        boxpool,
-        &many,
-        &mut bytes,
-    );
-}
-
-// Cells of 8, of the boxes and of the points.
-fn refused_sizes(
-    nums: &mut [[u32; 4]; 8],
-    reals: &mut [[f32; 4]; 8],
-    ints: &mut [[i32; 4]; 8],
-    map: &mut [u64; 4],
-    pool: &mut [[u64; 2]; 8],
-    spots: &mut [[f32; 2]; 8],
-    cells: &mut [[u64; 2]; 8],
-    boxnums: &mut [[u32; 4]; 4],
-    boxreals: &mut [[f32; 4]; 4],
-    boxmap: &mut [u64; 4],
-    boxpool: &mut [[u64; 2]; 16],
-) {
-    let mut bytes = [7u8; 3600];
-    let circle = [[8.0f32, 8.0, 1.0]];
-    build_boxes(boxnums, boxreals, boxmap, boxpool, 8);
-    refuse(
-        b"boxes of size 8: ",
-        nums,
-        reals,
-        ints,
-        map,
-        pool,
-        spots,
-        cells,
-        boxnums,
-        boxreals,
-        boxmap,
-        boxpool,
-        &circle,
-        &mut bytes,
-    );
-    build_boxes(boxnums, boxreals, boxmap, boxpool, 16);
-    build_points(nums, reals, ints, map, pool, spots, cells, 8);
-    refuse(
-        b"points of size 8: ",
-        nums,
-        reals,
-        ints,
-        map,
-        pool,
-        spots,
-        cells,
-        boxnums,
-        boxreals,
-        boxmap,
-        boxpool,
-        &circle,
-        &mut bytes,
-    );
-}
-
-fn run(
-    nums: &mut [[u32; 4]; 8],
-    reals: &mut [[f32; 4]; 8],
-    ints: &mut [[i32; 4]; 8],
-    map: &mut [u64; 4],
-    pool: &mut [[u64; 2]; 8],
-    spots: &mut [[f32; 2]; 8],
-    cells: &mut [[u64; 2]; 8],
-    boxnums: &mut [[u32; 4]; 4],
-    boxreals: &mut [[f32; 4]; 4],
-    boxmap: &mut [u64; 4],
-    boxpool: &mut [[u64; 2]; 16],
-) {
-    build_boxes(boxnums, boxreals, boxmap, boxpool, 16);
-    frame(
-        nums,
-        reals,
-        ints,
-        map,
-        pool,
-        spots,
-        cells,
-        boxnums,
-        boxreals,
-        boxmap,
-        boxpool,
-    );
-    more_points(
-        nums,
-        reals,
-        ints,
-        map,
-        pool,
-        spots,
-        cells,
-        boxnums,
-        boxreals,
-        boxmap,
-        boxpool,
-    );
-    more_circles(
-        nums,
-        reals,
-        ints,
-        map,
-        pool,
-        spots,
-        cells,
-        boxnums,
-        boxreals,
-        boxmap,
-        boxpool,
-    );
-    refused_circles(
-        nums,
-        reals,
-        ints,
-        map,
-        pool,
-        spots,
-        cells,
-        boxnums,
-        boxreals,
-        boxmap,
-        boxpool,
-    );
-    refused_lengths(
-        nums,
-        reals,
-        ints,
-        map,
-        pool,
-        spots,
-        cells,
-        boxnums,
-        boxreals,
-        boxmap,
-        boxpool,
-    );
-    refused_sizes(
-        nums,
-        reals,
-        ints,
-        map,
-        pool,
-        spots,
-        cells,
-        boxnums,
-        boxreals,
-        boxmap,
-        boxpool,
-    );
-}
-
-fn main() {
     let mut nums = [[0u32; 4]; 8];
     let mut reals = [[0.0f32; 4]; 8];
     let mut ints = [[0i32; 4]; 8];
@@ -669,7 +210,7 @@ fn main() {
     let mut boxreals = [[0.0f32; 4]; 4];
     let mut boxmap = [0u64; 4];
     let mut boxpool = [[0u64; 2]; 16];
-    run(
+    build_points(
         &mut nums,
         &mut reals,
         &mut ints,
@@ -677,9 +218,156 @@ fn main() {
         &mut pool,
         &mut spots,
         &mut cells,
+        size,
+        more,
+    );
+    go_on(
+        &mut nums,
+        &mut reals,
+        &mut ints,
+        &mut map,
+        &mut pool,
+        &mut spots,
+        &mut cells,
+        steps,
+    );
+    build_boxes(
         &mut boxnums,
         &mut boxreals,
         &mut boxmap,
         &mut boxpool,
+        box_size,
     );
+    ask(
+        what,
+        &nums,
+        &reals,
+        &ints,
+        &map,
+        &pool,
+        &spots,
+        &cells,
+        &boxnums,
+        &boxreals,
+        &boxmap,
+        &boxpool,
+        circles,
+        bytes,
+    );
+}
+
+// What is accepted.
+fn accepted(none: &[[f32; 2]], circle: &[[f32; 3]]) {
+    case(b"as given: ", none, 0, 16, 16, circle, &mut [7u8; 3600]);
+    case(
+        b"sent and marked: ",
+        none,
+        1,
+        16,
+        16,
+        circle,
+        &mut [7u8; 3600],
+    );
+    case(b"settled: ", none, 2, 16, 16, circle, &mut [7u8; 3600]);
+    case(b"no circle: ", none, 0, 16, 16, &[], &mut [7u8; 3600]);
+    case(
+        b"two points: ",
+        &[[16.0f32, 16.0], [-0.0, 32.0]],
+        0,
+        16,
+        16,
+        circle,
+        &mut [7u8; 3600],
+    );
+    case(
+        b"two circles: ",
+        &[[50.0f32, 8.0]],
+        0,
+        16,
+        16,
+        &[[8.0f32, 8.0, 1.0], [56.0, 8.0, 9.0]],
+        &mut [7u8; 3600],
+    );
+    case(
+        b"radius 511: ",
+        none,
+        0,
+        16,
+        16,
+        &[[0.0f32, 0.0, 511.0]],
+        &mut [7u8; 3600],
+    );
+}
+
+// 7 alone, and 6 before 7: a later circle outside the domain counts more than an earlier one that is too wide.
+fn refused_circles(none: &[[f32; 2]]) {
+    let zero = 0.0f32;
+    case(
+        b"radius 512: ",
+        none,
+        0,
+        16,
+        16,
+        &[[0.0f32, 0.0, 512.0]],
+        &mut [7u8; 3600],
+    );
+    case(
+        b"then -1: ",
+        none,
+        0,
+        16,
+        16,
+        &[[0.0f32, 0.0, 512.0], [0.0, 0.0, -1.0]],
+        &mut [7u8; 3600],
+    );
+    case(
+        b"then NaN: ",
+        none,
+        0,
+        16,
+        16,
+        &[[0.0f32, 0.0, 512.0], [0.0, 0.0, zero / zero]],
+        &mut [7u8; 3600],
+    );
+}
+
+// A byte too few, one too many, a circle too many, and cells of 8 in either grid.
+fn refused_tables(none: &[[f32; 2]], circle: &[[f32; 3]]) {
+    case(b"3,599 bytes: ", none, 0, 16, 16, circle, &mut [7u8; 3599]);
+    case(b"3,601 bytes: ", none, 0, 16, 16, circle, &mut [7u8; 3601]);
+    case(
+        b"17 circles: ",
+        none,
+        0,
+        16,
+        16,
+        &[[8.0f32, 8.0, 1.0]; 17],
+        &mut [7u8; 3600],
+    );
+    case(
+        b"boxes of size 8: ",
+        none,
+        0,
+        16,
+        8,
+        circle,
+        &mut [7u8; 3600],
+    );
+    case(
+        b"points of size 8: ",
+        none,
+        0,
+        8,
+        16,
+        circle,
+        &mut [7u8; 3600],
+    );
+}
+
+fn main() {
+    let none: [[f32; 2]; 0] = [];
+    let circle = [[8.0f32, 8.0, 1.0]];
+    accepted(&none, &circle);
+    refused_circles(&none);
+    refused_tables(&none, &circle);
 }

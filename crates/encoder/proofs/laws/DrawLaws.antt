@@ -1,9 +1,8 @@
 -- The map that is drawn is the map that is defined: byte by byte. Assumes nothing.
-use Rattle.basics.specs.Words.{ℕ, zero, suc, _/_, _%_, _<_, _≡_, refl, sym, ap, _∙_, Bool, true, false, List, [], _∷_, map, map-append, inl, inr, length, getD}
-use Rattle.basics.specs.Words.{length-append, List·getD-append, getD-at, ext-getD, T, arith}
+use Rattle.basics.specs.Words.{ℕ, _/_, _%_, _<_, _≡_, refl, sym, _∙_, Bool, true, false, List, [], _∷_, map, getD, ext-getD, T, arith}
 use lib.Ieee.{Float}
 use Rattle.basics.specs.Meaning.Refusals.{pick}
-use Rattle.basics.proofs.laws.Says.{both-true, says-t, d-lt}
+use Rattle.basics.proofs.laws.Says.{both-true, says-t}
 use Rattle.geometry.specs.Meaning.Domain.{positionInDomain, radiusInDomain}
 use Rattle.storage.specs.Meaning.Keyed.{All}
 use Rattle.point_tables.specs.Meaning.Tables as Points
@@ -18,23 +17,7 @@ use Rattle.encoder_boxes.proofs.laws.NarrowLaws.{boxed-is}
 use Rattle.encoder.specs.Meaning.Map.{byteOf, numbers, mapOf}
 use Rattle.encoder.specs.Meaning.FillMap.{every, circleInDomain}
 use Rattle.encoder.specs.Inner.Drawn.{Drawable}
-
--- ---- what is made of the numbers below n, by places
-module _ (f : ℕ → ℕ) where
-  pub numbers-length : (n : ℕ) → length (map f (numbers n)) ≡ n
-  unfolding numbers
-  numbers-length zero = refl
-  numbers-length (suc n) = ap length (map-append f (numbers n) (n ∷ [])) ∙ length-append (map f (numbers n)) (f n ∷ []) ∙ omega (arith, numbers-length n)
-
-  pub numbers-at : (n k : ℕ) → k < n → getD (map f (numbers n)) k 0 ≡ f k
-  unfolding numbers
-  numbers-at zero k h = absurd (omega arith)
-  numbers-at (suc n) k h =
-      ap (λ (l : List ℕ). getD l k 0) (map-append f (numbers n) (n ∷ []))
-      ∙ elim (d-lt k n) [
-        | inl l ↦ List·getD-append (map f (numbers n)) (f n ∷ []) 0 k (omega (arith, numbers-length n)) ∙ numbers-at n k l
-        | inr l ↦ let e : k ≡ n = omega arith in getD-at (map f (numbers n)) (f n) [] 0 k (numbers-length n ∙ sym e) ∙ ap f (sym e)
-      ]
+use Rattle.encoder.proofs.laws.MapLaws.{numbers-length, numbers-at}
 
 -- ---- one byte: the boxes over the points
 overlaid : (c m r : Bool) → boxByte m (pointByte c r) ≡ pick c 3 (pick m 2 (pick r 1 0))
