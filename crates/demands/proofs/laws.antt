@@ -5,6 +5,7 @@ pub mod BoxSteps
 pub mod Demands
 pub mod Determined
 pub mod EncoderDemands
+pub mod EncoderLaws
 pub mod FindingLaws
 pub mod Handles
 pub mod Lengths
