@@ -1,5 +1,5 @@
 # data.py FOLDER: the data of both sides, the same at every run. Numbers of 32 bits, little endian.
-# points, FOLDER/LAYOUT-N-RATE: n, the number of frames, then frames + 1 lists of n positions, and 16 centres of circles.
+# points, FOLDER/LAYOUT-N-RATE: n, the number of frames, then frames + 1 lists of n positions, 16 centres of circles, and the 256 boxes of the map.
 # boxes, FOLDER/boxes-NAME: their number, the boxes, 16 of them in the same cells, these in other cells, 16 boxes to ask for, and which 16 they are.
 import math
 import os
@@ -51,6 +51,13 @@ def write(path, counts, rows):
             f.write(struct.pack(f'<{len(row)}f', *row))
 
 
+# 256 boxes of 8 by 4 cells: they fill a pool of 8,192 entries.
+def map_boxes():
+    rng = random.Random('map')
+    corners = [(rng.randrange(80 - 8) * SIZE + 2, rng.randrange(45 - 4) * SIZE + 2) for _ in range(256)]
+    return [(x, y, x + 7 * SIZE + 7, y + 3 * SIZE + 7) for x, y in corners]
+
+
 def points(folder, layout, n, rate):
     start, rng = random.Random(f'{layout}{n}'), random.Random(f'{layout}{n}{rate}')
     order = list(range(n))
@@ -59,7 +66,7 @@ def points(folder, layout, n, rate):
     for _ in range(FRAMES):
         frames.append([moved(rng, layout, i, n, p, rate) for i, p in zip(order, frames[-1])])
     centres = [place(start, layout, start.randrange(n), n) for _ in range(16)]
-    write(f'{folder}/{layout}-{n}-{rate}', (n, FRAMES), [p for frame in frames for p in frame] + centres)
+    write(f'{folder}/{layout}-{n}-{rate}', (n, FRAMES), [p for frame in frames for p in frame] + centres + map_boxes())
 
 
 # Boxes of `side` by `side` cells.

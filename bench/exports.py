@@ -7,6 +7,7 @@ import sys
 
 POINTS = {'nums': '[[u32; 4]]', 'reals': '[[f32; 4]]', 'ints': '[[i32; 4]]', 'map': '[u64]', 'pool': '[[u64; 2]]', 'spots': '[[f32; 2]]', 'cells': '[[u64; 2]]'}
 BOXES = {name: POINTS[name] for name in ('nums', 'reals', 'map', 'pool')}
+PAIR = {**POINTS, **{'box_' + name: rows for name, rows in BOXES.items()}}
 HANDLE = 'slot: u32, version: u32'
 AT = 'x: f32, y: f32'
 BOX = 'left: f32, low: f32, right: f32, high: f32'
@@ -40,6 +41,7 @@ CALLS = [
     (BOXES, 'boxes::set_aabb', 'reals map pool', [HANDLE, BOX], ''),
     (BOXES, 'boxes::remove', 'nums map pool', [HANDLE], '.answer'),
     (BOXES, 'boxes::query', '', [BOX, BOXES_FOUND], '.count'),
+    (PAIR, 'encoder::fill_map', '', ['circles: &[[f32; 3]], bytes: &mut [u8]'], ''),
 ]
 
 

@@ -92,13 +92,43 @@ fn nearest(grid: &Points, centre: Spot, radius: f32) -> u32 {
     best.1.map_or(0, |handle| *grid.get(handle).unwrap().1)
 }
 
+/// The original has no `fill_map` either: what its user would write. The byte of each recorded point, then of each that a circle finds, then a query for each
+/// block that is not 3.
+#[inline(never)]
+fn fill_map(points: &Points, boxes: &AABBGrid<u32, Rect>, centres: &[Spot], map: &mut [u8]) -> usize {
+    let block = |at: Spot| (at[0] >= 0.0 && at[0] < 1280.0 && at[1] >= 0.0 && at[1] < 720.0).then(|| at[1] as usize / 16 * 80 + at[0] as usize / 16);
+    map.fill(0);
+    for k in points.objects().filter_map(|(at, _)| block(at)) {
+        map[k] = 1;
+    }
+    for k in centres.iter().flat_map(|c| points.query_around(*c, 60.0)).filter_map(|(_, at)| block(at)) {
+        map[k] = 3;
+    }
+    for (k, byte) in map.iter_mut().enumerate().filter(|(_, byte)| **byte != 3) {
+        let (x, y) = ((k % 80 * 16) as f32, (k / 80 * 16) as f32);
+        if boxes.query(Rect([x, y], [x + 16.0, y + 16.0])).next().is_some() {
+            *byte = 2;
+        }
+    }
+    0
+}
+
+/// What a map is, for the other side.
+fn say(map: &[u8]) {
+    println!("map 1 {}", map.iter().zip(1..).map(|(byte, k)| k * *byte as usize).sum::<usize>());
+}
+
 fn points(mut data: Words) {
     let (n, frames) = (data.word() as usize, data.word() as usize);
     let frames: Vec<Vec<Spot>> = (0..=frames).map(|_| data.spots(n)).collect();
     let centres = data.spots(PICKS);
     let mut grid: Points = Grid::new(16);
     let handles: Vec<GridHandle> = frames[0].iter().enumerate().map(|(i, at)| grid.insert(*at, i as u32)).collect();
-    let mut found = Vec::with_capacity(n);
+    let mut boxes: AABBGrid<u32, Rect> = AABBGrid::new(16);
+    for (i, b) in data.rects(256).into_iter().enumerate() {
+        boxes.insert(b, i as u32);
+    }
+    let (mut found, mut map) = (Vec::with_capacity(n), vec![0; 3600]);
     request(START, std::ptr::null());
     count!("empty", 1, |_k| 0);
     let pick = |k: usize| k * (n / PICKS) + 3;
@@ -122,6 +152,8 @@ fn points(mut data: Words) {
     count!("query_around 60", PICKS, |k| around(&grid, centres[k], 60.0, &mut found));
     count!("nearest 60", PICKS, |k| nearest(&grid, centres[k], 60.0));
     count!("query_around 150", PICKS, |k| around(&grid, centres[k], 150.0, &mut found));
+    count!("fill_map", 1, |_k| fill_map(&grid, &boxes, &centres, &mut map));
+    say(&map);
 
     for frame in &frames[1..] {
         count!("batch", 1, |_k| batch(&mut grid, &handles, frame));
@@ -130,6 +162,8 @@ fn points(mut data: Words) {
             0
         });
         count!("circles", PICKS, |k| around(&grid, centres[k], 60.0, &mut found));
+        count!("frame map", 1, |_k| fill_map(&grid, &boxes, &centres, &mut map));
+        say(&map);
     }
 }
 

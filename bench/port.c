@@ -17,14 +17,28 @@ static struct {
   Spot spots[MOST];
   uint64_t cells[MOST][2];
 } t, kept;
+/* The box grid of the map. */
+static struct {
+  uint32_t nums[256][4];
+  Box reals[256];
+  uint64_t map[3 + 256 / 64], pool[ENTRIES][2];
+} b;
 static uint32_t n, kinds[MOST], handles[MOST][2], found[MOST][2], objs[MOST];
 static Spot frames[FRAMES + 1][MOST], centres[PICKS], places[MOST];
 static Box boxes[256], same[PICKS], other[PICKS], asked[PICKS], found_boxes[256];
 static uint32_t picked[PICKS];
+static float circles[PICKS][3];
+static uint8_t bytes[3600];
+static Slice box_nums = {b.nums, 256}, box_reals = {b.reals, 256}, box_map = {b.map, 3 + 256 / 64}, box_pool = {b.pool, ENTRIES};
+static Slice circles_ = {circles, PICKS}, bytes_ = {bytes, 3600};
 static Slice nums, reals, ints, map, pool, spots, cells, kinds_, handles_, found_, places_, objs_, found_boxes_;
 #define POINTS &nums, &reals, &ints, &map, &pool, &spots, &cells
 #define BOXES &nums, &reals, &map, &pool
+#define MAP_BOXES &box_nums, &box_reals, &box_map, &box_pool
+#define MAP POINTS, MAP_BOXES, &circles_, &bytes_
 #define QUERY &found_, &places_, &objs_
+
+#define OF(b) (b)[0], (b)[1], (b)[2], (b)[3]
 
 /* One region, over `times` calls; `k` counts them. Their results are added up. */
 #define COUNT(label, times, call)                               \
@@ -78,9 +92,11 @@ static uint32_t nearest_bare(Spot c, float r) { return points_nearest_bare(POINT
 #define LENT(slice) (slice).start, (slice).length
 #define ALL_POINTS LENT(nums), LENT(reals), LENT(ints), LENT(map), LENT(pool), LENT(spots), LENT(cells)
 #define ALL_BOXES LENT(nums), LENT(reals), LENT(map), LENT(pool)
+#define ALL_MAP LENT(box_nums), LENT(box_reals), LENT(box_map), LENT(box_pool), LENT(circles_), LENT(bytes_)
 static void proved_frame(Slice to) {
   COUNT("batch proved", 1, chavrupas_points_batch(ALL_POINTS, LENT(kinds_), LENT(handles_), LENT(to), LENT(found_)).answer);
   COUNT("maintain proved", 1, chavrupas_points_maintain(ALL_POINTS).moved);
+  COUNT("frame map proved", 1, chavrupas_encoder_fill_map(ALL_POINTS, ALL_MAP));
   UNDONE("circles proved", PICKS,
          chavrupas_points_query_around(ALL_POINTS, centres[k][0], centres[k][1], 60, LENT(found_), LENT(places_), LENT(objs_)).count);
 }
@@ -91,6 +107,15 @@ static void proved_boxes(void) {
 static void proved_frame(Slice to) { (void)to; }
 static void proved_boxes(void) {}
 #endif
+
+/* The map with the checks and without; then what it is, for the other side. */
+static void map_calls(const char *label, const char *bare) {
+  COUNT(label, 1, encoder_fill_map(MAP));
+  COUNT(bare, 1, encoder_fill_map_bare(MAP));
+  unsigned long sum = 0;
+  for (unsigned k = 0; k < 3600; k++) sum += (k + 1) * bytes[k];
+  printf("map 1 %lu\n", sum);
+}
 
 static void point_calls(void) {
   COUNT("get", PICKS, points_get(POINTS, PICK, 1));
@@ -108,9 +133,10 @@ static void point_calls(void) {
   COUNT("nearest 60 bare", PICKS, nearest_bare(centres[k], 60));
   COUNT("query_around 150", PICKS, around(centres[k], 150));
   COUNT("query_around 150 bare", PICKS, around_bare(centres[k], 150));
+  map_calls("fill_map", "fill_map bare");
 }
 
-/* Each frame's batch, maintain and circles from the same tables, with the checks and without. */
+/* Each frame's batch, maintain, circles and map from the same tables, with the checks and without. */
 static void point_frames(void) {
   for (unsigned f = 1; f <= FRAMES; f++) {
     Slice to = {frames[f], n};
@@ -123,6 +149,7 @@ static void point_frames(void) {
     COUNT("maintain bare", 1, points_maintain_bare(POINTS));
     COUNT("circles", PICKS, around(centres[k], 60));
     COUNT("circles bare", PICKS, around_bare(centres[k], 60));
+    map_calls("frame map", "frame map bare");
   }
 }
 
@@ -132,12 +159,16 @@ static void points(FILE *f) {
   must(head[1] == FRAMES && head[0] <= MOST, "other data");
   lend(head[0], head[0]);
   for (unsigned i = 0; i <= FRAMES; i++) get(f, frames[i], sizeof(Spot), n);
-  get(f, centres, sizeof(Spot), PICKS);
+  get(f, centres, sizeof(Spot), PICKS), get(f, boxes, sizeof(Box), 256);
   must(points_new(POINTS, 16) == 0, "new");
   for (unsigned i = 0; i < n; i++) {
     must(points_insert_bare(POINTS, frames[0][i][0], frames[0][i][1], i) == 0, "insert");
     handles[i][0] = i, handles[i][1] = 1;
   }
+  must(boxes_new(MAP_BOXES, 16) == 0, "new");
+  for (unsigned i = 0; i < 256; i++) must(boxes_insert_bare(MAP_BOXES, OF(boxes[i]), i) == 0, "insert");
+  must(b.map[1] == ENTRIES, "the boxes do not fill the pool");
+  for (unsigned k = 0; k < PICKS; k++) circles[k][0] = centres[k][0], circles[k][1] = centres[k][1], circles[k][2] = 60;
   start();
   COUNT("check", 1, point_tables_check(POINTS));
   printf("cells 1 %lu\n", t.map[2]);
@@ -145,7 +176,6 @@ static void points(FILE *f) {
   point_frames();
 }
 
-#define OF(b) (b)[0], (b)[1], (b)[2], (b)[3]
 static void box_calls(FILE *f) {
   uint32_t count;
   get(f, &count, 4, 1);

@@ -44,25 +44,32 @@ def three(port, rust, label, share=1):
 
 def call_rows(port, rust, n):
     rows = {call: three(port, rust, call, 16) for call in CALLS}
+    rows['fill_map'] = three(port, rust, 'fill_map')
     rows['check, a slot'] = [port['check'] / n, None, None]
     return rows
 
 
 def frame_rows(port, rust, n):
-    parts = [three(port, rust, label) for label in ('batch', 'maintain', 'circles')]
-    checked, bare = sum(part[0] for part in parts), sum(part[1] for part in parts)
-    old = sum(part[2] for part in parts) if rust else 'not measured'
+    parts = {label: three(port, rust, label) for label in ('batch', 'maintain', 'circles', 'frame map')}
+
+    def whole(last):
+        return [sum(parts[label][k] for label in ('batch', 'maintain', last)) if rust or k < 2 else 'not measured' for k in range(3)]
+
+    checked, bare, old = whole('circles')
+    mapped = whole('frame map')
     once = checked - (port['circles'] - port['circles bare']) * 15 / 16
     rows = {
         'batch, a move': three(port, rust, 'batch', n),
-        'maintain': parts[1],
+        'maintain': parts['maintain'],
         'check, every object pending, a slot': [port['check pending'] / n, None, None],
         'frame, 18 checks': [checked, bare, old],
         'frame, one check for the circles': [once, None, old],
+        'frame with the map, 4 checks': mapped,
     }
     if rust:
         rows["frame, 18 checks, times the Rust's"] = [checked / old, bare / old, None]
         rows["frame, one check for the circles, times the Rust's"] = [once / old, None, None]
+        rows["frame with the map, 4 checks, times the Rust's"] = [mapped[0] / mapped[2], mapped[1] / mapped[2], None]
     return rows
 
 
@@ -91,7 +98,8 @@ def print_points():
     print_rows(call_rows, 95, '')
     print_rows(frame_rows, 95, ' (95 %)')
     print_rows(frame_rows, 5, ' (5 %)')
-    print('\n95 % or 5 % of the points change cell in a frame. A frame is a batch of n moves, maintain and 16 circles of radius 60.\n')
+    print('\n95 % or 5 % of the points change cell in a frame. A frame is a batch of n moves, maintain and 16 circles of radius 60;\n'
+          'in a frame with the map `fill_map` of these circles and of 256 boxes in a pool of 8,192 entries takes their place.\n')
 
 
 def print_boxes():
@@ -109,14 +117,14 @@ def print_boxes():
           f"{few['check']:,.0f} and {many['check']:,.0f}).")
 
 
-# Both sides have found as much, and have the same data of the nearest.
+# Both sides have found as much, and have the same data of the nearest and the same maps.
 def print_agreement():
     same, other = 0, []
     for folder in sorted(glob.glob(COUNTS + '/original/*')):
         data = os.path.basename(folder)
         port, rust = read('port', data)[1], read('original', data)[1]
         for label in rust:
-            if label.startswith(('query', 'nearest', 'circles')):
+            if label.startswith(('query', 'nearest', 'circles', 'map')):
                 same += port[label] == rust[label]
                 other += [f'{data}: {label}'] if port[label] != rust[label] else []
     if same or other:

@@ -1,4 +1,5 @@
-/* A frame at a desk, from C: points come in, trackers move them in one batch, maintain ends the frame, a circle finds what is near a wrist.
+/* A frame at a desk, from C: points come in, trackers move them in one batch, maintain ends the frame, a circle finds what is near a wrist; and the map that
+   tells the encoder where to spend its bits.
    ./examples/run compiles and runs it, and compares what it prints with frame.out. */
 #include <stdio.h>
 #include <stdlib.h>
@@ -62,6 +63,23 @@ static void nearest(float x, float y, float radius)
     else printf("slot %u version %u at (%g, %g) data %u\n", (unsigned)r.slot, (unsigned)r.version, r.x, r.y, (unsigned)r.obj);
 }
 
+/* The map for the encoder, of two grids with cells of 16: the blocks that are not 0. */
+static void map(void)
+{
+    static CHAVRUPAS_POINT_GRID(SLOTS) points;
+    static CHAVRUPAS_BOX_GRID(1, 8) boxes;
+    static uint8_t bytes[CHAVRUPAS_FRAME_BLOCKS];
+    const chavrupas_circle wrists[] = {{100, 500, 30}};
+    done(chavrupas_points_new(CHAVRUPAS_POINTS(points), 16), "new");
+    done(chavrupas_boxes_new(CHAVRUPAS_BOXES(boxes), 16), "new");
+    done(chavrupas_points_insert(CHAVRUPAS_POINTS(points), 100, 500, 1).answer, "insert");
+    done(chavrupas_points_insert(CHAVRUPAS_POINTS(points), 640, 200, 2).answer, "insert");
+    done(chavrupas_boxes_insert(CHAVRUPAS_BOXES(boxes), 90, 490, 110, 495, 1).answer, "insert");
+    done(chavrupas_encoder_fill_map(CHAVRUPAS_POINTS(points), CHAVRUPAS_BOXES(boxes), CHAVRUPAS_ALL(wrists), CHAVRUPAS_ALL(bytes)), "fill_map");
+    for (unsigned k = 0; k < CHAVRUPAS_FRAME_BLOCKS; k++)
+        if (bytes[k] != 0) printf("block (%u, %u): %u\n", k % CHAVRUPAS_FRAME_COLUMNS, k / CHAVRUPAS_FRAME_COLUMNS, (unsigned)bytes[k]);
+}
+
 int main(void)
 {
     done(chavrupas_points_new(CHAVRUPAS_POINTS(desk), CELL), "new");
@@ -79,5 +97,6 @@ int main(void)
 
     chavrupas_point_got g = chavrupas_points_get(CHAVRUPAS_POINTS(desk), lamp.slot, lamp.version);
     printf("the lamp's handle: answer %u\n", (unsigned)g.answer);
+    map();
     return 0;
 }

@@ -251,6 +251,11 @@ impl<'a> BoxRound<'a> {
     pub fn tables(&self) -> &BoxTables {
         &self.tables
     }
+
+    /// The tables, and the original in the same state.
+    pub fn state(&self) -> (BoxTables, OldBoxes) {
+        (self.tables.clone(), self.old.clone())
+    }
 }
 
 /// Building with wrong lengths (3) and with sizes outside their limits (2), which leave all as it was.

@@ -22,6 +22,14 @@ impl BoxRound<'_> {
         self.ground.any_box(from, &mut self.rng)
     }
 
+    /// As many boxes as there are slots.
+    pub fn fill(&mut self) {
+        for _ in 0..self.tables().nums.len() {
+            let aabb = self.any_box();
+            self.insert(aabb);
+        }
+    }
+
     /// One call, of any kind.
     pub fn step(&mut self) {
         match self.rng.below(100) {

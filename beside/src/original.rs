@@ -6,6 +6,7 @@ use flat_spatial::grid::GridHandle;
 use flat_spatial::{AABBGrid, Grid, AABB};
 use std::collections::HashMap;
 
+#[derive(Clone)]
 pub struct OldPoints {
     pub grid: Grid<u32, [f32; 2]>,
     handles: HashMap<u32, GridHandle>,
@@ -55,6 +56,11 @@ impl OldPoints {
         let mut all: Vec<u32> = self.grid.handles().map(|h| *self.grid.get(h).unwrap().1).collect();
         all.sort_unstable();
         all
+    }
+
+    /// The recorded positions of all objects.
+    pub fn places(&self) -> Vec<Spot> {
+        self.grid.handles().map(|h| spot(self.grid.get(h).unwrap().0)).collect()
     }
 
     /// Positions and data, sorted. A new grid then has no handle of before.
@@ -111,6 +117,7 @@ impl AABB for OldBox {
     }
 }
 
+#[derive(Clone)]
 pub struct OldBoxes {
     pub grid: AABBGrid<u32, OldBox>,
     handles: HashMap<u32, AABBGridHandle>,

@@ -13,6 +13,8 @@ pub enum Kind {
     Far,
     Lattice,
     Mixed,
+    /// Of maps alone.
+    Frame,
 }
 
 pub const KINDS: [Kind; 8] = [Kind::Desk, Kind::Bits, Kind::Edges, Kind::Tiny, Kind::Near, Kind::Far, Kind::Lattice, Kind::Mixed];
@@ -30,6 +32,11 @@ pub fn neighbour(c: f32, places: i64) -> f32 {
     let moved = rank(c.to_bits()) + places;
     let bits = if moved < 0 { (-(moved + 1)) as u32 | 0x8000_0000 } else { moved as u32 };
     f32::from_bits(bits).clamp(-EDGE, EDGE)
+}
+
+/// An edge of a block of the frame, every second time, or a place or two beside it.
+fn beside(edge: f32, rng: &mut Rng) -> f32 {
+    neighbour(edge, rng.pick(&[-2, -1, 0, 0, 0, 1]))
 }
 
 /// A number outside the domain, or any bits at all.
@@ -68,6 +75,16 @@ impl Ground {
             }
             // Few places, so that many points stand on one, are equally far from another, and on edges of cells.
             Kind::Lattice => rng.within(-8, 8) as f32 * size / 4.0,
+            // The frame of a map, 1280 by 720: an edge of a block or of the frame, or a place or two beside it; anywhere, a little outside too; or far away.
+            Kind::Frame => {
+                let far = rng.pick(&[1_280, 720]);
+                match rng.below(4) {
+                    0 => beside((rng.within(-1, far / 16 + 1) * 16) as f32, rng),
+                    1 => beside(rng.pick(&[0, far]) as f32, rng),
+                    2 if rng.once_in(6) => bit_pattern(rng),
+                    _ => (rng.unit() * (far + 40) as f64 - 20.0) as f32,
+                }
+            }
             Kind::Mixed => {
                 let kind = rng.pick(&KINDS[..7]);
                 Ground { kind, size: self.size }.coordinate(rng)
@@ -126,6 +143,12 @@ impl Ground {
     /// The other corner of a range: within few cells mostly, at the limit of 4,096 cells, or past it.
     pub fn across(&self, c: f32, rng: &mut Rng) -> f32 {
         let size = f64::from(self.size);
+        if self.kind == Kind::Frame {
+            // Some blocks; every second time to an edge of one.
+            let far = c + (rng.unit() * 16.0 * rng.pick(&[0.0, 1.0, 2.0, 4.0, 8.0, 40.0])) as f32;
+            let edge = if rng.once_in(2) { beside((far / 16.0).round() * 16.0, rng) } else { far };
+            return edge.max(c).clamp(-EDGE, EDGE);
+        }
         let cells = match rng.below(12) {
             0 => 0.0,
             1..=4 => rng.unit(),
@@ -139,7 +162,7 @@ impl Ground {
 
     /// A box: of one cell or many; now and then reversed or outside the domain.
     pub fn any_box(&self, from: Spot, rng: &mut Rng) -> Aabb {
-        let mut ll = self.spot_by(from, rng);
+        let mut ll = if self.kind == Kind::Frame { self.spot(rng) } else { self.spot_by(from, rng) };
         let ur = Spot::new(self.across(ll.x, rng), self.across(ll.y, rng));
         if rng.once_in(80) {
             ll.x = wild(rng);

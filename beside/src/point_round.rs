@@ -347,6 +347,11 @@ impl<'a> PointRound<'a> {
     pub fn tables(&self) -> &PointTables {
         &self.tables
     }
+
+    /// The tables, and the original in the same state.
+    pub fn state(&self) -> (PointTables, OldPoints) {
+        (self.tables.clone(), self.old.clone())
+    }
 }
 
 /// Building with wrong lengths (3) and with sizes outside their limits (2), which leave all as it was.

@@ -1,4 +1,4 @@
-//! The port: the 25 calls of the static library, by include/chavrupas.h. A slice is two arguments, a pointer and the number of elements.
+//! The port: the 26 calls of the static library, by include/chavrupas.h. A slice is two arguments, a pointer and the number of elements.
 use crate::box_reading::Aabb;
 use crate::point_reading::Deferred;
 use crate::random::Rng;
@@ -137,6 +137,11 @@ over_points! {
         places: Rows<2>, places_len: usize, objs: Rows<1>, objs_len: usize
     ) -> Count;
     fn chavrupas_points_nearest(x: f32, y: f32, radius: f32) -> Nearest;
+    fn chavrupas_encoder_fill_map(
+        box_nums: Rows<4>, box_nums_len: usize, box_reals: Rows<4>, box_reals_len: usize,
+        box_map: *mut u64, box_map_len: usize, box_pool: *mut [u64; 2], box_pool_len: usize,
+        circles: *const [f32; 3], circles_len: usize, bytes: *mut u8, bytes_len: usize
+    ) -> u32;
 }
 
 over_boxes! {
@@ -325,4 +330,26 @@ impl BoxTables {
         let (o, ol) = (objs.pointer(), objs.places);
         with_boxes!(self, chavrupas_boxes_query(q.ll.x, q.ll.y, q.ur.x, q.ur.y, f, fl, b, bl, o, ol))
     }
+}
+
+/// The call over both grids.
+pub fn call_fill_map(points: &mut PointTables, boxes: &mut BoxTables, circles: &[[f32; 3]], bytes: &mut [u8]) -> u32 {
+    let (n, r, m, p) = (&mut boxes.nums, &mut boxes.reals, &mut boxes.map, &mut boxes.pool);
+    with_points!(
+        points,
+        chavrupas_encoder_fill_map(
+            n.as_mut_ptr(),
+            n.len(),
+            r.as_mut_ptr(),
+            r.len(),
+            m.as_mut_ptr(),
+            m.len(),
+            p.as_mut_ptr(),
+            p.len(),
+            circles.as_ptr(),
+            circles.len(),
+            bytes.as_mut_ptr(),
+            bytes.len()
+        )
+    )
 }

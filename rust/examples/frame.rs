@@ -1,5 +1,5 @@
 //! The frame of examples/frame.c, from Rust: it prints the same. `cargo run --example frame`.
-use chavrupas::{Grid, Handle, Kind, Refusal, Reply};
+use chavrupas::{encoder, Aabb, AabbGrid, Grid, Handle, Kind, Refusal, Reply};
 
 /// The trackers' calls of one frame, with one check of the tables: two moves and a removal.
 fn track(desk: &mut Grid, handles: [Handle; 3]) -> Result<(), Refusal> {
@@ -32,6 +32,20 @@ fn nearest(desk: &Grid, [x, y]: [f32; 2], radius: f32) -> Result<(), Refusal> {
     Ok(())
 }
 
+/// The map for the encoder, of two grids with cells of 16: the blocks that are not 0.
+fn map() -> Result<(), Refusal> {
+    let (mut points, mut boxes) = (Grid::new(encoder::SIDE, 4)?, AabbGrid::new(encoder::SIDE, 1, 8)?);
+    points.insert([100.0, 500.0], 1)?;
+    points.insert([640.0, 200.0], 2)?;
+    boxes.insert(Aabb::new([90.0, 490.0], [110.0, 495.0]), 1)?;
+    let mut bytes = [0; encoder::BLOCKS];
+    encoder::fill_map(&points, &boxes, &[[100.0, 500.0, 30.0]], &mut bytes)?;
+    for (k, byte) in bytes.iter().enumerate().filter(|(_, byte)| **byte != 0) {
+        println!("block ({}, {}): {byte}", k % encoder::COLUMNS, k / encoder::COLUMNS);
+    }
+    Ok(())
+}
+
 fn main() -> Result<(), Refusal> {
     let mut desk = Grid::new(64, 4)?;
     let (hand, finger) = (desk.insert([100.0, 500.0], 1)?, desk.insert([112.0, 508.0], 2)?);
@@ -47,5 +61,5 @@ fn main() -> Result<(), Refusal> {
     nearest(&desk, [100.0, 500.0], 30.0)?;
 
     println!("the lamp's handle: answer {}", desk.get(lamp).map_or_else(Refusal::number, |_| 0));
-    Ok(())
+    map()
 }

@@ -22,10 +22,10 @@ use crate::{map_words, rows, Aabb, Handle, Refusal};
 /// ```
 #[derive(Clone)]
 pub struct AabbGrid {
-    nums: Box<[[u32; 4]]>,
-    reals: Box<[Aabb]>,
-    map: Box<[u64]>,
-    pool: Box<[[u64; 2]]>,
+    pub(crate) nums: Box<[[u32; 4]]>,
+    pub(crate) reals: Box<[Aabb]>,
+    pub(crate) map: Box<[u64]>,
+    pub(crate) pool: Box<[[u64; 2]]>,
     // where findings go: a place for each slot is always enough
     found: Box<[Handle]>,
     boxes: Box<[Aabb]>,

@@ -515,4 +515,32 @@ extern "C" {
         objs_n: usize,
     ) -> Count;
 
+    pub fn chavrupas_encoder_fill_map(
+        nums: *const [u32; 4],
+        nums_n: usize,
+        reals: *const [f32; 4],
+        reals_n: usize,
+        ints: *const [i32; 4],
+        ints_n: usize,
+        map: *const u64,
+        map_n: usize,
+        pool: *const [u64; 2],
+        pool_n: usize,
+        spots: *const [f32; 2],
+        spots_n: usize,
+        cells: *const [u64; 2],
+        cells_n: usize,
+        box_nums: *const [u32; 4],
+        box_nums_n: usize,
+        box_reals: *const Aabb,
+        box_reals_n: usize,
+        box_map: *const u64,
+        box_map_n: usize,
+        box_pool: *const [u64; 2],
+        box_pool_n: usize,
+        circles: *const [f32; 3],
+        circles_n: usize,
+        bytes: *mut u8,
+        bytes_n: usize,
+    ) -> u32;
 }

@@ -22,13 +22,13 @@ use crate::{map_words, rows, Handle, Refusal};
 /// ```
 #[derive(Clone)]
 pub struct Grid {
-    nums: Box<[[u32; 4]]>,
-    reals: Box<[[f32; 4]]>,
-    ints: Box<[[i32; 4]]>,
-    map: Box<[u64]>,
-    pool: Box<[[u64; 2]]>,
-    spots: Box<[[f32; 2]]>,
-    cells: Box<[[u64; 2]]>,
+    pub(crate) nums: Box<[[u32; 4]]>,
+    pub(crate) reals: Box<[[f32; 4]]>,
+    pub(crate) ints: Box<[[i32; 4]]>,
+    pub(crate) map: Box<[u64]>,
+    pub(crate) pool: Box<[[u64; 2]]>,
+    pub(crate) spots: Box<[[f32; 2]]>,
+    pub(crate) cells: Box<[[u64; 2]]>,
     // where findings go: a place for each slot is always enough
     found: Box<[Handle]>,
     places: Box<[[f32; 2]]>,

@@ -3,7 +3,7 @@
 //! [`Grid`] and [`AabbGrid`] have the names and rules of flat_spatial's `Grid` and `AABBGrid`, with these differences: the number of slots is
 //! given to `new` and all memory is taken there; coordinates are `[f32; 2]`, data is one `u32`; what is refused is a [`Refusal`] and never a
 //! panic; queries take `&mut self`, since they put what they find into the grid's own memory, and give the data beside handle and position;
-//! [`Grid::nearest`] is new, and takes `&self`.
+//! [`Grid::nearest`] is new, and takes `&self`. [`encoder::fill_map`] is a layer above both grids: a byte for each block of a frame.
 //!
 //! ```
 //! use chavrupas::Grid;
@@ -26,11 +26,13 @@
 //! named in the environment variable `CHAVRUPAS_LIB`. x86-64 Linux only.
 //!
 //! # What is proved
-//! The calls of the static library are; this crate is a thin layer of Rust over them, and is tested. Its `unsafe` code is one macro in each grid.
+//! The calls of the static library are; this crate is a thin layer of Rust over them, and is tested. Its `unsafe` code is one macro in each grid and
+//! one in [`encoder`].
 //!
 //! Every call checks the tables of its grid first, which takes time in proportion to the slots: move many points with [`Grid::batch`], which checks
 //! once. A call takes up to 140 KB of stack and no heap.
 mod aabbgrid;
+pub mod encoder;
 mod ffi;
 mod grid;
 mod refusal;

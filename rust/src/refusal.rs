@@ -8,7 +8,8 @@ pub enum Refusal {
     Removed = 1,
     /// 2: a cell size that is not from 1 to 1,048,576.
     CellSize = 2,
-    /// 3: a number of slots or entries outside the limits (in `new`), or lists of unequal length (in `batch`).
+    /// 3: a number of slots or entries outside the limits (in `new`), lists of unequal length (in `batch`), or a map, a cell size or a
+    /// number of circles that is not right (in `encoder::fill_map`).
     Tables = 3,
     /// 4: every slot is occupied or retired.
     NoUsableSlot = 4,

@@ -1,4 +1,5 @@
 //! What a new user gets wrong: each is refused by name, and nothing changes.
+use chavrupas::encoder::{fill_map, BLOCKS, COLUMNS, ROWS};
 use chavrupas::Refusal::*;
 use chavrupas::{Aabb, AabbGrid, Found, Grid, Handle, Kind, Refusal, Reply};
 
@@ -93,6 +94,69 @@ fn nearest() {
     assert_eq!((f.handle, f.position.map(f32::to_bits), f.obj), (zero, [1 << 31, 0], 4));
     g.remove_maintain(zero).unwrap();
     assert_eq!(one(&g, [0.0; 2], 1.0), Some(5));
+}
+
+/// The map of a pair of grids: column, row and byte of each block that is not 0.
+fn mapped(p: &Grid, b: &AabbGrid, circles: &[[f32; 3]]) -> Vec<(usize, usize, u8)> {
+    let mut map = [77; BLOCKS];
+    fill_map(p, b, circles, &mut map).unwrap();
+    (0..BLOCKS).filter(|k| map[*k] != 0).map(|k| (k % COLUMNS, k / COLUMNS, map[k])).collect()
+}
+
+#[test]
+fn maps() {
+    let (mut p, mut b) = (Grid::new(16, 8).unwrap(), AabbGrid::new(16, 8, 64).unwrap());
+    assert_eq!((COLUMNS * ROWS, mapped(&p, &b, &[]), mapped(&p, &b, &[[0.0, 0.0, 500.0]; 16])), (BLOCKS, vec![], vec![]));
+    // left and top edge in, right and bottom out, of a block and of the frame
+    let mut handles = vec![];
+    for at in [[-0.0, 0.0], [16.0, 15.999999], [1279.9999, 719.99994], [1280.0, 0.0], [0.0, 720.0], [-1e-20, 5.0], [5.0, -1e-20]] {
+        handles.push(p.insert(at, 0).unwrap());
+    }
+    assert_eq!(mapped(&p, &b, &[]), [(0, 0, 1), (1, 0, 1), (79, 44, 1)]);
+    // the circle's edge is out, and what it finds outside the frame is in no block
+    assert_eq!(mapped(&p, &b, &[[26.0, 16.0, 10.0]]), [(0, 0, 1), (1, 0, 1), (79, 44, 1)]);
+    let around = [[26.0, 16.0, 10.000001], [1280.0, 0.0, 1.0], [0.0, 0.0, 0.0]];
+    assert_eq!(mapped(&p, &b, &around), [(0, 0, 1), (1, 0, 3), (79, 44, 1)]);
+    // a box is met with all four edges; 3 goes before it, and it goes before a point that no circle finds
+    b.insert(Aabb::new([16.0; 2], [16.0; 2]), 1).unwrap();
+    assert_eq!(mapped(&p, &b, &around), [(0, 0, 2), (1, 0, 3), (0, 1, 2), (1, 1, 2), (79, 44, 1)]);
+    // what shares a cell with the block and does not meet it is no box of it
+    assert_eq!(b.clear().count(), 1);
+    b.insert(Aabb::new([17.0; 2], [18.0; 2]), 1).unwrap();
+    assert_eq!(mapped(&p, &b, &[]), [(0, 0, 1), (1, 0, 1), (1, 1, 2), (79, 44, 1)]);
+    // pending states do not count until maintain
+    p.set_position(handles[0], [100.0, 100.0]).unwrap();
+    p.remove(handles[2]).unwrap();
+    assert_eq!(mapped(&p, &b, &[[100.0, 100.0, 1.0], [1279.0, 719.0, 2.0]]), [(0, 0, 1), (1, 0, 1), (1, 1, 2), (79, 44, 3)]);
+    p.maintain();
+    assert_eq!(mapped(&p, &b, &[[100.0, 100.0, 1.0], [1279.0, 719.0, 2.0]]), [(1, 0, 1), (1, 1, 2), (6, 6, 3)]);
+}
+
+#[test]
+fn refused_maps() {
+    let (p, b) = (Grid::new(16, 8).unwrap(), AabbGrid::new(16, 8, 64).unwrap());
+    let mut map = [77; BLOCKS + 1];
+    // 3 before 6 before 7, whichever circle comes first
+    let (bad, wide) = ([NAN, 0.0, 1.0], [0.0, 0.0, 600.0]);
+    for circles in [[bad, wide], [wide, bad]] {
+        for bytes in [0, BLOCKS - 1, BLOCKS + 1] {
+            assert_eq!(fill_map(&p, &b, &circles, &mut map[..bytes]), Err(Tables));
+        }
+        for (p, b) in [(&Grid::new(15, 8).unwrap(), &b), (&p, &AabbGrid::new(32, 8, 64).unwrap())] {
+            assert_eq!(fill_map(p, b, &circles, &mut map[..BLOCKS]), Err(Tables));
+        }
+        assert_eq!(fill_map(&p, &b, &circles, &mut map[..BLOCKS]), Err(OutsideDomain));
+    }
+    assert_eq!(fill_map(&p, &b, &[bad; 17], &mut map[..BLOCKS]), Err(Tables));
+    assert_eq!(fill_map(&p, &b, &[wide; 16], &mut map[..BLOCKS]), Err(TooManyCells));
+    for c in [[0.0, f32::INFINITY, 1.0], [1_048_577.0, 0.0, 1.0], [0.0, 0.0, -1.0], [0.0, 0.0, NAN], [0.0, 0.0, 2_000_000.0]] {
+        assert_eq!(fill_map(&p, &b, &[[0.0; 3], c], &mut map[..BLOCKS]), Err(OutsideDomain));
+    }
+    assert_eq!(map, [77; BLOCKS + 1]);
+    // 64 by 64 cells are not too many
+    assert_eq!(fill_map(&p, &b, &[[512.0, 512.0, 512.0]], &mut map[..BLOCKS]), Err(TooManyCells));
+    assert_eq!(fill_map(&p, &b, &[[512.0, 512.0, 511.9]], &mut map[..BLOCKS]), Ok(()));
+    assert_eq!((map[..BLOCKS].iter().max(), map[BLOCKS]), (Some(&0), 77));
 }
 
 /// The tables of a point grid of two slots, lent as C lends them.
@@ -331,6 +395,37 @@ macro_rules! call_boxes {
             )
         }
     };
+}
+
+/// The answer of `fill_map` on these tables, without a circle: the whole map is filled, or none of it.
+fn map_told(t: &mut Lent, b: &LentBoxes) -> u32 {
+    let (mut map, none) = ([77; BLOCKS], [[0.0; 3]; 0]);
+    let (nums, reals, words, pool) = (b.nums.as_ptr(), b.reals.as_ptr(), b.map.as_ptr(), b.pool.as_ptr());
+    let answer = call!(chavrupas_encoder_fill_map, t, nums, 2, reals, 2, words, 4, pool, 2, none.as_ptr(), 0, map.as_mut_ptr(), BLOCKS);
+    assert_eq!(map, if answer == 0 { [0; BLOCKS] } else { [77; BLOCKS] });
+    answer
+}
+
+#[test]
+fn maps_as_c_has_them() {
+    let (mut t, mut b) = (Lent::default(), LentBoxes::default());
+    assert_eq!(map_told(&mut t, &b), 3);
+    assert_eq!(call!(chavrupas_points_new, t, 16), 0);
+    assert_eq!(map_told(&mut t, &b), 3); // the boxes are not built
+    assert_eq!(call_boxes!(chavrupas_boxes_new, b, 16), 0);
+    assert_eq!(map_told(&mut t, &b), 0);
+    t.map[1] = 1; // an entry more than there are objects
+    assert_eq!(map_told(&mut t, &b), 3);
+    t.map[1] = 0;
+    b.map[1] = 1;
+    assert_eq!(map_told(&mut t, &b), 3);
+    b.map[1] = 0;
+    for size in [1, 15, 17, 1_048_576] {
+        (t.map[0], b.map[0]) = (size, 16);
+        assert_eq!(map_told(&mut t, &b), 3);
+        (t.map[0], b.map[0]) = (16, size);
+        assert_eq!(map_told(&mut t, &b), 3);
+    }
 }
 
 /// What each call of the box grid that takes a handle gives for it, boxes by bits.

@@ -2,7 +2,7 @@
 use std::alloc::{GlobalAlloc, Layout, System};
 use std::cell::Cell;
 
-use chavrupas::{Aabb, AabbGrid, Grid, Kind, Reply};
+use chavrupas::{encoder, Aabb, AabbGrid, Grid, Kind, Reply};
 
 thread_local!(static TAKEN: Cell<usize> = const { Cell::new(0) });
 
@@ -67,5 +67,20 @@ fn boxes() {
     assert!(g.query(Aabb::new([0.0; 2], [9.0; 2])).unwrap().len() > 1);
     assert_eq!(g.remove(a), Ok(0));
     assert_eq!(g.clear().count(), 63);
+    assert_eq!(taken(), before);
+}
+
+#[test]
+fn maps() {
+    let (mut p, mut b) = (Grid::new(16, 256).unwrap(), AabbGrid::new(16, 64, 1024).unwrap());
+    let mut map = [0; encoder::BLOCKS];
+    let before = taken();
+    for i in 0..64 {
+        let x = i as f32 * 7.0;
+        p.insert([x, x], i).unwrap();
+        b.insert(Aabb::new([x, 0.0], [x + 20.0, 20.0]), i).unwrap();
+    }
+    encoder::fill_map(&p, &b, &[[50.0, 50.0, 40.0]; 16], &mut map).unwrap();
+    assert!((0..4).all(|byte| map.contains(&byte)));
     assert_eq!(taken(), before);
 }

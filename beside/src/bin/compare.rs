@@ -2,6 +2,7 @@
 //! compare sample FOLDER: records for the trace program to FOLDER/stdin, the original's answers to FOLDER/stdout.
 use beside::box_round::BoxRound;
 use beside::log::Log;
+use beside::map_round::MapRound;
 use beside::places::{Ground, Kind, KINDS};
 use beside::point_round::PointRound;
 use beside::random::Rng;
@@ -62,10 +63,26 @@ fn boxes(mut rng: Rng, log: &mut Log) {
     }
 }
 
+/// Both grids with cells of 16, and their map: a call is some thousand queries of the original, so that there are few.
+fn maps(mut rng: Rng, log: &mut Log) {
+    let n = if rng.once_in(24) { 4_096 } else { rng.within(1, 600) } as usize;
+    let box_n = number(&mut rng, &BOX_SLOTS, 256) as usize;
+    let pool = rng.pick(&[16, 512, 4_096, 8_192]);
+    log.what = format!("maps, n {n}, boxes {box_n}, pool {pool}");
+    let mut round = MapRound::new(rng, n, box_n, pool, log);
+    for _ in 0..40 {
+        round.step();
+    }
+}
+
 fn main() {
     let words: Vec<String> = std::env::args().skip(1).collect();
     if words.len() == 2 && words[0] == "sample" {
         return sample::write(words[1].as_ref()).expect("a folder to write to");
     }
-    rounds::run("compare", &words, |mut rng, log| if rng.below(5) < 3 { points(rng, log) } else { boxes(rng, log) })
+    rounds::run("compare", &words, |mut rng, log| match rng.below(6) {
+        0..=2 => points(rng, log),
+        3..=4 => boxes(rng, log),
+        _ => maps(rng, log),
+    })
 }

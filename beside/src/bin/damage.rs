@@ -5,13 +5,15 @@ use beside::box_round::BoxRound;
 use beside::calls::Outcome;
 use beside::holds::{read_boxes, read_points};
 use beside::log::Log;
+use beside::map_calls::{MapCall, FRAME};
+use beside::map_reading::{of_readings, Circle};
 use beside::places::{Ground, KINDS};
 use beside::point_calls::PointCall;
 use beside::point_round::PointRound;
 use beside::random::Rng;
 use beside::rounds;
 use beside::ruin::{Ruin, VALUES};
-use beside::rules::DONE;
+use beside::rules::{Spot, DONE};
 use beside::tables::{BoxTables, PointTables};
 
 /// Tables whose every word is set to every value; larger ones are damaged at random.
@@ -126,12 +128,48 @@ fn try_boxes(t: &BoxTables, calls: &[BoxCall], log: &mut Log) {
     }
 }
 
+/// The map of both grids, of which one is damaged. One that is filled is dear to read, so that most of the calls that the tables allow have a bad circle.
+fn try_map(points: &PointTables, boxes: &BoxTables, rng: &mut Rng, log: &mut Log) {
+    let (p, b) = (read_points(points), read_boxes(boxes));
+    let spots: Vec<Spot> = p.iter().flat_map(|p| p.slots.objects().map(|(_, o)| o.at)).collect();
+    let sizes = (p.as_ref().ok().map(|p| p.size), b.as_ref().ok().map(|b| b.size));
+    let mut call = MapCall::any(&spots, rng);
+    if call.answer(sizes.0, sizes.1) == DONE && !rng.once_in(16) {
+        call.circles = vec![Circle { centre: FRAME.spot(rng), r: -1.0 }];
+    }
+    let map = || of_readings(p.as_ref().unwrap(), b.as_ref().unwrap(), &call.circles);
+    call.hold(points, boxes, call.answer(sizes.0, sizes.1), map, rng, log);
+}
+
+/// Of the frame every second time, where `fill_map` takes the tables.
+fn some_ground(rng: &mut Rng) -> Ground {
+    if rng.once_in(2) {
+        FRAME
+    } else {
+        Ground { kind: rng.pick(&KINDS), size: rng.any_length(1_048_576) as u32 }
+    }
+}
+
+/// The other grid of a map: a small one that is whole.
+fn whole_points(rng: &mut Rng, log: &mut Log) -> PointTables {
+    let mut round = PointRound::new(Rng::new(rng.word()), FRAME, 5, log);
+    (0..20).for_each(|_| round.step());
+    round.tables().clone()
+}
+
+fn whole_boxes(rng: &mut Rng, log: &mut Log) -> BoxTables {
+    let mut round = BoxRound::new(Rng::new(rng.word()), FRAME, 3, 40, log);
+    (0..20).for_each(|_| round.step());
+    round.tables().clone()
+}
+
 /// A grid with objects, pending states and, one time in three, slots that are retired or about to be; then its damage.
 fn points(mut rng: Rng, log: &mut Log) {
-    let ground = Ground { kind: rng.pick(&KINDS), size: rng.any_length(1_048_576) as u32 };
+    let ground = some_ground(&mut rng);
     let n = if rng.once_in(5) { rng.pick(&[63, 64, 65, 300, 4_096]) } else { rng.within(1, 9) } as usize;
     log.what = format!("points, {:?}, size {}, n {n}", ground.kind, ground.size);
     let mut building = Log::new(log.seed, u64::MAX);
+    let boxes = whole_boxes(&mut rng, &mut building);
     let mut round = PointRound::new(rng.clone(), ground, n, &mut building);
     round.fill();
     for _ in 0..40 {
@@ -147,18 +185,20 @@ fn points(mut rng: Rng, log: &mut Log) {
     log.note("retired slots before damage", whole.nums.iter().filter(|row| row[1] == 2).count() as u64);
     damaged(&whole, &mut rng, |t| {
         try_points(t, &round.all_calls(), log);
+        try_map(t, &boxes, &mut round.rng, log);
         !log.done()
     });
     log.hold(building.differences == 0, || "differences while the grid was built".to_string());
 }
 
 fn boxes(mut rng: Rng, log: &mut Log) {
-    let ground = Ground { kind: rng.pick(&KINDS), size: rng.any_length(1_048_576) as u32 };
+    let ground = some_ground(&mut rng);
     let large = rng.once_in(5);
     let n = if large { rng.pick(&[63, 64, 65, 256]) } else { rng.within(1, 5) } as usize;
     let pool = if large { rng.pick(&[512, 8_192]) } else { rng.within(1, 24) } as usize;
     log.what = format!("boxes, {:?}, size {}, n {n}, pool {pool}", ground.kind, ground.size);
     let mut building = Log::new(log.seed, u64::MAX);
+    let points = whole_points(&mut rng, &mut building);
     let mut round = BoxRound::new(rng.clone(), ground, n, pool, &mut building);
     for _ in 0..(40 + 2 * n) {
         round.step();
@@ -168,6 +208,7 @@ fn boxes(mut rng: Rng, log: &mut Log) {
     log.note("retired slots before damage", whole.nums.iter().filter(|row| row[1] == 2).count() as u64);
     damaged(&whole, &mut rng, |t| {
         try_boxes(t, &round.all_calls(), log);
+        try_map(&points, t, &mut round.rng, log);
         !log.done()
     });
     log.hold(building.differences == 0, || "differences while the grid was built".to_string());
