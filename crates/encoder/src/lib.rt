@@ -10,10 +10,9 @@ ghost use Rattle.encoder.specs.Meaning.FillMap.{every, circleInDomain, c
 ghost use Rattle.encoder.specs.Inner.Drawn.{Drawable};
 use encoder_blocks::BLOCKS;
 use encoder_blocks::SIDE;
+use encoder_points::MOST_CIRCLES;
 use geometry::Position;
 use slots::Row;
-
-const MOST_CIRCLES: usize = 16;
 
 // Both tables hold a grid, and its cells are blocks.
 fn grids_right(

@@ -1,4 +1,5 @@
 -- Laws, and what the proofs share.
 pub mod SomeLaws
 pub mod MarkLaws
+pub mod NearLaws
 pub mod PointLaws

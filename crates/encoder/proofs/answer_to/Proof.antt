@@ -3,7 +3,8 @@ use Rattle.basics.specs.Words.{_≤_, _≡_, sym, _∙_, true, length, arith, n
 use Rattle.point_tables.specs.Meaning.Tables as Points
 use Rattle.box_tables.specs.Meaning.Tables as Boxes
 use Rattle.encoder_blocks.specs.Meaning.Blocks.{blocks}
-use Rattle.encoder.specs.Meaning.FillMap.{mostCircles, every, circleInDomain, gridsRight}
+use Rattle.encoder_points.specs.Meaning.Points.{mostCircles}
+use Rattle.encoder.specs.Meaning.FillMap.{every, circleInDomain, gridsRight}
 use Rattle.encoder.proofs.laws.AnswerLaws.{too-many, other-length, grids-wrong, out-of-domain, out-of-range, all-right}
 use Rattle.encoder.proofs.answer_to.Statement.{statement}
 use Rattle.encoder.proofs.answer_to.Tie as tie

@@ -1,7 +1,5 @@
 -- `encoder::circle_in_range` meets its contract. Assumes nothing.
-use Rattle.basics.specs.Words.{sym, _∙_, subst, leb, T, arith, needs}
-use Rattle.basics.proofs.laws.Says.{both-true, says-t}
-use Rattle.geometry.specs.Meaning.Domain.{positionInDomain, radiusInDomain}
+use Rattle.basics.specs.Words.{sym, _∙_, subst, leb, arith, needs}
 use Rattle.geometry.specs.Meaning.Circle.{cornerBelow, cornerAbove}
 use Rattle.basics.specs.Meaning.Limits.{mostCells}
 use Rattle.cells.specs.Inner.CellRule.{Reached}
@@ -12,15 +10,15 @@ use Rattle.cells.proofs.laws.CellRuleLaws.{cell-near}
 use Rattle.cells.proofs.laws.ReachLaws.{low-reached, high-reached}
 use Rattle.encoder_blocks.specs.Meaning.Blocks.{side}
 use Rattle.encoder_points.specs.Meaning.Points.{centreOf, radiusOf}
+use Rattle.encoder_points.specs.Inner.Near.{Fine}
+use Rattle.encoder.proofs.laws.DrawLaws.{fine}
 use Rattle.encoder.proofs.circle_in_range.Statement.{statement}
 use Rattle.encoder.proofs.circle_in_range.Tie as tie
 
 -- the cell rule may be asked of both corners
 module _ (s : tie.Start) where
-  in-domain : T (positionInDomain (centreOf (s .args .t1))) × T (radiusInDomain (radiusOf (s .args .t1)))
-  in-domain =
-      let (p, r) = both-true (positionInDomain (centreOf (s .args .t1))) (radiusInDomain (radiusOf (s .args .t1))) (s .pre) in
-      (says-t (positionInDomain (centreOf (s .args .t1))) .yes p, says-t (radiusInDomain (radiusOf (s .args .t1))) .yes r)
+  in-domain : Fine (s .args .t1)
+  in-domain = fine (s .args .t1) (s .pre)
 
   below : Reached (cornerBelow (centreOf (s .args .t1)) (radiusOf (s .args .t1)))
   below = low-reached (centreOf (s .args .t1)) (radiusOf (s .args .t1)) (in-domain .0) (in-domain .1)

@@ -4,9 +4,11 @@ use Rattle.point_tables.specs.Meaning.Tables as Points
 use Rattle.box_tables.specs.Meaning.Tables as Boxes
 use Rattle.encoder_blocks.specs.Meaning.Blocks.{blocks}
 use Rattle.encoder_points.specs.Inner.Marks.{Marked}
+use Rattle.encoder_points.specs.Inner.Near.{Placed}
+use Rattle.encoder_points.proofs.laws.PointLaws.{placed}
 use Rattle.encoder_boxes.specs.Inner.Windows.{Stocked, Overlaid}
 use Rattle.encoder_boxes.proofs.laws.NarrowLaws.{stocked}
-use Rattle.encoder.proofs.laws.DrawLaws.{map-drawn}
+use Rattle.encoder.proofs.laws.DrawLaws.{all-in-domain, map-drawn}
 use Rattle.encoder.proofs.draw.Statement.{statement}
 use Rattle.encoder.proofs.draw.Tie as tie
 
@@ -17,6 +19,18 @@ abbrev boxes : tie.Start → Boxes.Tables
 boxes s = let a = s .args in Boxes.tables (a .boxnums .now) (a .boxreals .now) (a .boxmap .now) (a .boxpool .now)
 
 -- ---- the points marked
+mark-points-requires : tie.Need-mark-points-requires
+mark-points-requires c κs =
+    let i = c .before in
+    let s = i .before .before .before .before .before in
+    let t = points s in
+    let d = s .pre .0 in (
+      subst (Placed (t .pool) (t .spots)) (sym (i .index-of .ensures)) (placed t (d .points) (d .points-size)),
+      d .few,
+      all-in-domain (s .args .circles .now) (d .in-domain),
+      s .pre .1,
+    )
+
 module _ (m : tie.After-mark-points) where
   abbrev start : tie.Start
   start = m .before .before .before .before .before .before .before
@@ -55,7 +69,7 @@ draw-spec =
     (tie.spec
     (λ c. search needs)
     (λ c κs. search needs)
-    (λ c κs. search needs)
+    mark-points-requires
     (λ c. search needs)
     (λ c κs. search needs)
     mark-boxes-requires

@@ -3,14 +3,15 @@ use Rattle.basics.specs.Words.{ℕ, _≤_, _<_, _≡_, refl, _∙_, Bool, true,
 use Rattle.basics.specs.Words.{ne-eqb}
 use lib.Ieee.{Float}
 use Rattle.basics.specs.Meaning.Refusals.{unless, firstOf}
-use Rattle.basics.proofs.laws.Says.{both-true}
+use Rattle.basics.proofs.laws.Says.{both-true, leb-says}
 use Rattle.point_tables.specs.Meaning.Tables as Points
 use Rattle.point_tables.specs.Meaning.Decide as PointsDecide
 use Rattle.box_tables.specs.Meaning.Tables as Boxes
 use Rattle.box_tables.specs.Meaning.Decide as BoxesDecide
 use Rattle.encoder_blocks.specs.Meaning.Blocks.{side, blocks}
+use Rattle.encoder_points.specs.Meaning.Points.{mostCircles}
 use Rattle.encoder.specs.Meaning.Map.{mapOf}
-use Rattle.encoder.specs.Meaning.FillMap.{mostCircles, every, circleInDomain, circleInRange, gridsRight, lengthsRight, fillMapTests, filled, fillMapOf}
+use Rattle.encoder.specs.Meaning.FillMap.{every, circleInDomain, circleInRange, gridsRight, lengthsRight, fillMapTests, filled, fillMapOf}
 use Rattle.encoder.specs.Inner.Drawn.{Drawable}
 
 module _ (t : Points.Tables) (b : Boxes.Tables) (circles : List (List Float)) (bytes : List ℕ) where
@@ -67,8 +68,11 @@ module _ (t : Points.Tables) (b : Boxes.Tables) (circles : List (List Float)) (b
     parts : (lengthsRight circles bytes ≡ true) × (gridsRight t b ≡ true)
     parts = both-true (lengthsRight circles bytes) (gridsRight t b) (passed .0)
 
+    lengths : (leb (length circles) mostCircles ≡ true) × (eqb (length bytes) blocks ≡ true)
+    lengths = both-true (leb (length circles) mostCircles) (eqb (length bytes) blocks) (parts .0)
+
     pub length-passed : length bytes ≡ blocks
-    length-passed = eqb-true (length bytes) blocks (both-true (leb (length circles) mostCircles) (eqb (length bytes) blocks) (parts .0) .1)
+    length-passed = eqb-true (length bytes) blocks (lengths .1)
 
     pub drawable : Drawable t b circles
     drawable =
@@ -80,6 +84,7 @@ module _ (t : Points.Tables) (b : Boxes.Tables) (circles : List (List Float)) (b
           points-size = eqb-true (Points.sizeOf t) side sp;
           boxes = BoxesDecide.holds-says b .yes hb;
           boxes-size = eqb-true (Boxes.sizeOf b) side sb;
+          few = leb-says (length circles) mostCircles .yes (lengths .0);
           in-domain = passed .1;
         }
 

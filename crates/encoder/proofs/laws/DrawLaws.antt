@@ -1,5 +1,5 @@
 -- The map that is drawn is the map that is defined: byte by byte. Assumes nothing.
-use Rattle.basics.specs.Words.{ℕ, _/_, _%_, _<_, _≡_, refl, sym, _∙_, Bool, true, false, List, [], _∷_, map, getD, ext-getD, T, arith}
+use Rattle.basics.specs.Words.{ℕ, _/_, _%_, _<_, _≡_, refl, sym, _∙_, Bool, true, false, List, [], _∷_, map, getD, ext-getD, arith}
 use lib.Ieee.{Float}
 use Rattle.basics.specs.Meaning.Refusals.{pick}
 use Rattle.basics.proofs.laws.Says.{both-true, says-t}
@@ -10,6 +10,7 @@ use Rattle.box_tables.specs.Meaning.Tables as Boxes
 use Rattle.encoder_blocks.specs.Meaning.Blocks.{columns, blocks}
 use Rattle.encoder_points.specs.Meaning.Points.{centreOf, radiusOf, circled, recorded}
 use Rattle.encoder_points.specs.Inner.Marks.{pointByte, Marked}
+use Rattle.encoder_points.specs.Inner.Near.{Fine}
 use Rattle.encoder_boxes.specs.Meaning.Boxes.{boxed}
 use Rattle.encoder_boxes.specs.Inner.Windows.{boxByte, Overlaid}
 use Rattle.encoder_points.proofs.laws.PointLaws.{recorded-is, circled-is}
@@ -28,12 +29,16 @@ overlaid false false true = refl
 overlaid false false false = refl
 
 -- ---- circles in the domain, each
-all-in-domain : (cs : List (List Float)) → every circleInDomain cs ≡ true → All (λ c. T (positionInDomain (centreOf c)) × T (radiusInDomain (radiusOf c))) cs
+pub fine : (c : List Float) → circleInDomain c ≡ true → Fine c
+fine c e =
+    let (p, r) = both-true (positionInDomain (centreOf c)) (radiusInDomain (radiusOf c)) e in
+    (says-t (positionInDomain (centreOf c)) .yes p, says-t (radiusInDomain (radiusOf c)) .yes r)
+
+pub all-in-domain : (cs : List (List Float)) → every circleInDomain cs ≡ true → All Fine cs
 all-in-domain [] e = tt
 all-in-domain (c ∷ cs) e =
     let (h, l) = both-true (circleInDomain c) (every circleInDomain cs) e in
-    let (p, r) = both-true (positionInDomain (centreOf c)) (radiusInDomain (radiusOf c)) h in
-    ((says-t (positionInDomain (centreOf c)) .yes p, says-t (radiusInDomain (radiusOf c)) .yes r), all-in-domain cs l)
+    (fine c h, all-in-domain cs l)
 
 -- ---- the whole map
 module _ (t : Points.Tables) (b : Boxes.Tables) (circles : List (List Float)) (d : Drawable t b circles) (mid new : List ℕ)

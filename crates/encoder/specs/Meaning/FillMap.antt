@@ -12,12 +12,8 @@ use Rattle.point_tables.specs.Meaning.Decide as PointsDecide
 use Rattle.box_tables.specs.Meaning.Tables as Boxes
 use Rattle.box_tables.specs.Meaning.Decide as BoxesDecide
 use Rattle.encoder_blocks.specs.Meaning.Blocks.{side, blocks}
-use Rattle.encoder_points.specs.Meaning.Points.{centreOf, radiusOf}
+use Rattle.encoder_points.specs.Meaning.Points.{mostCircles, centreOf, radiusOf}
 use Rattle.encoder.specs.Meaning.Map.{mapOf}
-
--- the most circles
-abbrev pub mostCircles : ℕ
-mostCircles = 16
 
 abbrev pub every : {A : Type 0} → (A → Bool) → List A → Bool
 every test [] = true

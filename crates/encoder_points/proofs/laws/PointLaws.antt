@@ -1,11 +1,10 @@
 -- The points of a block, by the entries: some entry stands in it exactly if a recorded point lies in it, and one of those is in some circle exactly if a
 -- circle finds a point there. Assumes nothing.
-use Rattle.basics.specs.Words.{ℕ, zero, suc, _<_, _≤_, _≡_, refl, sym, ap, ap₂, _∙_, Bool, true, false, _&&_, _||_, List, [], _∷_, length, take-all, T, eqb}
+use Rattle.basics.specs.Words.{ℕ, zero, suc, _<_, _≤_, _≡_, refl, sym, ap, ap₂, _∙_, Bool, true, false, _&&_, _||_, List, [], _∷_, length, take-all, eqb}
 use Rattle.basics.specs.Words.{add-one, arith, eqb-true, eq-eqb}
 use lib.Ieee.{Float}
 use Rattle.basics.specs.Meaning.Refusals.{pick}
 use Rattle.basics.proofs.laws.Says.{both-true, and-true, says-same, says-via}
-use Rattle.geometry.specs.Meaning.Domain.{positionInDomain, radiusInDomain}
 use Rattle.geometry.specs.Meaning.Circle.{inCircle}
 use Rattle.cells.specs.Meaning.CellRule.{cellAt}
 use Rattle.cells.specs.Meaning.Key.{keyOf}
@@ -32,6 +31,7 @@ use Rattle.encoder_blocks.specs.Inner.Places.{columnAt, lineAt, blockOf}
 use Rattle.encoder_blocks.proofs.laws.PlaceLaws.{point-place}
 use Rattle.encoder_points.specs.Meaning.Points.{centreOf, radiusOf, foundBy, circled, recorded}
 use Rattle.encoder_points.specs.Inner.Marks.{inSome, standsAt, circledAt, someBelow}
+use Rattle.encoder_points.specs.Inner.Near.{Fine, Placed}
 use Rattle.encoder_points.proofs.laws.SomeLaws.{some-two, some-more, or-false, none-below, same-below, either-below, below-says}
 
 -- ---- places that pass, as elements that do: of the entries, and of the live slots
@@ -69,6 +69,16 @@ nowhere : (b : Bool) → (b && false) ≡ false
 nowhere true = refl
 nowhere false = refl
 
+-- ---- what the pass asks for, of tables that hold a grid
+pub placed : (t : Tables) → Holds t → sizeOf t ≡ side → Placed (t .pool) (t .spots) (usedOf t)
+placed t h size =
+    record {
+      in-pool = in-pool t h;
+      in-spots = in-spots t h;
+      in-domain = λ j l. stands t h j l .in-domain;
+      key = λ j l. stands t h j l .key ∙ ap (λ (m : ℕ). keyOf (cellAt m (spotAt (t .spots) j))) size;
+    }
+
 module _ (t : Tables) (h : Holds t) (size : sizeOf t ≡ side) (k : ℕ) (l : k < blocks) where
   abbrev inside : Entry → Bool
   inside e = inBlock (columnAt k) (lineAt k) (positionOf e)
@@ -79,9 +89,8 @@ module _ (t : Tables) (h : Holds t) (size : sizeOf t ≡ side) (k : ℕ) (l : k 
   -- an entry in use stands in the block of its position
   stood : (n : ℕ) → n < usedOf t → standsAt (t .pool) k n ≡ inside (entryOf n)
   stood n u =
-      let s = stands t h n u in
-      ap (λ (j : ℕ). eqb (blockOf j) k) (s .key ∙ ap (λ (m : ℕ). keyOf (cellAt m (positionOf (entryOf n)))) size)
-      ∙ point-place k l (positionOf (entryOf n)) (s .in-domain)
+      let s = placed t h size in
+      ap (λ (j : ℕ). eqb (blockOf j) k) (s .key n u) ∙ point-place k l (positionOf (entryOf n)) (s .in-domain n u)
 
   -- ---- recorded points
   abbrev held : ℕ → Bool
@@ -114,7 +123,7 @@ module _ (t : Tables) (h : Holds t) (size : sizeOf t ≡ side) (k : ℕ) (l : k 
       ∙ some-live (t .nums) held
 
   -- ---- those that some circle finds
-  pub circled-is : (cs : List (List Float)) → All (λ c. T (positionInDomain (centreOf c)) × T (radiusInDomain (radiusOf c))) cs
+  pub circled-is : (cs : List (List Float)) → All Fine cs
       → someBelow (circledAt (t .pool) (t .spots) cs k) (usedOf t) ≡ circled t cs (columnAt k) (lineAt k)
   unfolding circled
   circled-is [] d = none-below (circledAt (t .pool) (t .spots) [] k) (usedOf t) (λ n u. nowhere (standsAt (t .pool) k n))

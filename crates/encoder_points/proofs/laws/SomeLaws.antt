@@ -4,7 +4,7 @@ use Rattle.basics.specs.Words.{drop-of-length-le, drop-cons, add-one, arith}
 use Rattle.basics.specs.Meaning.Refusals.{pick}
 use Rattle.basics.specs.Meaning.Says.{Says}
 use Rattle.basics.proofs.laws.Says.{apart, or-true, d-lt}
-use Rattle.storage.specs.Meaning.Keyed.{filter}
+use Rattle.storage.specs.Meaning.Keyed.{All, filter}
 use Rattle.storage.proofs.laws.FilterLaws.{by-test, filter-append}
 use Rattle.storage.proofs.laws.TakeOutLaws.{has}
 use Rattle.encoder_blocks.specs.Meaning.Some.{some}
@@ -17,6 +17,14 @@ module _ {A : Type 0} (test : A → Bool) (l : List A) (k : ℕ) where
 
   pub has-past : length l ≤ k → has test (drop k l) ≡ false
   has-past h = rw (drop-of-length-le l h)
+
+-- ---- those that a test leaves, where it leaves all that pass
+pub has-within : {A : Type 0} (test wide : A → Bool) (l : List A) → All (λ x. test x ≡ true → wide x ≡ true) l → has test (filter wide l) ≡ has test l
+has-within test wide [] a = refl
+has-within test wide (x ∷ l) a =
+    by-test (wide x)
+    (λ w. rw w (ap (pick (test x) true) (has-within test wide l (a .1))))
+    (λ w. by-test (test x) (λ e. absurd (apart (sym w ∙ a .0 e))) (λ e. rw (w, e) (has-within test wide l (a .1))))
 
 -- ---- what a test lets through is not empty
 some-append : {A : Type 0} (a b : List A) → some (a ++ b) ≡ (some a || some b)

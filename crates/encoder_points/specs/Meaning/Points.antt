@@ -13,6 +13,10 @@ use Rattle.point_query.specs.Meaning.Queries.{aroundFinds}
 use Rattle.encoder_blocks.specs.Meaning.Blocks.{inBlock}
 use Rattle.encoder_blocks.specs.Meaning.Some.{some}
 
+-- the most circles
+abbrev pub mostCircles : ℕ
+mostCircles = 16
+
 -- ---- a circle as it is lent: x, y and the radius
 abbrev pub centreOf : List Float → Position
 centreOf c = positionIn c
