@@ -14,7 +14,7 @@
      0  done
      1  set_position on an object marked removed
      2  cell size outside its limits (building)
-     3  tables of wrong length or not holding a grid
+     3  tables of wrong length or not holding a grid; of fill_map also another cell size, length or number of circles
      4  no usable slot
      6  coordinate or radius outside the domain, box reversed
      7  range or box over 4,096 cells
@@ -28,7 +28,7 @@
 
    What the library refuses, and what it cannot. Any length (0 too), any number, NaN and infinities, any handle and any damage to the tables get an
    answer, and never a trap. It cannot see where a pointer points. These are the caller's fault, and undefined as in all of C: a pointer that is null
-   or misaligned (rows are aligned as their numbers: 8 bytes for uint64_t, 4 for the others) or that reaches less memory than its length says; a table
+   or misaligned (rows are aligned as their numbers: 8 bytes for uint64_t, 1 for uint8_t, 4 for the others) or that reaches less memory than its length says; a table
    or output that the call writes (no const) and that overlaps another; two calls at once of which one writes what the other reads or writes.
    Where the length is 0 the pointer is not read, and may be null. A call takes up to 140 KB of stack.
 

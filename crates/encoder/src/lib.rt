@@ -6,7 +6,7 @@ ghost use Rattle.point_tables.specs.Meaning.Lent as PointsLent;
 ghost use Rattle.box_tables.specs.Meaning.Lent as BoxesLent;
 ghost use Rattle.encoder_blocks.specs.Meaning.Blocks.{blocks};
 ghost use Rattle.encoder.specs.Meaning.Map.{mapOf};
-ghost use Rattle.encoder.specs.Meaning.FillMap.{every, circleInDomain, circleInRange, gridsRight, fillMapTests, filled, fillMapOf};
+ghost use Rattle.encoder.specs.Meaning.FillMap.{every, circleInDomain, circleInRange, gridsRight, fillMapTests, mapFilled, fillMapOf};
 ghost use Rattle.encoder.specs.Inner.Drawn.{Drawable};
 use encoder_blocks::BLOCKS;
 use encoder_blocks::SIDE;
@@ -14,7 +14,7 @@ use encoder_points::MOST_CIRCLES;
 use geometry::Position;
 use slots::Row;
 
-// Both tables hold a grid, and its cells are blocks.
+// The tables of each grid hold one, with cells of 16.
 fn grids_right(
     nums: &[Row],
     reals: &[[f32; 4]],
@@ -165,8 +165,12 @@ fn draw(
     encoder_boxes::mark_boxes(boxreals, boxpool, box_used, bytes);
 }
 
-// Fills the map: 3 where a point that some circle finds lies in the block, else 2 where the box query with its four corners finds a box, else 1 where some
-// recorded point lies in it, else 0. Refusals: 3, 6, 7; neither grid's tables are written.
+// Fills the map of 3,600 bytes: byte j * 80 + i is the block from (16 i, 16 j) to (16 i + 16, 16 j + 16). 3 where a point that some circle finds lies in the
+// block, else 2 where the box query with its four corners finds a box, else 1 where some recorded point lies in it, else 0. Neither grid's tables are written.
+// Refusals: 3 (also for a cell size other than 16, another length of the map, or more than 16 circles), 6, 7.
+//     let wrists: [[f32; 3]; 2] = [[640.0, 360.0, 60.0], [900.0, 400.0, 60.0]];
+//     let a = encoder::fill_map(nums, reals, ints, map, pool, spots, cells, boxnums, boxreals, boxmap, boxpool, &wrists, bytes);
+//     // 0: bytes[22 * 80 + 40] is 3 if a point is recorded near the first wrist in the block from (640, 352) to (656, 368)
 pub fn fill_map(
     nums: &[Row],
     reals: &[[f32; 4]],
@@ -182,7 +186,7 @@ pub fn fill_map(
     circles: &[[f32; 3]],
     bytes: &mut [u8],
 ) -> u32
-    ensures { λ r. ⌜ filled r (is bytes) ≡ fillMapOf (PointsLent.before nums reals ints map pool spots cells) (BoxesLent.before boxnums boxreals boxmap boxpool) (was circles) (was bytes) ⌝ }
+    ensures { λ r. ⌜ mapFilled r (is bytes) ≡ fillMapOf (PointsLent.before nums reals ints map pool spots cells) (BoxesLent.before boxnums boxreals boxmap boxpool) (was circles) (was bytes) ⌝ }
 {
     let answer = answer_to(
         nums,

@@ -2,3 +2,4 @@
 pub mod BlockLaws
 pub mod PlaceLaws
 pub mod BoxLaws
+pub mod HasLaws

@@ -8,12 +8,10 @@ ghost use Rattle.encoder_blocks.specs.Inner.Places.{blockOf};
 use geometry::Aabb;
 use geometry::Position;
 
-// The side of a block, the blocks of a row, the rows, and all blocks.
+// The side of a block, the blocks of a row, and all blocks.
 pub const SIDE: u64 = 16;
 
 pub const COLUMNS: usize = 80;
-
-pub const LINES: usize = 45;
 
 pub const BLOCKS: usize = 3600;
 

@@ -1,5 +1,4 @@
 -- Laws, and what the proofs share.
-pub mod HasLaws
 pub mod WindowLaws
 pub mod MetLaws
 pub mod OverlayLaws

@@ -60,25 +60,25 @@ fn met_from(
     false
 }
 
-// Whether block (i, j) meets a box: p and q are where the entries of its two rows of cells begin.
+// Whether block (i, j) meets a box: `here` and `next` are where the entries of its two rows of cells begin.
 fn met(
     reals: &[[f32; 4]],
     pool: &[[u64; 2]],
     used: usize,
-    p: usize,
-    q: usize,
+    here: usize,
+    next: usize,
     i: usize,
     j: usize,
 ) -> bool
     requires { ⌜ Stocked (now reals) (now pool) used × (i < columns) × (j < lines) ⌝ }
-    requires { ⌜ (p ≡ length (below rowKey (keyOf (cell i j)) (take used (now pool)))) × (q ≡ length (below rowKey (keyOf (cell i (suc j))) (take used (now pool)))) ⌝ }
+    requires { ⌜ (here ≡ length (below rowKey (keyOf (cell i j)) (take used (now pool)))) × (next ≡ length (below rowKey (keyOf (cell i (suc j))) (take used (now pool)))) ⌝ }
     ensures { λ r. ⌜ r ≡ Windows.met (was reals) (take used (was pool)) i j ⌝ }
 {
     let b = block_box(i, j);
-    if met_from(reals, pool, used, p, cell_key(i + 1, j), b) {
+    if met_from(reals, pool, used, here, cell_key(i + 1, j), b) {
         return true;
     }
-    met_from(reals, pool, used, q, cell_key(i + 1, j + 1), b)
+    met_from(reals, pool, used, next, cell_key(i + 1, j + 1), b)
 }
 
 // The map with the boxes over the points.
@@ -86,16 +86,16 @@ pub fn mark_boxes(reals: &[[f32; 4]], pool: &[[u64; 2]], used: usize, bytes: &mu
     requires { ⌜ Stocked (now reals) (now pool) used × (length (now bytes) ≡ blocks) ⌝ }
     ensures { λ _. ⌜ Overlaid (was reals) (take used (was pool)) blocks (was bytes) (is bytes) ⌝ }
 {
-    let mut p = 0;
-    let mut q = 0;
+    let mut here = 0;
+    let mut next = 0;
     let mut k = 0;
     while k < BLOCKS {
         let i = k % COLUMNS;
         let j = k / COLUMNS;
-        p = onward(pool, used, p, cell_key(i, j));
-        q = onward(pool, used, q, cell_key(i, j + 1));
+        here = onward(pool, used, here, cell_key(i, j));
+        next = onward(pool, used, next, cell_key(i, j + 1));
         if bytes[k] != 3 {
-            if met(reals, pool, used, p, q, i, j) {
+            if met(reals, pool, used, here, next, i, j) {
                 bytes[k] = 2;
             }
         }

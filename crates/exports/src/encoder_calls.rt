@@ -3,7 +3,7 @@ ghost use Rattle.basics.specs.Words.{_≡_};
 ghost use Rattle.basics.specs.Meaning.Lent.{was, is};
 ghost use Rattle.point_tables.specs.Meaning.Lent as PointsLent;
 ghost use Rattle.box_tables.specs.Meaning.Lent as BoxesLent;
-ghost use Rattle.encoder.specs.Meaning.FillMap.{filled, fillMapOf};
+ghost use Rattle.encoder.specs.Meaning.FillMap.{mapFilled, fillMapOf};
 
 // `fill_map`: a byte for each block of the frame. 3, 6, 7.
 #[no_mangle]
@@ -22,7 +22,7 @@ pub extern "C" fn chavrupas_encoder_fill_map(
     circles: &[[f32; 3]],
     bytes: &mut [u8],
 ) -> u32
-    ensures { λ r. ⌜ filled r (is bytes) ≡ fillMapOf (PointsLent.before nums reals ints map pool spots cells) (BoxesLent.before boxnums boxreals boxmap boxpool) (was circles) (was bytes) ⌝ }
+    ensures { λ r. ⌜ mapFilled r (is bytes) ≡ fillMapOf (PointsLent.before nums reals ints map pool spots cells) (BoxesLent.before boxnums boxreals boxmap boxpool) (was circles) (was bytes) ⌝ }
 {
     encoder::fill_map(
         nums,

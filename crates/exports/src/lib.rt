@@ -1,5 +1,5 @@
-// The library for C and Rust: every public call of both grids, and of the encoder's layer above them, under a C name, over number tables. A slice is a pointer, then its length in
-// elements; what is returned is a struct of numbers. No call has a `requires`, since nothing checks a foreign caller's: each refuses by number.
+// The library for C and Rust: every public call of both grids and of the encoder's layer, under a C name, over number tables. A slice is a pointer, then its
+// length in elements; what is returned is a struct of numbers. No call has a `requires`, since nothing checks a foreign caller's: each refuses by number.
 mod box_calls;
 mod encoder_calls;
 mod point_calls;

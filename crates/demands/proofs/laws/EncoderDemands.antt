@@ -15,7 +15,7 @@ use Rattle.point_deferred.proofs.laws.AnswerLaws.{call-unheld, call-refused}
 use Rattle.whereabouts.proofs.laws.CallLaws.{given}
 use Rattle.box_tables.specs.Meaning.Tables as Boxes
 use Rattle.encoder.specs.Meaning.Map.{mapOf}
-use Rattle.encoder.specs.Meaning.FillMap.{fillMapTests, Filled, filled, fillMapOf}
+use Rattle.encoder.specs.Meaning.FillMap.{fillMapTests, MapFilled, mapFilled, fillMapOf}
 use Rattle.demands.proofs.laws.EncoderLaws.{listsOf, fill-same}
 
 module _ (t : Points.Tables) (b : Boxes.Tables) (circles : List (List Float)) (bytes : List ℕ) where
@@ -27,19 +27,19 @@ module _ (t : Points.Tables) (b : Boxes.Tables) (circles : List (List Float)) (b
   unfolding fillMapOf
   encoder-answer = go (eqb (firstOf tests) 0) refl ∙ in-order tests refl
     where
-      go : (z : Bool) → eqb (firstOf tests) 0 ≡ z → pick z (filled 0 (mapOf t b circles)) (filled (firstOf tests) bytes) .answer ≡ firstOf tests
+      go : (z : Bool) → eqb (firstOf tests) 0 ≡ z → pick z (mapFilled 0 (mapOf t b circles)) (mapFilled (firstOf tests) bytes) .answer ≡ firstOf tests
       go true e = sym (eqb-true (firstOf tests) 0 e)
       go false e = refl
 
   -- and a call that is refused leaves the map as it was
-  pub encoder-unchanged : (firstThat (fillMapTests t b circles bytes) ≡ 0 → ⊥) → fillMapOf t b circles bytes ≡ filled (firstThat (fillMapTests t b circles bytes)) bytes
+  pub encoder-unchanged : (firstThat (fillMapTests t b circles bytes) ≡ 0 → ⊥) → fillMapOf t b circles bytes ≡ mapFilled (firstThat (fillMapTests t b circles bytes)) bytes
   unfolding fillMapOf
   encoder-unchanged n =
       let e : firstOf tests ≡ firstThat tests = in-order tests refl in
-      rw (ne-eqb (firstOf tests) 0 (λ z. n (sym e ∙ z))) (ap (λ a. filled a bytes) e)
+      rw (ne-eqb (firstOf tests) 0 (λ z. n (sym e ∙ z))) (ap (λ a. mapFilled a bytes) e)
 
   -- any two results that the promise permits are equal, answer and map
-  pub encoder-determined : (r₁ r₂ : Filled) → r₁ ≡ fillMapOf t b circles bytes → r₂ ≡ fillMapOf t b circles bytes → r₁ ≡ r₂
+  pub encoder-determined : (r₁ r₂ : MapFilled) → r₁ ≡ fillMapOf t b circles bytes → r₂ ≡ fillMapOf t b circles bytes → r₁ ≡ r₂
   encoder-determined r₁ r₂ e f = e ∙ sym f
 
 -- ---- a deferred call leaves the lists, and a grid where there was one

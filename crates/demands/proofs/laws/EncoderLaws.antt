@@ -19,7 +19,7 @@ use Rattle.encoder_points.specs.Inner.Marks.{standsAt, someBelow}
 use Rattle.encoder_points.proofs.laws.PointLaws.{recorded-is}
 use Rattle.encoder_boxes.specs.Meaning.Boxes.{boxed}
 use Rattle.encoder.specs.Meaning.Map.{byteOf, numbers, mapOf}
-use Rattle.encoder.specs.Meaning.FillMap.{filled, fillMapOf}
+use Rattle.encoder.specs.Meaning.FillMap.{mapFilled, fillMapOf}
 use Rattle.encoder.specs.Inner.Drawn.{Drawable}
 use Rattle.encoder.proofs.laws.MapLaws.{numbers-length, numbers-at}
 use Rattle.encoder.proofs.laws.AnswerLaws.{answered, drawable, fill-done, fill-refused}
@@ -78,7 +78,7 @@ module _ (t u : Points.Tables) (e : listsOf t ≡ listsOf u) where
           let p = sym z in
           let q = p ∙ answer-same in
           sym (fill-done t b circles bytes p)
-          ∙ ap (filled 0) (map-same (drawable t b circles bytes p) (drawable u b circles bytes q))
+          ∙ ap (mapFilled 0) (map-same (drawable t b circles bytes p) (drawable u b circles bytes q))
           ∙ fill-done u b circles bytes q)
           (λ n. sym (fill-refused t b circles bytes a refl n) ∙ fill-refused u b circles bytes a answer-same n)
           (d-eq a 0)

@@ -2,7 +2,7 @@
 use Rattle.basics.specs.Words.{_≡_, sym, ap, _∙_, needs}
 use Rattle.point_tables.specs.Meaning.Tables as Points
 use Rattle.box_tables.specs.Meaning.Tables as Boxes
-use Rattle.encoder.specs.Meaning.FillMap.{filled}
+use Rattle.encoder.specs.Meaning.FillMap.{mapFilled}
 use Rattle.encoder.proofs.laws.AnswerLaws.{answered, drawable, length-passed, fill-done, fill-refused}
 use Rattle.encoder.proofs.fill_map.Statement.{statement}
 use Rattle.encoder.proofs.fill_map.Tie as tie
@@ -39,7 +39,7 @@ returns-2 c =
     let e = d .before .before in
     let s = start (e .before) in
     let a = s .args in
-    ap (filled 0) (d .draw .ensures) ∙ fill-done (points s) (boxes s) (a .circles .now) (a .bytes .now) (passed e)
+    ap (mapFilled 0) (d .draw .ensures) ∙ fill-done (points s) (boxes s) (a .circles .now) (a .bytes .now) (passed e)
 
 pub fill-map-spec : {M : Type 1} → statement M
 fill-map-spec = tie.close (tie.spec (λ c κs. search needs) (λ c. search needs) returns draw-requires (λ c. search needs) returns-2)

@@ -11,7 +11,7 @@ use Rattle.box_tables.specs.Meaning.Decide as BoxesDecide
 use Rattle.encoder_blocks.specs.Meaning.Blocks.{side, blocks}
 use Rattle.encoder_points.specs.Meaning.Points.{mostCircles}
 use Rattle.encoder.specs.Meaning.Map.{mapOf}
-use Rattle.encoder.specs.Meaning.FillMap.{every, circleInDomain, circleInRange, gridsRight, lengthsRight, fillMapTests, filled, fillMapOf}
+use Rattle.encoder.specs.Meaning.FillMap.{every, circleInDomain, circleInRange, gridsRight, lengthsRight, fillMapTests, mapFilled, fillMapOf}
 use Rattle.encoder.specs.Inner.Drawn.{Drawable}
 
 module _ (t : Points.Tables) (b : Boxes.Tables) (circles : List (List Float)) (bytes : List ℕ) where
@@ -88,10 +88,10 @@ module _ (t : Points.Tables) (b : Boxes.Tables) (circles : List (List Float)) (b
           in-domain = passed .1;
         }
 
-    pub fill-done : filled 0 (mapOf t b circles) ≡ fillMapOf t b circles bytes
+    pub fill-done : mapFilled 0 (mapOf t b circles) ≡ fillMapOf t b circles bytes
     unfolding fillMapOf
     fill-done = rw (← e)
 
-  pub fill-refused : (w : ℕ) → w ≡ answered → (w ≡ 0 → ⊥) → filled w bytes ≡ fillMapOf t b circles bytes
+  pub fill-refused : (w : ℕ) → w ≡ answered → (w ≡ 0 → ⊥) → mapFilled w bytes ≡ fillMapOf t b circles bytes
   unfolding fillMapOf
   fill-refused w e n = rw (← e, ne-eqb w 0 n)

@@ -19,7 +19,7 @@ abbrev pub every : {A : Type 0} → (A → Bool) → List A → Bool
 every test [] = true
 every test (x ∷ l) = test x && every test l
 
--- ---- 3: both tables hold a grid with cells of 16, there are at most 16 circles, and the map has 3,600 bytes
+-- ---- 3: the tables of each grid hold one, with cells of 16; there are at most 16 circles, and the map has 3,600 bytes
 abbrev pub gridsRight : Points.Tables → Boxes.Tables → Bool
 gridsRight t b = (PointsDecide.holds t && eqb (Points.sizeOf t) side) && (BoxesDecide.holds b && eqb (Boxes.sizeOf b) side)
 
@@ -43,13 +43,13 @@ fillMapTests t b circles bytes =
     ∷ []
 
 -- ---- what it returns, and the map after it
-pub record Filled : Type 0 where
+pub record MapFilled : Type 0 where
   pub answer : ℕ
   pub bytes : List ℕ
 
-abbrev pub filled : ℕ → List ℕ → Filled
-filled a m = record { answer = a; bytes = m }
+abbrev pub mapFilled : ℕ → List ℕ → MapFilled
+mapFilled a m = record { answer = a; bytes = m }
 
-unfoldable pub fillMapOf : Points.Tables → Boxes.Tables → List (List Float) → List ℕ → Filled
+unfoldable pub fillMapOf : Points.Tables → Boxes.Tables → List (List Float) → List ℕ → MapFilled
 unfolding mapOf
-fillMapOf t b circles bytes = byTests (fillMapTests t b circles bytes) (filled 0 (mapOf t b circles)) (λ a. filled a bytes)
+fillMapOf t b circles bytes = byTests (fillMapTests t b circles bytes) (mapFilled 0 (mapOf t b circles)) (λ a. mapFilled a bytes)

@@ -1,10 +1,11 @@
 -- `encoder_blocks::block_of` meets its contract. Assumes nothing.
-use Rattle.basics.specs.Words.{ℕ, _+_, _-_, _≤_, _<_, _≡_, sym, ap, _∙_, Bool, true, _&&_, leb, ltb, arith, leb-true, ltb-true, needs}
+use Rattle.basics.specs.Words.{ℕ, _+_, _-_, _≤_, _<_, _≡_, sym, ap, _∙_, Bool, true, _&&_, arith, needs}
 use Rattle.basics.specs.Meaning.Refusals.{pick}
 use Rattle.basics.proofs.laws.Says.{both-true}
 use Rattle.cells.specs.Inner.Key.{columnOf, lineOf}
 use Rattle.encoder_blocks.specs.Meaning.Blocks.{columns, lines, blocks}
 use Rattle.encoder_blocks.specs.Inner.Places.{nought, among, placeOf, blockOf}
+use Rattle.encoder_blocks.proofs.laws.PlaceLaws.{among-from}
 use Rattle.encoder_blocks.proofs.block_of.Statement.{statement}
 use Rattle.encoder_blocks.proofs.block_of.Tie as tie
 
@@ -33,14 +34,11 @@ module _ (c : tie.Then1) where
   inside : among columns (columnOf (key k)) && among lines (lineOf (key k)) ≡ true
   inside = sym (said k) ∙ c .if1 .taken
 
-  from : (n x : ℕ) → among n x ≡ true → (nought ≤ x) × (x < nought + n)
-  from n x e = let (a, b) = both-true (leb nought x) (ltb x (nought + n)) e in (leb-true nought x a, ltb-true x (nought + n) b)
-
   columns-in : (nought ≤ given k .before .column-of .result) × (given k .before .column-of .result < nought + columns)
-  columns-in = rw (column k) (from columns (columnOf (key k)) (both-true (among columns (columnOf (key k))) (among lines (lineOf (key k))) inside .0))
+  columns-in = rw (column k) (among-from columns (columnOf (key k)) (both-true (among columns (columnOf (key k))) (among lines (lineOf (key k))) inside .0))
 
   lines-in : (nought ≤ given k .row-of .result) × (given k .row-of .result < nought + lines)
-  lines-in = rw (line k) (from lines (lineOf (key k)) (both-true (among columns (columnOf (key k))) (among lines (lineOf (key k))) inside .1))
+  lines-in = rw (line k) (among-from lines (lineOf (key k)) (both-true (among columns (columnOf (key k))) (among lines (lineOf (key k))) inside .1))
 
 returns : tie.Need-returns
 unfolding blockOf

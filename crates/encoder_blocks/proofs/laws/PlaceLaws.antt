@@ -24,9 +24,6 @@ column-in k = omega arith
 pub line-in : (k : ℕ) → k < blocks → lineAt k < lines
 line-in k h = omega arith
 
-pub place-back : (k : ℕ) → placeOf (columnAt k) (lineAt k) ≡ k
-place-back k = omega arith
-
 pub place-column : (i j : ℕ) → i < columns → columnAt (placeOf i j) ≡ i
 place-column i j h = omega arith
 
@@ -37,7 +34,7 @@ pub place-in : (i j : ℕ) → i < columns → j < lines → placeOf i j < block
 place-in i j h g = omega arith
 
 -- ---- a key's block
-among-from : (n x : ℕ) → among n x ≡ true → (nought ≤ x) × (x < nought + n)
+pub among-from : (n x : ℕ) → among n x ≡ true → (nought ≤ x) × (x < nought + n)
 among-from n x e = let (a, b) = both-true (leb nought x) (ltb x (nought + n)) e in (leb-true nought x a, ltb-true x (nought + n) b)
 
 among-of : (n i : ℕ) → i < n → among n (i + nought) ≡ true
@@ -76,7 +73,7 @@ module _ (c : Cell) (f : Fits c) (k : ℕ) (h : k < blocks) where
       (and-true (among-of columns (columnAt k) (column-in k)) (among-of lines (lineAt k) (line-in k h)))
       ∙ omega arith
 
-  pub block-says : Says (eqb (blockOf (keyOf c)) k) (c ≡ cell (columnAt k) (lineAt k))
+  block-says : Says (eqb (blockOf (keyOf c)) k) (c ≡ cell (columnAt k) (lineAt k))
   block-says = says-via block-is is-block (eqb-says (blockOf (keyOf c)) k)
 
 -- ---- a point in the block at place k

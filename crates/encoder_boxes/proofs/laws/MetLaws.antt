@@ -1,6 +1,6 @@
 -- Looking for a box that a block meets: place by place along a stretch, and by two stretches for the whole window. Assumes nothing.
 use Rattle.basics.specs.Words.{ℕ, suc, _+_, _≤_, _<_, _≡_, ap, ap₂, _∙_, Bool, true, false, _&&_, _||_, List, [], length, getD, take, drop, leb}
-use Rattle.basics.specs.Words.{add-one, arith, length-take-le, length-drop, drop-of-length-le, drop-cons, getD-drop, getD-take, le-leb, lt-leb}
+use Rattle.basics.specs.Words.{arith, length-take-le, length-drop, getD-drop, getD-take, le-leb, lt-leb}
 use mathlib.Core.Bool.{and-assoc, and-false, and-or-distrib-right}
 use lib.Ieee.{Float}
 use Rattle.basics.specs.Meaning.Refusals.{pick}
@@ -16,7 +16,7 @@ use Rattle.storage.proofs.laws.TakeOutLaws.{has, has-none}
 use Rattle.encoder_blocks.specs.Meaning.Blocks.{columns, blockBox}
 use Rattle.encoder_blocks.specs.Inner.Places.{cell}
 use Rattle.encoder_boxes.specs.Inner.Windows.{Stocked, crosses, metFrom, met}
-use Rattle.encoder_boxes.proofs.laws.HasLaws.{has-same, has-both, has-or}
+use Rattle.encoder_blocks.proofs.laws.HasLaws.{has-from, has-past, has-same, has-both, has-or}
 use Rattle.encoder_boxes.proofs.laws.WindowLaws.{drop-below, window-rows}
 
 -- block (i, j)'s box intersects the box of an entry of cell (i, n) or (i + 1, n)
@@ -36,7 +36,7 @@ module _ {reals : List (List Float)} {pool : List (List ℕ)} {used : ℕ} (s : 
     wanted row = leb (rowKey row) last && crosses reals q row
 
     met-here : (p : ℕ) → p < used → metFrom reals pool used p last q ≡ pick (wanted (getD pool p [])) true (metFrom reals pool used (p + 1) last q)
-    met-here p h = ap (has wanted) (drop-cons rows p [] (rw size h)) ∙ rw (getD-take used pool p [] h, add-one p)
+    met-here p h = has-from wanted rows p [] (rw size h) ∙ rw (getD-take used pool p [] h)
 
     pub met-found : (p : ℕ) → p < used → first pool p ≤ last → crosses reals q (getD pool p []) ≡ true → metFrom reals pool used p last q ≡ true
     met-found p h l e = met-here p h ∙ rw (le-leb (first pool p) last l, e)
@@ -55,7 +55,7 @@ module _ {reals : List (List Float)} {pool : List (List ℕ)} {used : ℕ} (s : 
         rw (getD-drop p rows n [], getD-take used pool (p + n) [] g′, lt-leb (first pool (p + n)) last (omega arith))))
 
     pub met-end : (p : ℕ) → used ≤ p → metFrom reals pool used p last q ≡ false
-    met-end p h = ap (has wanted) (drop-of-length-le rows {i = p} (omega (arith, size)))
+    met-end p h = has-past wanted rows p (omega (arith, size))
 
     -- from the first place whose key is not below k
     met-keys : (k : ℕ) → metFrom reals pool used (length (below rowKey k rows)) last q ≡ has (λ row. leb k (rowKey row) && wanted row) rows

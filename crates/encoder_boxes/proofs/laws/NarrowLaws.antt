@@ -26,7 +26,7 @@ use Rattle.encoder_blocks.proofs.laws.PlaceLaws.{column-in, line-in}
 use Rattle.encoder_blocks.proofs.laws.BoxLaws.{block-in-domain, block-low, block-high}
 use Rattle.encoder_boxes.specs.Meaning.Boxes.{boxed}
 use Rattle.encoder_boxes.specs.Inner.Windows.{Stocked, crosses, met}
-use Rattle.encoder_boxes.proofs.laws.HasLaws.{some-filter, has-both}
+use Rattle.encoder_blocks.proofs.laws.HasLaws.{some-filter, has-both}
 
 -- each number once is the same numbers
 has-firsts : (test : ℕ → Bool) (l : List ℕ) → has test (firsts l) ≡ has test l

@@ -13,14 +13,14 @@ use Rattle.encoder_boxes.proofs.mark_boxes.Statement.{statement}
 use Rattle.encoder_boxes.proofs.mark_boxes.Tie as tie
 
 abbrev Inv-loop : tie.InvT-loop
-Inv-loop reals pool used bytes₀ p₀ q₀ k₀ bytes p q k =
+Inv-loop reals pool used bytes₀ here₀ next₀ k₀ bytes here next k =
     (k ≤ blocks)
-    × (p ≤ length (below rowKey (keyOf (cell (columnAt k) (lineAt k))) (take used pool)))
-    × (q ≤ length (below rowKey (keyOf (cell (columnAt k) (suc (lineAt k)))) (take used pool)))
+    × (here ≤ length (below rowKey (keyOf (cell (columnAt k) (lineAt k))) (take used pool)))
+    × (next ≤ length (below rowKey (keyOf (cell (columnAt k) (suc (lineAt k)))) (take used pool)))
     × Overlaid reals (take used pool) k bytes₀ bytes
 
 abbrev μ-loop : tie.MeasureT-loop
-μ-loop reals pool used bytes₀ p₀ q₀ k₀ bytes p q k = blocks - k
+μ-loop reals pool used bytes₀ here₀ next₀ k₀ bytes here next k = blocks - k
 
 abbrev start : tie.At-loop Inv-loop μ-loop → tie.Start Inv-loop μ-loop
 start l = l .before .before

@@ -5,7 +5,7 @@ use Rattle.basics.specs.Meaning.Refusals.{pick}
 use Rattle.geometry.specs.Meaning.Circle.{inCircle}
 use Rattle.encoder_points.specs.Meaning.Points.{centreOf, radiusOf}
 use Rattle.encoder_points.specs.Inner.Marks.{inSome}
-use Rattle.encoder_points.proofs.laws.SomeLaws.{has-from, has-past}
+use Rattle.encoder_blocks.proofs.laws.HasLaws.{has-from, has-past}
 use Rattle.encoder_points.proofs.in_some.Statement.{statement}
 use Rattle.encoder_points.proofs.in_some.Tie as tie
 

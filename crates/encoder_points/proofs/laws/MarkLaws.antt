@@ -1,6 +1,7 @@
 -- The map, entry by entry: an entry raises the byte of its block, and no other. Assumes nothing.
 use Rattle.basics.specs.Words.{ℕ, _+_, _<_, _≤_, _≡_, refl, sym, ap, _∙_, subst, Bool, true, false, _||_, List, ⊎-elim, length, getD, set, length-set}
 use Rattle.basics.specs.Words.{getD-set-same, getD-set-other, add-one, arith, eq-eqb, ne-eqb}
+use mathlib.Core.Bool.{or-false}
 use lib.Ieee.{Float}
 use Rattle.basics.proofs.laws.Says.{d-eq}
 use Rattle.storage.specs.Meaning.Packed.{first}
@@ -8,7 +9,6 @@ use Rattle.point_records.specs.Inner.Listed.{spotAt}
 use Rattle.encoder_blocks.specs.Meaning.Blocks.{blocks}
 use Rattle.encoder_blocks.specs.Inner.Places.{blockOf}
 use Rattle.encoder_points.specs.Inner.Marks.{inSome, standsAt, circledAt, someBelow, pointByte, raisedBy, Marked}
-use Rattle.encoder_points.proofs.laws.SomeLaws.{or-false}
 
 -- a point more in the block
 raised-is : (circled there c : Bool) → pointByte (circled || c) (there || true) ≡ raisedBy c (pointByte circled there)

@@ -21,7 +21,7 @@ use Rattle.encoder_blocks.specs.Meaning.Blocks.{side}
 use Rattle.encoder_points.specs.Meaning.Points.{centreOf, radiusOf}
 use Rattle.encoder_points.specs.Inner.Marks.{inSome}
 use Rattle.encoder_points.specs.Inner.Near.{Fine, reaches, Chosen}
-use Rattle.encoder_points.proofs.laws.SomeLaws.{has-within}
+use Rattle.encoder_blocks.proofs.laws.HasLaws.{has-within}
 
 -- ---- one more of a list is looked at, and of those before it the first n of `near` are the ones that pass
 module _ {A : Type 0} (test : A → Bool) (l near : List A) (n k : ℕ) (d : A) (e : take n near ≡ filter test (take k l)) (h : k < length l) where

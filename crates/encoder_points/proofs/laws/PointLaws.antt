@@ -2,6 +2,7 @@
 -- circle finds a point there. Assumes nothing.
 use Rattle.basics.specs.Words.{ℕ, zero, suc, _<_, _≤_, _≡_, refl, sym, ap, ap₂, _∙_, Bool, true, false, _&&_, _||_, List, [], _∷_, length, take-all, eqb}
 use Rattle.basics.specs.Words.{add-one, arith, eqb-true, eq-eqb}
+use mathlib.Core.Bool.{or-false, and-false}
 use lib.Ieee.{Float}
 use Rattle.basics.specs.Meaning.Refusals.{pick}
 use Rattle.basics.proofs.laws.Says.{both-true, and-true, says-same, says-via}
@@ -32,7 +33,8 @@ use Rattle.encoder_blocks.proofs.laws.PlaceLaws.{point-place}
 use Rattle.encoder_points.specs.Meaning.Points.{centreOf, radiusOf, foundBy, circled, recorded}
 use Rattle.encoder_points.specs.Inner.Marks.{inSome, standsAt, circledAt, someBelow}
 use Rattle.encoder_points.specs.Inner.Near.{Fine, Placed}
-use Rattle.encoder_points.proofs.laws.SomeLaws.{some-two, some-more, or-false, none-below, same-below, either-below, below-says}
+use Rattle.encoder_blocks.proofs.laws.HasLaws.{some-two, some-more}
+use Rattle.encoder_points.proofs.laws.SomeLaws.{none-below, same-below, either-below, below-says}
 
 -- ---- places that pass, as elements that do: of the entries, and of the live slots
 some-entries : (pool : List (List ℕ)) (spots : List (List Float)) (test : Entry → Bool) (n : ℕ) → n ≤ length pool → n ≤ length spots
@@ -64,10 +66,6 @@ either true true others = refl
 either true false others = refl
 either false true others = refl
 either false false others = refl
-
-nowhere : (b : Bool) → (b && false) ≡ false
-nowhere true = refl
-nowhere false = refl
 
 -- ---- what the pass asks for, of tables that hold a grid
 pub placed : (t : Tables) → Holds t → sizeOf t ≡ side → Placed (t .pool) (t .spots) (usedOf t)
@@ -126,7 +124,7 @@ module _ (t : Tables) (h : Holds t) (size : sizeOf t ≡ side) (k : ℕ) (l : k 
   pub circled-is : (cs : List (List Float)) → All Fine cs
       → someBelow (circledAt (t .pool) (t .spots) cs k) (usedOf t) ≡ circled t cs (columnAt k) (lineAt k)
   unfolding circled
-  circled-is [] d = none-below (circledAt (t .pool) (t .spots) [] k) (usedOf t) (λ n u. nowhere (standsAt (t .pool) k n))
+  circled-is [] d = none-below (circledAt (t .pool) (t .spots) [] k) (usedOf t) (λ n u. and-false (standsAt (t .pool) k n))
   circled-is (c ∷ cs) d =
       let finds : Entry → Bool = λ e. inCircle (positionOf e) (centreOf c) (radiusOf c) in
       let both : ℕ → Bool = λ n. finds (entryOf n) && inside (entryOf n) in
