@@ -160,7 +160,8 @@ chavrupas_batch_reply chavrupas_points_batch(
     const uint32_t *kinds, size_t kinds_n, const chavrupas_handle *handles, size_t handles_n,
     const chavrupas_position *positions, size_t positions_n, chavrupas_reply *out, size_t out_n);
 
-/* Ends the frame: pending moves and removals are applied. Gives how many objects moved and how many were removed.
+/* Ends the frame: pending moves and removals are applied. Gives how many objects moved and how many were removed. Moved are those whose place is
+   another by its numbers than before (-0.0 and 0.0 are the same); one that was sent where it is does not count, but takes the bits that were sent.
    Answers 3. */
 chavrupas_maintained chavrupas_points_maintain(
     chavrupas_point_nums *nums, size_t nums_n, chavrupas_point_reals *reals, size_t reals_n, chavrupas_point_ints *ints, size_t ints_n,

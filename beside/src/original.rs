@@ -51,6 +51,16 @@ impl OldPoints {
         self.grid.get(self.handles[&data]).map(|(at, obj)| (spot(at), *obj))
     }
 
+    /// Maintains, and counts by the original's own positions before and after it: the objects that are there both times and whose x or y is another number,
+    /// as `f32` compares, and those that are gone.
+    pub fn maintain(&mut self) -> (u32, u32) {
+        let before: Vec<(GridHandle, [f32; 2])> = self.grid.handles().map(|h| (h, self.grid.get(h).unwrap().0)).collect();
+        self.grid.maintain_deterministic();
+        let moved = before.iter().filter(|(h, was)| self.grid.get(*h).map_or(false, |(is, _)| is[0] != was[0] || is[1] != was[1])).count();
+        let gone = before.iter().filter(|(h, _)| self.grid.get(*h).is_none()).count();
+        (moved as u32, gone as u32)
+    }
+
     /// The data of all objects, sorted.
     pub fn all(&self) -> Vec<u32> {
         let mut all: Vec<u32> = self.grid.handles().map(|h| *self.grid.get(h).unwrap().1).collect();

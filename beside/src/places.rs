@@ -34,6 +34,39 @@ pub fn neighbour(c: f32, places: i64) -> f32 {
     f32::from_bits(bits).clamp(-EDGE, EDGE)
 }
 
+/// A zero of either sign.
+fn zero(rng: &mut Rng) -> f32 {
+    rng.pick(&[0.0, -0.0])
+}
+
+/// A position as a hand sends it that rests: the recorded one, a zero with either sign; now and then beside it by one place in x alone or in y alone.
+pub fn at_rest(at: Spot, rng: &mut Rng) -> Spot {
+    let still = |c: f32, rng: &mut Rng| if c == 0.0 { zero(rng) } else { c };
+    let (x, y) = (still(at.x, rng), still(at.y, rng));
+    match rng.below(6) {
+        0 => Spot::new(neighbour(x, rng.pick(&[-1, 1])), y),
+        1 => Spot::new(x, neighbour(y, rng.pick(&[-1, 1]))),
+        _ => Spot::new(x, y),
+    }
+}
+
+/// What kind of new position it is beside the recorded one, for the counts of a run: by their numbers first, then by the bits of zeros.
+pub fn sent_kind(at: Spot, to: Spot) -> &'static str {
+    let beside = |a: f32, b: f32| neighbour(a, 1) == b || neighbour(a, -1) == b;
+    let bits = (to.x.to_bits() != at.x.to_bits(), to.y.to_bits() != at.y.to_bits());
+    match (to.x != at.x, to.y != at.y) {
+        (false, false) if bits == (false, false) => "sent: as recorded",
+        (false, false) if bits == (true, false) => "sent: as recorded but the zero of x",
+        (false, false) if bits == (false, true) => "sent: as recorded but the zero of y",
+        (false, false) => "sent: as recorded but both zeros",
+        (true, false) if beside(at.x, to.x) => "sent: a place beside in x alone",
+        (false, true) if beside(at.y, to.y) => "sent: a place beside in y alone",
+        (true, false) => "sent: elsewhere in x alone",
+        (false, true) => "sent: elsewhere in y alone",
+        (true, true) => "sent: elsewhere in both",
+    }
+}
+
 /// An edge of a block of the frame, every second time, or a place or two beside it.
 fn beside(edge: f32, rng: &mut Rng) -> f32 {
     neighbour(edge, rng.pick(&[-2, -1, 0, 0, 0, 1]))
@@ -55,7 +88,7 @@ impl Ground {
     pub fn coordinate(&self, rng: &mut Rng) -> f32 {
         let size = self.size as f32;
         if rng.once_in(24) {
-            return rng.pick(&[0.0, -0.0]);
+            return zero(rng);
         }
         let c = match self.kind {
             Kind::Desk if rng.once_in(2) => rng.within(-256, 16_384) as f32 / 8.0,
@@ -101,7 +134,11 @@ impl Ground {
         neighbour(edge as f32, rng.within(-2, 2))
     }
 
+    /// Any position; as often as a coordinate is a zero, both are.
     pub fn spot(&self, rng: &mut Rng) -> Spot {
+        if rng.once_in(24) {
+            return Spot::new(zero(rng), zero(rng));
+        }
         let x = self.coordinate(rng);
         Spot::new(x, self.coordinate(rng))
     }

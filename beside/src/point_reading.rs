@@ -1,4 +1,4 @@
-//! Document 01 read anew: the point grid. A plain reading, not a fast one; it shares no text with the port.
+//! Document 01 read anew: the point grid; and Req 06: which objects count as moved. A plain reading, not a fast one; it shares no text with the port.
 use crate::rules::*;
 use crate::slots::{Handle, Slots};
 use std::collections::BTreeMap;
@@ -17,6 +17,16 @@ pub struct Point {
     pub at: Spot,
     pub cell: Cell,
     pub state: State,
+}
+
+impl Point {
+    /// Req 06: whether it has a new position that differs by its numbers from the recorded one.
+    fn moves(&self) -> bool {
+        match self.state {
+            State::NewPos(to) | State::Relocate(to, _) => to.elsewhere(self.at),
+            State::Unchanged | State::Removed => false,
+        }
+    }
 }
 
 /// The slots, and the list of each cell that has one.
@@ -146,9 +156,10 @@ impl Points {
         (DONE, object.data)
     }
 
-    /// The objects that had either new-position state, and the objects removed.
+    /// The objects whose new position is another than the recorded one by its numbers, counted before anything is settled, and the objects removed.
     pub fn maintain(&mut self) -> (u32, u32) {
-        let (mut moved, mut removed) = (0, 0);
+        let moved = self.slots.objects().filter(|(_, object)| object.moves()).count() as u32;
+        let mut removed = 0;
         let mut relocated = vec![];
         for list in self.lists.values_mut() {
             let mut place = 0;
@@ -160,13 +171,11 @@ impl Points {
                     State::Unchanged => place += 1,
                     State::NewPos(at) => {
                         object.at = at;
-                        moved += 1;
                         place += 1;
                     }
                     State::Relocate(at, cell) => {
                         object.at = at;
                         object.cell = cell;
-                        moved += 1;
                         relocated.push((slot, cell));
                         list.swap_remove(place);
                     }

@@ -3,14 +3,14 @@ use crate::holds::read_points;
 use crate::log::Log;
 use crate::original::OldPoints;
 use crate::picks::{age, data, places};
-use crate::places::Ground;
-use crate::point_reading::{nearest_words, Deferred, Filled, Finding, Points};
+use crate::places::{sent_kind, Ground};
+use crate::point_reading::{nearest_words, Deferred, Filled, Finding, Points, State};
 use crate::port::{BatchLists, BatchReply, Corners, Count, Inserted, Maintained, Reply};
 use crate::random::Rng;
 use crate::rules::*;
 use crate::slots::{Handle, Issued};
 use crate::tables::{Out, Outs, PointTables};
-use std::collections::HashMap;
+use std::collections::{HashMap, HashSet};
 
 pub struct PointRound<'a> {
     pub rng: Rng,
@@ -24,6 +24,8 @@ pub struct PointRound<'a> {
     issued: Issued,
     /// The handle that the port gave with each data number, since the last `clear`.
     handles: HashMap<u32, Handle>,
+    /// The handles that were sent elsewhere since the last `maintain`, wherever they were sent after that.
+    away: HashSet<(u32, u32)>,
     next: u32,
     pub log: &'a mut Log,
 }
@@ -43,8 +45,8 @@ impl<'a> PointRound<'a> {
         log.hold(read_points(&tables).as_ref() == Ok(&reading), || format!("new gave {:?}", read_points(&tables)));
         let before = tables.clone();
         let old = OldPoints::new(ground.size);
-        let (given, handles, issued) = (HashMap::new(), HashMap::new(), Issued::of(&reading.slots));
-        let mut round = PointRound { rng, ground, tables, before, reading, old, given, issued, handles, next: 0, log };
+        let (given, handles, issued, away) = (HashMap::new(), HashMap::new(), Issued::of(&reading.slots), HashSet::new());
+        let mut round = PointRound { rng, ground, tables, before, reading, old, given, issued, handles, away, next: 0, log };
         if round.rng.once_in(3) {
             age(&mut round.reading.slots, &mut round.tables.nums, &mut round.tables.map, &mut round.rng);
             round.issued = Issued::of(&round.reading.slots);
@@ -109,12 +111,22 @@ impl<'a> PointRound<'a> {
         self.log.call("points set_position", got);
         self.log.hold(got == answer, || format!("set_position({h:?}, {at:?}) gave {got}, 01 says {answer}"));
         match answer {
+            DONE => self.sent(h, at),
             // On a marked object the Rust's call does nothing.
-            DONE | MARKED => self.old.set_position(self.reading.get(h).2, at),
+            MARKED => self.old.set_position(self.reading.get(h).2, at),
             NEVER_ISSUED | GONE => self.lost(h, got),
             _ => (),
         }
         self.after(answer == DONE, false);
+    }
+
+    /// An accepted position: the original gets it too, and it is kept which objects were sent elsewhere.
+    fn sent(&mut self, h: Handle, to: Spot) {
+        let (_, at, data) = self.reading.get(h);
+        self.old.set_position(data, to);
+        if to.elsewhere(at) {
+            self.away.insert((h.slot, h.version));
+        }
     }
 
     pub fn remove(&mut self, h: Handle, now: bool) {
@@ -151,7 +163,9 @@ impl<'a> PointRound<'a> {
             self.log.note("deferred calls inside batches", 1);
             self.log.note(self.reading.slots.kind(call.handle), 1);
             if *answer == DONE && call.kind == 0 {
-                self.old.set_position(self.reading.get(call.handle).2, call.at);
+                let rests = !call.at.elsewhere(self.reading.get(call.handle).1);
+                self.log.note("positions inside batches that are the recorded ones by number", u64::from(rests));
+                self.sent(call.handle, call.at);
             } else if *answer == DONE {
                 let old = self.old.remove(*data);
                 self.log.hold(old == Some(*data), || format!("remove in a batch: the original gave {old:?}"));
@@ -162,19 +176,36 @@ impl<'a> PointRound<'a> {
         self.after(wanted.answer == DONE, calls.len() > 64);
     }
 
+    /// Both counts are held to the original's own positions, too.
     pub fn maintain(&mut self) {
-        let old_len = self.old.grid.len();
+        self.met_moves();
         let (moved, removed) = self.reading.maintain();
         let got = self.tables.call_maintain();
         self.log.call("points maintain", got.answer);
         let wanted = Maintained { answer: DONE, moved, removed };
-        self.log.hold(got == wanted, || format!("maintain gave {got:?}, 01 says {wanted:?}"));
+        self.log.hold(got == wanted, || format!("maintain gave {got:?}, 01 with Req 06 says {wanted:?}"));
         self.log.note("objects moved by maintain", moved.into());
         self.log.note("objects removed by maintain", removed.into());
-        self.old.grid.maintain_deterministic();
-        let gone = old_len - self.old.grid.len();
-        self.log.hold(gone == got.removed as usize, || format!("maintain removed {}, the original {gone}", got.removed));
+        let (shifted, gone) = self.old.maintain();
+        self.log.hold(shifted == got.moved, || format!("maintain moved {}, the original {shifted} by its positions", got.moved));
+        self.log.hold(gone == got.removed, || format!("maintain removed {}, the original {gone}", got.removed));
         self.after(true, true);
+    }
+
+    /// What `maintain` is about to settle: new positions by kind, and what became of objects that were sent elsewhere.
+    fn met_moves(&mut self) {
+        for (h, object) in self.reading.slots.objects() {
+            let away = self.away.contains(&(h.slot, h.version));
+            match object.state {
+                State::Unchanged => (),
+                State::Removed => self.log.note("sent: elsewhere and then removed", u64::from(away)),
+                State::NewPos(to) | State::Relocate(to, _) => {
+                    self.log.note(sent_kind(object.at, to), 1);
+                    self.log.note("sent: elsewhere and back", u64::from(away && !to.elsewhere(object.at)));
+                }
+            }
+        }
+        self.away.clear();
     }
 
     pub fn get(&mut self, h: Handle) {

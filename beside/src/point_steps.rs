@@ -1,6 +1,6 @@
 //! Which calls a round on a point grid makes: any of them in any order, frames as a desk makes them, states left pending.
 use crate::picks::{good, handle, places};
-use crate::places::{Ground, Kind};
+use crate::places::{at_rest, Ground, Kind};
 use crate::point_calls::PointCall;
 use crate::point_reading::Deferred;
 use crate::point_round::PointRound;
@@ -61,22 +61,54 @@ impl PointRound<'_> {
     fn deferred(&mut self) -> Deferred {
         let handle = handle(&self.reading.slots, &mut self.rng);
         let from = self.reading.get(handle).1;
-        let at = if self.rng.once_in(30) { self.ground.any_spot(&mut self.rng) } else { self.ground.spot_by(from, &mut self.rng) };
+        let at = match self.rng.below(30) {
+            0 => self.ground.any_spot(&mut self.rng),
+            1..=8 => at_rest(from, &mut self.rng),
+            _ => self.ground.spot_by(from, &mut self.rng),
+        };
         let kind = if self.rng.once_in(6) { self.rng.pick(&[1, 2, u32::MAX]) } else { 0 };
         Deferred { kind, handle, at }
     }
 
-    /// One call, of any kind.
+    /// What now and then follows a deferred call on the same object: the recorded position again, or the removal.
+    fn follow(&mut self, call: &Deferred) -> Option<Deferred> {
+        let at = at_rest(self.reading.get(call.handle).1, &mut self.rng);
+        match self.rng.below(12) {
+            0 => Some(Deferred { kind: 0, at, ..*call }),
+            1 => Some(Deferred { kind: 1, ..*call }),
+            _ => None,
+        }
+    }
+
+    fn any_move(&mut self) {
+        let call = self.deferred();
+        self.set_position(call.handle, call.at);
+        match self.follow(&call) {
+            Some(next) if next.kind == 0 => self.set_position(next.handle, next.at),
+            Some(next) => self.remove(next.handle, false),
+            None => (),
+        }
+    }
+
+    fn any_batch(&mut self) {
+        let mut calls = vec![];
+        for _ in 0..self.rng.any_length(64) {
+            let call = self.deferred();
+            calls.push(call);
+            calls.extend(self.follow(&call));
+        }
+        let uneven = self.rng.once_in(12);
+        self.batch(&calls, uneven);
+    }
+
+    /// One call, of any kind; after a `set_position` at times a second one.
     pub fn step(&mut self) {
         match self.rng.below(100) {
             0..=21 => {
                 let at = self.ground.any_spot(&mut self.rng);
                 self.insert(at);
             }
-            22..=43 => {
-                let call = self.deferred();
-                self.set_position(call.handle, call.at);
-            }
+            22..=43 => self.any_move(),
             44..=49 => {
                 let h = handle(&self.reading.slots, &mut self.rng);
                 self.remove(h, false);
@@ -86,12 +118,7 @@ impl PointRound<'_> {
                 self.remove(h, true);
             }
             55..=59 => self.maintain(),
-            60..=62 => {
-                let count = self.rng.any_length(64);
-                let calls: Vec<_> = (0..count).map(|_| self.deferred()).collect();
-                let uneven = self.rng.once_in(12);
-                self.batch(&calls, uneven);
-            }
+            60..=62 => self.any_batch(),
             63..=67 => {
                 let h = handle(&self.reading.slots, &mut self.rng);
                 self.get(h);
@@ -110,7 +137,8 @@ impl PointRound<'_> {
         }
     }
 
-    /// A frame as a desk makes it: every tracker moves a little, a few leave, the grid is maintained, circles are asked for, new ones come.
+    /// A frame as a desk makes it: every tracker sends a position, a little away or at rest, a few leave, the grid is maintained, circles are asked for, new
+    /// ones come.
     pub fn frame(&mut self) {
         let handles: Vec<Handle> = self.reading.slots.objects().map(|(h, _)| h).collect();
         let stride = f64::from(self.ground.size) * self.rng.pick(&[0.05, 0.5, 2.0]);
@@ -118,7 +146,10 @@ impl PointRound<'_> {
         for handle in handles {
             let at = self.reading.get(handle).1;
             let step = |c: f32, rng: &mut Rng| ((f64::from(c) + (rng.unit() - 0.5) * stride) as f32).clamp(-EDGE, EDGE);
-            let at = Spot::new(step(at.x, &mut self.rng), step(at.y, &mut self.rng));
+            let at = match self.rng.below(3) {
+                0 => at_rest(at, &mut self.rng),
+                _ => Spot::new(step(at.x, &mut self.rng), step(at.y, &mut self.rng)),
+            };
             calls.push(Deferred { kind: u32::from(self.rng.once_in(50)), handle, at });
         }
         if self.rng.once_in(4) {
@@ -164,7 +195,10 @@ impl PointRound<'_> {
             let at = self.reading.get(h).1;
             match self.rng.below(4) {
                 0 => (),
-                1 => self.set_position(h, at),
+                1 => {
+                    let still = at_rest(at, &mut self.rng);
+                    self.set_position(h, still);
+                }
                 2 => {
                     let away = Spot::new(self.ground.coordinate(&mut self.rng), -at.y - self.ground.size as f32);
                     self.set_position(h, Spot::new(away.x, away.y.clamp(-EDGE, EDGE)));

@@ -43,6 +43,11 @@ impl Spot {
         [self.x.to_bits(), self.y.to_bits()]
     }
 
+    /// Whether x or y is another number, as Req 06 compares: -0.0 and 0.0 are one, though their bits differ.
+    pub fn elsewhere(&self, than: Spot) -> bool {
+        self.x != than.x || self.y != than.y
+    }
+
     pub fn in_domain(&self) -> bool {
         in_domain(self.x) && in_domain(self.y)
     }

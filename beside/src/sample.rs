@@ -40,8 +40,7 @@ struct Sample {
     /// The slots by data number: objects are numbered as they come.
     point_slots: HashMap<u32, u32>,
     box_slots: HashMap<u32, u32>,
-    /// Data of the objects with a new position that is pending, and of those marked.
-    moved: BTreeSet<u32>,
+    /// Data of the objects that are marked removed.
     marked: BTreeSet<u32>,
 }
 
@@ -76,7 +75,6 @@ impl Sample {
         self.boxes = OldBoxes::new(size as u32);
         self.point_slots.clear();
         self.box_slots.clear();
-        self.moved.clear();
         self.marked.clear();
         self.line(format!("cell,{size}"), "0".to_string())
     }
@@ -105,7 +103,6 @@ impl Sample {
         } else if self.marked.contains(&data) {
             MARKED
         } else {
-            self.moved.insert(data);
             DONE
         };
         self.line(format!("pos,{slot},1,{x},{y}"), answer.to_string())
@@ -114,7 +111,6 @@ impl Sample {
     fn remove(&mut self, now: bool) -> Result<()> {
         let (data, slot) = self.some_point();
         let given = if now { self.points.remove_maintain(data) } else { self.points.remove(data) };
-        self.moved.remove(&data);
         match (given, now) {
             (Some(_), false) => drop(self.marked.insert(data)),
             _ => drop(self.marked.remove(&data)),
@@ -123,14 +119,11 @@ impl Sample {
         self.line(format!("{name},{slot},1"), given.map_or(GONE.to_string(), |data| format!("0,{data}")))
     }
 
-    /// The counts: the objects that had either new-position state, and how many fewer the original has.
+    /// Both counts are the original's, by its positions before and after.
     fn maintain(&mut self) -> Result<()> {
-        let before = self.points.grid.len();
-        self.points.grid.maintain_deterministic();
-        let answer = format!("0,{},{}", self.moved.len(), before - self.points.grid.len());
-        self.moved.clear();
+        let (moved, removed) = self.points.maintain();
         self.marked.clear();
-        self.line("mnt".to_string(), answer)
+        self.line("mnt".to_string(), format!("0,{moved},{removed}"))
     }
 
     fn query(&mut self) -> Result<()> {
@@ -236,7 +229,6 @@ pub fn write(folder: &Path) -> Result<()> {
         boxes: OldBoxes::new(1),
         point_slots: HashMap::new(),
         box_slots: HashMap::new(),
-        moved: BTreeSet::new(),
         marked: BTreeSet::new(),
     };
     for size in SIZES {

@@ -43,7 +43,8 @@ pub struct Found {
     pub obj: u32,
 }
 
-/// What `maintain` has done: the objects that had a new position, and those that were taken out.
+/// What `maintain` has done: the objects whose position is another by its numbers than before (-0.0 and 0.0 are the same), and those that were
+/// taken out.
 #[derive(Clone, Copy, Debug, PartialEq, Eq)]
 pub struct Maintained {
     pub moved: usize,
@@ -174,7 +175,19 @@ impl Grid {
         answered(r.answer, r.count as usize)
     }
 
-    /// Applies what is pending: moves and removals.
+    /// Applies what is pending: moves and removals. An object that was sent where it is does not count as moved, but takes the bits that were sent.
+    ///
+    /// ```
+    /// use chavrupas::{Grid, Refusal};
+    /// let mut grid = Grid::new(10, 8)?;
+    /// let hand = grid.insert([0.0, 5.0], 1)?;
+    /// grid.set_position(hand, [-0.0, 5.0])?;
+    /// assert_eq!(grid.maintain().moved, 0); // at rest
+    /// assert!(grid.get(hand)?.0[0].is_sign_negative());
+    /// grid.set_position(hand, [0.0, 5.5])?;
+    /// assert_eq!(grid.maintain().moved, 1);
+    /// # Ok::<(), Refusal>(())
+    /// ```
     pub fn maintain(&mut self) -> Maintained {
         let r = call!(chavrupas_points_maintain, self, as_mut_ptr);
         done(r.answer, Maintained { moved: r.moved as usize, removed: r.removed as usize })

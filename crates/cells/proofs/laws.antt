@@ -10,6 +10,7 @@ pub mod CellRuleLaws
 pub mod CellSignLaws
 pub mod EdgeLaws
 pub mod EdgeRule
+pub mod EqualLaws
 pub mod Numbers
 pub mod Patterns
 pub mod Range

@@ -1,5 +1,5 @@
-// A first frame at a desk, on a grid of two slots, and then a slot at its last version: what a person reads is what the gate compares. Each line
-// is a call, its answer and its numbers.
+// A first frame at a desk, on a grid of two slots, then a slot at its last version, then points that rest: what a person reads is what the gate
+// compares. Each line is a call, its answer and its numbers.
 use geometry::Position;
 use libc::STDOUT_FILENO;
 use replies::Count;
@@ -258,8 +258,8 @@ fn look(
     list(nums, reals, ints, map, pool, spots, cells);
 }
 
-// The frame ends: one point moved, one was removed; then the circle finds neither near the origin.
-fn settle(
+// The frame ends: answer, how many moved, how many were removed.
+fn end(
     nums: &mut [[u32; 4]; 2],
     reals: &mut [[f32; 4]; 2],
     ints: &mut [[i32; 4]; 2],
@@ -270,6 +270,19 @@ fn settle(
 ) {
     let r = points::maintain(nums, reals, ints, map, pool, spots, cells);
     line(b"maintain ", r.answer, r.moved, r.removed);
+}
+
+// One point moved, one was removed; then the circle finds neither near the origin.
+fn settle(
+    nums: &mut [[u32; 4]; 2],
+    reals: &mut [[f32; 4]; 2],
+    ints: &mut [[i32; 4]; 2],
+    map: &mut [u64; 4],
+    pool: &mut [[u64; 2]; 2],
+    spots: &mut [[f32; 2]; 2],
+    cells: &mut [[u64; 2]; 2],
+) {
+    end(nums, reals, ints, map, pool, spots, cells);
     circle(nums, reals, ints, map, pool, spots, cells);
 }
 
@@ -384,6 +397,106 @@ fn last(
     ask(nums, reals, ints, map, pool, spots, cells, 1, 1);
 }
 
+// The bits of a zero: 0, or 2147483648 with its minus. Another number is shown as 77.
+fn zero_bits(x: f32) -> u32 {
+    if geometry::same_bits(x, 0.0) {
+        return 0;
+    }
+    if geometry::same_bits(x, -0.0) {
+        return 2147483648;
+    }
+    77
+}
+
+// An object that came first into its slot is sent: answer, slot, and the bits of the x that it is sent to.
+fn send(
+    nums: &mut [[u32; 4]; 2],
+    reals: &mut [[f32; 4]; 2],
+    ints: &mut [[i32; 4]; 2],
+    map: &[u64; 4],
+    pool: &[[u64; 2]; 2],
+    spots: &[[f32; 2]; 2],
+    cells: &mut [[u64; 2]; 2],
+    slot: u32,
+    at: Position,
+) {
+    let h = Handle {
+        slot: slot,
+        version: 1,
+    };
+    let answer = points::set_position(nums, reals, ints, map, pool, spots, cells, h, at);
+    line(b"set ", answer, slot, zero_bits(at.x));
+}
+
+// What `get` says of the first object: answer, data, the bits of its x; and a circle: answer, how many it finds, the bits of the x of the first, its data.
+fn show_zero(
+    nums: &[[u32; 4]; 2],
+    reals: &[[f32; 4]; 2],
+    ints: &[[i32; 4]; 2],
+    map: &[u64; 4],
+    pool: &[[u64; 2]; 2],
+    spots: &[[f32; 2]; 2],
+    cells: &[[u64; 2]; 2],
+) {
+    let h = Handle {
+        slot: 0,
+        version: 1,
+    };
+    let g = points::get(nums, reals, ints, map, pool, spots, cells, h);
+    let p = g.position;
+    line(b"get ", g.answer, g.obj, zero_bits(p.x));
+    let mut found = [[77u32; 2]; 2];
+    let mut places = [[77.0f32; 2]; 2];
+    let mut objs = [77u32; 2];
+    let r = around(
+        nums,
+        reals,
+        ints,
+        map,
+        pool,
+        spots,
+        cells,
+        &mut found,
+        &mut places,
+        &mut objs,
+    );
+    let first = places[0];
+    longer_line(b"circle ", r.answer, r.count, zero_bits(first[0]), objs[0]);
+}
+
+// A point is sent where it is but for a zero's sign, and back: it has not moved, and takes the bits. Then one rests, and another goes by the least
+// step that there is from 16: it alone has moved.
+fn rest(
+    nums: &mut [[u32; 4]; 2],
+    reals: &mut [[f32; 4]; 2],
+    ints: &mut [[i32; 4]; 2],
+    map: &mut [u64; 4],
+    pool: &mut [[u64; 2]; 2],
+    spots: &mut [[f32; 2]; 2],
+    cells: &mut [[u64; 2]; 2],
+) {
+    let made = points::new(nums, reals, ints, map, pool, spots, cells, 10);
+    line(b"new ", made, 0, 0);
+    let plus = Position { x: 0.0, y: 5.0 };
+    let minus = Position { x: -0.0, y: 5.0 };
+    enter(nums, reals, ints, map, pool, spots, cells, plus, 7);
+    send(nums, reals, ints, map, pool, spots, cells, 0, minus);
+    end(nums, reals, ints, map, pool, spots, cells);
+    show_zero(nums, reals, ints, map, pool, spots, cells);
+    send(nums, reals, ints, map, pool, spots, cells, 0, plus);
+    end(nums, reals, ints, map, pool, spots, cells);
+    show_zero(nums, reals, ints, map, pool, spots, cells);
+    let there = Position { x: 16.0, y: 5.0 };
+    let step = Position {
+        x: 16.0000019073486328125,
+        y: 5.0,
+    };
+    enter(nums, reals, ints, map, pool, spots, cells, there, 8);
+    send(nums, reals, ints, map, pool, spots, cells, 0, plus);
+    send(nums, reals, ints, map, pool, spots, cells, 1, step);
+    end(nums, reals, ints, map, pool, spots, cells);
+}
+
 fn run(
     nums: &mut [[u32; 4]; 2],
     reals: &mut [[f32; 4]; 2],
@@ -400,6 +513,7 @@ fn run(
     list(nums, reals, ints, map, cells, spots, cells);
     settle(nums, reals, ints, map, pool, spots, cells);
     last(nums, reals, ints, map, pool, spots, cells);
+    rest(nums, reals, ints, map, pool, spots, cells);
 }
 
 fn main() {

@@ -10,6 +10,7 @@ pub mod ListsAfterLaws
 pub mod MaintainKeeps
 pub mod MaintainLaws
 pub mod MaintainedLaws
+pub mod MovedLaws
 pub mod OnwardLaws
 pub mod RecordsAfterLaws
 pub mod RelocatedLaws

@@ -58,7 +58,7 @@ pub fn maintain(
             removed: 0,
         };
     }
-    let c = point_maintain_slots::count_moves(nums);
+    let c = point_maintain_slots::count_moves(nums, reals);
     settle_all(nums, reals, ints, map, pool, spots, cells);
     Maintained {
         answer: 0,

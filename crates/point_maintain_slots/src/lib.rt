@@ -5,11 +5,11 @@ ghost use Rattle.basics.specs.Meaning.Lent.{was, is};
 ghost use Rattle.cells.specs.Meaning.Key.{keyOf};
 ghost use Rattle.point_maintain_slots.specs.Inner.Pass.{lentRecords, recordsBefore, recordsAfter, Slotted, Ready, Room, Placed, turned, turnedRows, Put};
 ghost use Rattle.point_maintain_slots.specs.Inner.Pass.{Passed};
-ghost use Rattle.point_maintain_slots.specs.Inner.Counts.{counts, numbered, movedIn, removedIn, oneMoved, oneRemoved};
+ghost use Rattle.point_maintain_slots.specs.Inner.Counts.{counts, columns, movedIn, removedIn, differsIn, oneMoved, oneRemoved};
 use cells::Cell;
 use slots::Row;
 
-// How many objects had either new-position state, and how many were removed.
+// How many objects have moved, and how many were removed.
 pub struct Counts {
     pub moved: u32,
     pub removed: u32,
@@ -97,20 +97,24 @@ pub fn settle_slots(
     k
 }
 
-// 1 for a live slot with either new-position state, else 0.
-fn one_moved(phase: u32, tag: u32) -> u32
-    ensures { λ r. ⌜ r ≡ oneMoved phase tag ⌝ }
+// Whether the pending place of a row is another than the recorded one. By numbers and not by bits: -0.0 and 0.0 are equal.
+fn differs(q: [f32; 4]) -> bool
+    ensures { λ r. ⌜ r ≡ differsIn q ⌝ }
+{
+    (q[2] != q[0]) | (q[3] != q[1])
+}
+
+// 1 for a live slot whose object has moved, else 0.
+fn one_moved(phase: u32, tag: u32, q: [f32; 4]) -> u32
+    ensures { λ r. ⌜ r ≡ oneMoved phase tag q ⌝ }
 {
     if phase != slots::LIVE {
         return 0;
     }
-    if tag == 1 {
-        return 1;
+    if (tag != 1) & (tag != 2) {
+        return 0;
     }
-    if tag == 2 {
-        return 1;
-    }
-    0
+    if differs(q) { 1 } else { 0 }
 }
 
 // 1 for a live slot whose object is removed, else 0.
@@ -126,10 +130,10 @@ fn one_removed(phase: u32, tag: u32) -> u32
     1
 }
 
-// The two counts of `maintain`, from the states before it.
-pub fn count_moves(nums: &[Row]) -> Counts
-    requires { ⌜ length (now nums) ≤ mostSlots ⌝ }
-    ensures { λ r. ⌜ r ≡ counts (movedIn (numbered (was nums)) (length (was nums))) (removedIn (numbered (was nums)) (length (was nums))) ⌝ }
+// The two counts of `maintain`, from states and positions before it.
+pub fn count_moves(nums: &[Row], reals: &[[f32; 4]]) -> Counts
+    requires { ⌜ (length (now nums) ≤ mostSlots) × (length (now reals) ≡ length (now nums)) ⌝ }
+    ensures { λ r. ⌜ r ≡ counts (movedIn (columns (was nums) (was reals)) (length (was nums))) (removedIn (columns (was nums) (was reals)) (length (was nums))) ⌝ }
 {
     let mut moved: u32 = 0;
     let mut removed: u32 = 0;
@@ -139,7 +143,7 @@ pub fn count_moves(nums: &[Row]) -> Counts
         let phase = nums[i][1];
         let row = nums[i];
         let tag = point_records::tag_in(row);
-        moved += one_moved(phase, tag);
+        moved += one_moved(phase, tag, reals[i]);
         removed += one_removed(phase, tag);
         i += 1;
     }

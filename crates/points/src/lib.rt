@@ -31,7 +31,8 @@ pub use point_deferred::remove;
 //     // out[0] has the answer of set_position and 0, out[1] that of remove and the data
 pub use point_batch::batch;
 
-// Applies what is pending: moves, relocations, removals. Counts the objects that moved and those removed. Refusals: 3.
+// Applies what is pending: moves, relocations, removals. Counts the objects whose place has changed by its numbers, -0.0 being 0.0, and those removed.
+// Refusals: 3.
 //     let r = points::maintain(nums, reals, ints, map, pool, spots, cells);
 //     // r.moved and r.removed count; from here on queries find each object at its last accepted position
 pub use point_maintain_run::maintain;

@@ -1,2 +1,3 @@
--- Where each point stands after deferred calls and maintain, and what a circle reports then.
+-- Where each point stands after deferred calls and maintain, what a circle reports then, and what maintain counts.
 pub mod Meaning
+pub mod Inner

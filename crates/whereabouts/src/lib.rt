@@ -1,1 +1,2 @@
-// Where each point stands after deferred calls and maintain, and what a circle reports then: statements in specs/, and no code is needed for them.
+// Where each point stands after deferred calls and maintain, what a circle reports then, and what maintain counts: statements in specs/, and no code is
+// needed for them.

@@ -8,13 +8,14 @@ use Rattle.point_tables.specs.Meaning.Holds.{Holds}
 use Rattle.point_tables.specs.Meaning.Decide.{holds, holds-says}
 use Rattle.point_tables.specs.Meaning.Outcome.{Outcome, outcome}
 use Rattle.point_maintain.specs.declared.Maintained.{Maintained}
-use Rattle.point_maintain.specs.Meaning.Maintain.{isMoving, countStates, maintainedCounts, maintained, maintainOf}
+use Rattle.point_maintain.specs.Meaning.Maintain.{countRecords, countStates, maintainedCounts, maintained, maintainOf}
+use Rattle.point_maintain.specs.Meaning.Moved.{hasMoved}
 use Rattle.point_maintain.proofs.laws.MaintainKeeps.{maintained-keeps}
 use Rattle.point_maintain.proofs.laws.CountsLaws.{maintained-count}
 
 module _ (t : Tables) where
-  -- on tables that hold a grid: done, with the counts of the states before
-  pub maintain-done : Holds t → maintainOf t ≡ outcome (maintainedCounts 0 (countStates isMoving t (slotsOf t)) (countStates isRemoved t (slotsOf t))) (maintained t)
+  -- on tables that hold a grid: done, with the counts of the records before
+  pub maintain-done : Holds t → maintainOf t ≡ outcome (maintainedCounts 0 (countRecords hasMoved t (slotsOf t)) (countStates isRemoved t (slotsOf t))) (maintained t)
   unfolding maintainOf
   maintain-done h = rw (holds-says t .no h)
 

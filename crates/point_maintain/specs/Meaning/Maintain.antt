@@ -1,19 +1,20 @@
 -- `maintain`, as `src/grid.rs` does it: each list is walked, then the relocated entries are appended to their new cells in ascending slot
 -- order; a cell with no dirty mark is passed over, and no mark is left. Assumes nothing.
-use Rattle.basics.specs.Words.{ℕ, zero, suc, _+_, Bool, true, false, List, [], _∷_, _++_, map, length, getD, eqb}
+use Rattle.basics.specs.Words.{ℕ, zero, suc, _+_, Bool, false, List, [], _∷_, _++_, map, length, getD, eqb}
 use Rattle.basics.specs.Meaning.Refusals.{Refusal, unless, pick, byTests}
 use Rattle.slots.specs.Meaning.Slot.{live, phaseAt}
 use Rattle.storage.specs.Meaning.Keyed.{filter, under, onList, appendAll, written}
 use Rattle.storage.specs.Meaning.Entries.{Entry, rowKey, rowOf, spotOf, entryKey}
 use Rattle.storage.specs.Meaning.CellTable.{fresh}
 use Rattle.point_records.specs.declared.State.{State}
-use Rattle.point_records.specs.declared.State.the-variants.{Unchanged, NewPos, Relocate, Removed}
+use Rattle.point_records.specs.declared.Record.{Record}
 use Rattle.point_records.specs.Meaning.States.{isRemoved}
 use Rattle.point_tables.specs.Meaning.Tables.{Tables, tables, counting, slotsOf, recordOn, entriesIn, cellRows, slotOf}
 use Rattle.point_tables.specs.Meaning.Decide.{holds}
 use Rattle.point_tables.specs.Meaning.Outcome.{Outcome, outcome}
 use Rattle.point_maintain.specs.declared.Maintained.{Maintained}
 use Rattle.point_maintain.specs.Meaning.Walk.{walk}
+use Rattle.point_maintain.specs.Meaning.Moved.{hasMoved}
 
 -- ---- the lists, one after the other
 -- whether cell k is marked dirty
@@ -72,16 +73,15 @@ unfoldable pub maintained : Tables → Tables
 unfolding maintainedBy
 maintained t = maintainedBy (cellKeys t) t
 
--- ---- the counts, from the states before: objects that had either new-position state, and objects removed
-abbrev pub isMoving : State → Bool
-isMoving Unchanged = false
-isMoving (NewPos p) = true
-isMoving (Relocate p c) = true
-isMoving Removed = false
+-- ---- the counts, from the records before: objects that have moved, and objects removed
+-- the objects below slot n whose record passes
+abbrev pub countRecords : (Record → Bool) → Tables → ℕ → ℕ
+countRecords test t zero = 0
+countRecords test t (suc n) = countRecords test t n + pick (eqb (phaseAt (t .nums) n) live) (pick (test (recordOn t n)) 1 0) 0
 
+-- those whose state passes
 abbrev pub countStates : (State → Bool) → Tables → ℕ → ℕ
-countStates test t zero = 0
-countStates test t (suc n) = countStates test t n + pick (eqb (phaseAt (t .nums) n) live) (pick (test (recordOn t n .state)) 1 0) 0
+countStates test t n = countRecords (λ r. test (r .state)) t n
 
 abbrev pub maintainedCounts : ℕ → ℕ → ℕ → Maintained
 maintainedCounts a m r = record { answer = a; moved = m; removed = r }
@@ -93,5 +93,5 @@ unfoldable pub maintainOf : Tables → Outcome Maintained
 unfolding maintained
 maintainOf t =
     byTests (maintainTests t)
-    (outcome (maintainedCounts 0 (countStates isMoving t (slotsOf t)) (countStates isRemoved t (slotsOf t))) (maintained t))
+    (outcome (maintainedCounts 0 (countRecords hasMoved t (slotsOf t)) (countStates isRemoved t (slotsOf t))) (maintained t))
     (λ a. outcome (maintainedCounts a 0 0) t)

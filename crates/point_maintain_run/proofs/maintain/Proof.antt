@@ -8,7 +8,7 @@ use Rattle.point_tables.specs.Meaning.Outcome.{outcome}
 use Rattle.point_maintain.specs.Meaning.Maintain.{maintainedCounts}
 use Rattle.point_maintain.proofs.laws.SettledForm.{maintained-is}
 use Rattle.point_maintain.proofs.laws.MaintainLaws.{maintain-done, maintain-refused}
-use Rattle.point_maintain_slots.proofs.laws.CountsLaws.{moved-numbered, removed-numbered}
+use Rattle.point_maintain_slots.proofs.laws.CountsLaws.{moved-columns, removed-columns}
 use Rattle.point_maintain_run.proofs.maintain.Statement.{statement}
 use Rattle.point_maintain_run.proofs.maintain.Tie as tie
 
@@ -29,21 +29,21 @@ returns c =
     sym (maintain-refused t (λ h. apart (sym no ∙ holds-says t .no h)))
 
 count-moves-requires : tie.Need-count-moves-requires
-count-moves-requires c κs = whole (c .before) .sized .most
+count-moves-requires c κs = let h = whole (c .before .before) in (h .sized .most, h .sized .of-reals)
 
 settle-all-requires : tie.Need-settle-all-requires
-settle-all-requires c κs = whole (c .before .before .before .before .before .before .before .before .before)
+settle-all-requires c κs = whole (c .before .before .before .before .before .before .before .before .before .before)
 
 returns-2 : tie.Need-returns-2
 returns-2 c =
     let d = c .before .before .before .before .before .before .before .before in
     let m = d .before .before .before .before .before .before .before .before in
-    let e = m .before .before in
+    let e = m .before .before .before in
     let h = whole e in
     let t = entry (start (e .before)) in
     let n = m .count-moves .ensures in
     (λ z.
-    outcome (maintainedCounts 0 ((ap (λ k. k .moved) n ∙ moved-numbered t (slotsOf t)) z) ((ap (λ k. k .removed) n ∙ removed-numbered t (slotsOf t)) z))
+    outcome (maintainedCounts 0 ((ap (λ k. k .moved) n ∙ moved-columns t (slotsOf t)) z) ((ap (λ k. k .removed) n ∙ removed-columns t (slotsOf t)) z))
     ((d .settle-all .ensures ∙ sym (maintained-is t h)) z))
     ∙ sym (maintain-done t h)
 

@@ -8,14 +8,14 @@ use Rattle.slots.specs.Meaning.Slot.{live}
 use Rattle.storage.specs.Meaning.Keyed.{under, appendAll}
 use Rattle.storage.specs.Meaning.Entries.{Entry, entryKey}
 use Rattle.storage.proofs.laws.FilterLaws.{by-test}
-use Rattle.point_records.specs.declared.State.{State}
 use Rattle.point_records.specs.declared.Record.{Record}
 use Rattle.point_records.specs.Meaning.States.{isRemoved}
 use Rattle.point_tables.specs.Meaning.Tables.{Tables, tables, sizeOf, slotsOf, recordOn, entriesIn, slotOf}
 use Rattle.point_tables.specs.Meaning.Holds.{Holds}
 use Rattle.point_tables.specs.Inner.Count.{isLive}
 use Rattle.point_maintain.specs.Meaning.Walk.{settled, fateBy}
-use Rattle.point_maintain.specs.Meaning.Maintain.{cellKeys, maintained, isMoving, countStates, maintainedCounts, maintainOf}
+use Rattle.point_maintain.specs.Meaning.Maintain.{cellKeys, maintained, countRecords, maintainedCounts, maintainOf}
+use Rattle.point_maintain.specs.Meaning.Moved.{hasMoved}
 use Rattle.point_maintain.specs.Inner.Kept.{kept}
 use Rattle.point_maintain.specs.Inner.Settle.{settledIn, settledAll}
 use Rattle.point_maintain.specs.Inner.Closed.{joined, keptUnder, keptEntries, relocatedBy, relocatedBelow, relisted, settledEntries, settledTables}
@@ -98,13 +98,13 @@ module _ (t u : Tables) where
       (beside r w a (relisted r es t .map) (relisted r es t .pool) (relisted r es t .spots) (relisted r es t .cells)))
 
   module _ (like : Alike t v) where
-    count-same : (test : State → Bool) (n : ℕ) → countStates test t n ≡ countStates test v n
+    count-same : (test : Record → Bool) (n : ℕ) → countRecords test t n ≡ countRecords test v n
     count-same test zero = refl
     count-same test (suc n) =
-        ap₂ {C = ℕ} (λ (m : ℕ) (r : Record). m + pick (eqb (r .phase) live) (pick (test (r .state)) 1 0) 0) (count-same test n) (like .each n)
+        ap₂ {C = ℕ} (λ (m : ℕ) (r : Record). m + pick (eqb (r .phase) live) (pick (test r) 1 0) 0) (count-same test n) (like .each n)
 
-    counts-same : (test : State → Bool) → countStates test t (slotsOf t) ≡ countStates test v (slotsOf v)
-    counts-same test = count-same test (slotsOf t) ∙ ap (countStates test v) (like .of-nums)
+    counts-same : (test : Record → Bool) → countRecords test t (slotsOf t) ≡ countRecords test v (slotsOf v)
+    counts-same test = count-same test (slotsOf t) ∙ ap (countRecords test v) (like .of-nums)
 
     -- the lists are those of the records, so they are the same
     kept-same : keptEntries t ≡ keptEntries v
@@ -137,7 +137,7 @@ module _ (t u : Tables) where
       maintain-same =
           let e = both-hold t v like h k in
           same-pick _ _ _ _ _ _ (ap (λ (b : Bool). eqb (orElse b 3 0) 0) e)
-          (ap₂ (maintainedCounts 0) (counts-same isMoving) (counts-same isRemoved), maintained-alike)
+          (ap₂ (maintainedCounts 0) (counts-same hasMoved) (counts-same (λ r. isRemoved (r .state))), maintained-alike)
           (ap (λ (b : Bool). maintainedCounts (orElse b 3 0) 0 0) e, like)
 
 pub maintain-respects : Respects maintainOf

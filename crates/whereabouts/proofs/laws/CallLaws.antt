@@ -29,7 +29,7 @@ use Rattle.point_deferred.proofs.laws.MovesKeeps.{call-keeps}
 use Rattle.whereabouts.specs.Meaning.Whereabouts.{movesIt, removesIt, removedBy, lastAt}
 
 -- ---- the state that `set_position` gives
-aimed-goes : (size : ℕ) (c : Cell) (p q : Position) → (isRemoved (aimed size c p) ≡ false) × (pendingOf (aimed size c p) q ≡ p)
+pub aimed-goes : (size : ℕ) (c : Cell) (p q : Position) → (isRemoved (aimed size c p) ≡ false) × (pendingOf (aimed size c p) q ≡ p)
 unfolding aimed
 aimed-goes size c p q = by-test (said (d-cell (cellAt size p) c)) (λ e. rw e (refl, refl)) (λ e. rw e (refl, refl))
 

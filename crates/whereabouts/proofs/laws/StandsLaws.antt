@@ -67,7 +67,7 @@ module _ (t : Tables) (s : Settled t) (cs : List Call) where
     pub removed-is : isRemoved (recordOn u (g .slot) .state) ≡ removedBy g cs (replies t cs)
     removed-is = f .removed ∙ ap (λ (st : State). isRemoved st || removedBy g cs (replies t cs)) quiet
 
-    headed-is : removedBy g cs (replies t cs) ≡ false → pendingOf (recordOn u (g .slot) .state) (recordOn u (g .slot) .position) ≡ lastAt g cs (replies t cs) (recordOn t (g .slot) .position)
+    pub headed-is : removedBy g cs (replies t cs) ≡ false → pendingOf (recordOn u (g .slot) .state) (recordOn u (g .slot) .position) ≡ lastAt g cs (replies t cs) (recordOn t (g .slot) .position)
     headed-is k = f .goes (removed-is ∙ k) ∙ ap (λ (st : State). lastAt g cs (replies t cs) (pendingOf st (recordOn t (g .slot) .position))) quiet
 
     placed-is : removedBy g cs (replies t cs) ≡ false

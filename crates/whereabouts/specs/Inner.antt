@@ -1,0 +1,2 @@
+-- What only a further theorem cites.
+pub mod Displaced
