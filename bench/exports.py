@@ -11,8 +11,9 @@ PAIR = {**POINTS, **{'box_' + name: rows for name, rows in BOXES.items()}}
 HANDLE = 'slot: u32, version: u32'
 AT = 'x: f32, y: f32'
 BOX = 'left: f32, low: f32, right: f32, high: f32'
-FOUND = 'found: &mut [[u32; 2]], places: &mut [[f32; 2]], objs: &mut [u32]'
-LISTS = 'kinds: &[u32], handles: &[[u32; 2]], positions: &[[f32; 2]], out: &mut [[u32; 2]]'
+TRACKER = 'tracker: u32'
+FOUND = 'found: &mut [[u32; 2]], places: &mut [[f32; 2]], objs: &mut [[u32; 2]]'
+LISTS = 'kinds: &[u32], handles: &[[u32; 3]], positions: &[[f32; 2]], out: &mut [[u32; 2]]'
 BOXES_FOUND = 'found: &mut [[u32; 2]], boxes: &mut [[f32; 4]], objs: &mut [u32]'
 # How several parameters become one argument.
 MADE = {
@@ -27,10 +28,10 @@ CALLS = [
     (POINTS, 'points::new', 'nums map', ['size: u32'], ''),
     (POINTS, 'point_tables::check', '', [], 'bool'),
     (POINTS, 'points::get', '', [HANDLE], '.answer'),
-    (POINTS, 'points::remove_maintain', 'nums map pool spots cells', [HANDLE], '.answer'),
-    (POINTS, 'points::insert', ' '.join(POINTS), [AT, 'obj: u32'], '.answer'),
-    (POINTS, 'points::set_position', DEFERRED, [HANDLE, AT], ''),
-    (POINTS, 'points::remove', DEFERRED, [HANDLE], '.answer'),
+    (POINTS, 'points::remove_maintain', 'nums map pool spots cells', [HANDLE, TRACKER], '.answer'),
+    (POINTS, 'points::insert', ' '.join(POINTS), [AT, 'obj: u32', TRACKER], '.answer'),
+    (POINTS, 'points::set_position', DEFERRED, [HANDLE, AT, TRACKER], ''),
+    (POINTS, 'points::remove', DEFERRED, [HANDLE, TRACKER], '.answer'),
     (POINTS, 'points::batch', DEFERRED, [LISTS], '.answer'),
     (POINTS, 'points::maintain', ' '.join(POINTS), [], '.moved'),
     (POINTS, 'points::query_around', '', [AT, 'radius: f32', FOUND], '.count'),

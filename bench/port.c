@@ -23,7 +23,7 @@ static struct {
   Box reals[256];
   uint64_t map[3 + 256 / 64], pool[ENTRIES][2];
 } b;
-static uint32_t n, kinds[MOST], handles[MOST][2], found[MOST][2], objs[MOST];
+static uint32_t n, kinds[MOST], handles[MOST][3], found[MOST][2], objs[MOST][2];
 static Spot frames[FRAMES + 1][MOST], centres[PICKS], places[MOST];
 static Box boxes[256], same[PICKS], other[PICKS], asked[PICKS], found_boxes[256];
 static uint32_t picked[PICKS];
@@ -79,8 +79,10 @@ static void start(void) {
 }
 
 #define PICK (k * (n / PICKS) + 3)
-static uint32_t set_position(uint32_t s) { return points_set_position(POINTS, s, 1, frames[1][s][0], frames[1][s][1]); }
-static uint32_t set_position_bare(uint32_t s) { return points_set_position_bare(POINTS, s, 1, frames[1][s][0], frames[1][s][1]); }
+/* The tracker of the point in a slot: all eight in turn. */
+#define TRACKER(s) ((s) % 8)
+static uint32_t set_position(uint32_t s) { return points_set_position(POINTS, s, 1, frames[1][s][0], frames[1][s][1], TRACKER(s)); }
+static uint32_t set_position_bare(uint32_t s) { return points_set_position_bare(POINTS, s, 1, frames[1][s][0], frames[1][s][1], TRACKER(s)); }
 static uint32_t around(Spot c, float r) { return points_query_around(POINTS, c[0], c[1], r, QUERY); }
 static uint32_t around_bare(Spot c, float r) { return points_query_around_bare(POINTS, c[0], c[1], r, QUERY); }
 static uint32_t nearest(Spot c, float r) { return points_nearest(POINTS, c[0], c[1], r); }
@@ -121,12 +123,12 @@ static void point_calls(void) {
   COUNT("get", PICKS, points_get(POINTS, PICK, 1));
   UNDONE("set_position", PICKS, set_position(PICK));
   UNDONE("set_position bare", PICKS, set_position_bare(PICK));
-  UNDONE("remove", PICKS, points_remove(POINTS, PICK, 1));
-  UNDONE("remove bare", PICKS, points_remove_bare(POINTS, PICK, 1));
-  for (unsigned k = 0; k < PICKS; k++) must(points_remove_maintain(POINTS, PICK, 1) == 0, "remove_maintain");
-  UNDONE("insert", PICKS, points_insert(POINTS, frames[0][PICK][0], frames[0][PICK][1], k));
-  for (unsigned k = 0; k < PICKS; k++) must(points_remove_maintain(POINTS, PICK, 1) == 0, "remove_maintain");
-  UNDONE("insert bare", PICKS, points_insert_bare(POINTS, frames[0][PICK][0], frames[0][PICK][1], k));
+  UNDONE("remove", PICKS, points_remove(POINTS, PICK, 1, TRACKER(PICK)));
+  UNDONE("remove bare", PICKS, points_remove_bare(POINTS, PICK, 1, TRACKER(PICK)));
+  for (unsigned k = 0; k < PICKS; k++) must(points_remove_maintain(POINTS, PICK, 1, TRACKER(PICK)) == 0, "remove_maintain");
+  UNDONE("insert", PICKS, points_insert(POINTS, frames[0][PICK][0], frames[0][PICK][1], k, TRACKER(PICK)));
+  for (unsigned k = 0; k < PICKS; k++) must(points_remove_maintain(POINTS, PICK, 1, TRACKER(PICK)) == 0, "remove_maintain");
+  UNDONE("insert bare", PICKS, points_insert_bare(POINTS, frames[0][PICK][0], frames[0][PICK][1], k, TRACKER(PICK)));
   COUNT("query_around 60", PICKS, around(centres[k], 60));
   COUNT("query_around 60 bare", PICKS, around_bare(centres[k], 60));
   COUNT("nearest 60", PICKS, nearest(centres[k], 60));
@@ -162,8 +164,8 @@ static void points(FILE *f) {
   get(f, centres, sizeof(Spot), PICKS), get(f, boxes, sizeof(Box), 256);
   must(points_new(POINTS, 16) == 0, "new");
   for (unsigned i = 0; i < n; i++) {
-    must(points_insert_bare(POINTS, frames[0][i][0], frames[0][i][1], i) == 0, "insert");
-    handles[i][0] = i, handles[i][1] = 1;
+    must(points_insert_bare(POINTS, frames[0][i][0], frames[0][i][1], i, TRACKER(i)) == 0, "insert");
+    handles[i][0] = i, handles[i][1] = 1, handles[i][2] = TRACKER(i);
   }
   must(boxes_new(MAP_BOXES, 16) == 0, "new");
   for (unsigned i = 0; i < 256; i++) must(boxes_insert_bare(MAP_BOXES, OF(boxes[i]), i) == 0, "insert");

@@ -10,7 +10,7 @@
 
    In a call each table, list and output is a pointer, then its length in elements (rows, not bytes), never more than the memory behind it has.
 
-   Answers. Every call answers by number, first that applies in the order 3, 2, 6, 11 or 12, 1, 7, 4, 8, 9:
+   Answers. Every call answers by number, first that applies in the order 3, 2, 6, 13, 11 or 12, 14, 1, 7, 4, 8, 9:
      0  done
      1  set_position on an object marked removed
      2  cell size outside its limits (building)
@@ -22,6 +22,8 @@
      9  output shorter than the findings: the count says how long it must be
     11  handle never issued: every handle that is neither good nor gone; there is no such slot, or it had no object at that version
     12  handle gone: the version is at least 1 and below that of its slot, or its slot is retired and was emptied at that version
+    13  tracker number above 7
+    14  point of another tracker
    A handle that a call gave gets 12 once its object is taken out, until the tables are built anew; 11 is a wrong number. 5 is no longer given.
    A call that does not answer 0 changes no table and no output, and the rest of what it returns is zero, but for the count of 9.
    A call that answers 0 writes only the places of an output that it fills.
@@ -32,7 +34,11 @@
    or output that the call writes (no const) and that overlaps another; two calls at once of which one writes what the other reads or writes.
    Where the length is 0 the pointer is not read, and may be null. A call takes up to 140 KB of stack.
 
-   Domain. Coordinates are finite, from -1,048,576 to 1,048,576. Data is one 32-bit number for an object. */
+   Domain. Coordinates are finite, from -1,048,576 to 1,048,576. Data is one 32-bit number for an object.
+
+   Trackers. A point is that of one tracker, a number from 0 to 7 that insert is given and that never changes. A call that moves or removes a point names a
+   tracker last: where it is not the point's the call gets 14 and changes nothing. So however the deferred calls of several trackers are merged, each tracker's
+   own order kept, every tracker gets the same replies and the tables end the same. Boxes have no tracker. */
 
 #ifndef CHAVRUPAS_H
 #define CHAVRUPAS_H
@@ -48,6 +54,10 @@ extern "C" {
 
 /* An object: good while its slot is occupied at that version. No good handle has version 0. */
 typedef struct { uint32_t slot, version; } chavrupas_handle;
+/* A point, and the tracker that a call names. */
+typedef struct { uint32_t slot, version, tracker; } chavrupas_tracked;
+/* What a point was inserted with. */
+typedef struct { uint32_t obj, tracker; } chavrupas_point_data;
 typedef struct { float x, y; } chavrupas_position;
 /* Lower left and upper right corner; left <= right and low <= high. */
 typedef struct { float left, low, right, high; } chavrupas_aabb;
@@ -57,13 +67,14 @@ typedef struct { uint32_t answer, obj; } chavrupas_reply;
 typedef struct { uint32_t answer, count; } chavrupas_count;
 typedef struct { uint32_t answer; uint64_t count; } chavrupas_batch_reply;
 typedef struct { uint32_t answer, moved, removed; } chavrupas_maintained;
-typedef struct { uint32_t answer; float x, y; uint32_t obj; } chavrupas_point_got;
-typedef struct { uint32_t answer, count, slot, version; float x, y; uint32_t obj; } chavrupas_nearest;
+typedef struct { uint32_t answer; float x, y; uint32_t obj, tracker; } chavrupas_point_got;
+typedef struct { uint32_t answer, count, slot, version; float x, y; uint32_t obj, tracker; } chavrupas_nearest;
 typedef struct { uint32_t answer; float left, low, right, high; uint32_t obj; } chavrupas_box_got;
 
 /* ---- the rows of the tables */
 
-typedef struct { uint32_t version, phase, obj, state; } chavrupas_point_nums;
+/* The word is 4 times the tracker plus the state. */
+typedef struct { uint32_t version, phase, obj, word; } chavrupas_point_nums;
 typedef struct { float x, y, pending_x, pending_y; } chavrupas_point_reals;
 typedef struct { int32_t cell_x, cell_y, target_x, target_y; } chavrupas_point_ints;
 typedef struct { uint32_t version, phase, obj, unused; } chavrupas_box_nums;
@@ -126,38 +137,39 @@ uint32_t chavrupas_points_new(
     const chavrupas_position *spots, size_t spots_n, const chavrupas_cell_row *cells, size_t cells_n,
     uint32_t size);
 
-/* A new object at (x, y) with the data `obj`, in the lowest usable slot; queries see it at once. Gives its handle.
-   Answers 3, 6, 4. */
+/* A new object at (x, y) with the data `obj`, of tracker `tracker`, from 0 to 7, in the lowest usable slot; queries see it at once. Gives its handle.
+   Answers 3, 6, 13, 4. */
 chavrupas_inserted chavrupas_points_insert(
     chavrupas_point_nums *nums, size_t nums_n, chavrupas_point_reals *reals, size_t reals_n, chavrupas_point_ints *ints, size_t ints_n,
     uint64_t *map, size_t map_n, chavrupas_pool_row *pool, size_t pool_n, chavrupas_position *spots, size_t spots_n,
     chavrupas_cell_row *cells, size_t cells_n,
-    float x, float y, uint32_t obj);
+    float x, float y, uint32_t obj, uint32_t tracker);
 
-/* The object shall be at (x, y) after the next maintain; until then queries and `get` see it where it is recorded.
-   Answers 3, 6, 11, 12, 1. */
+/* The object, which is this tracker's, shall be at (x, y) after the next maintain; until then queries and `get` see it where it is recorded.
+   Answers 3, 6, 13, 11, 12, 14, 1. */
 uint32_t chavrupas_points_set_position(
     chavrupas_point_nums *nums, size_t nums_n, chavrupas_point_reals *reals, size_t reals_n, chavrupas_point_ints *ints, size_t ints_n,
     const uint64_t *map, size_t map_n, const chavrupas_pool_row *pool, size_t pool_n, const chavrupas_position *spots, size_t spots_n,
     chavrupas_cell_row *cells, size_t cells_n,
-    uint32_t slot, uint32_t version, float x, float y);
+    uint32_t slot, uint32_t version, float x, float y, uint32_t tracker);
 
-/* Marks the object; the next maintain takes it out. Gives its data, and again if asked again.
-   Answers 3, 11, 12. */
+/* Marks the object, which is this tracker's; the next maintain takes it out. Gives its data, and again if asked again.
+   Answers 3, 13, 11, 12, 14. */
 chavrupas_reply chavrupas_points_remove(
     chavrupas_point_nums *nums, size_t nums_n, chavrupas_point_reals *reals, size_t reals_n, chavrupas_point_ints *ints, size_t ints_n,
     const uint64_t *map, size_t map_n, const chavrupas_pool_row *pool, size_t pool_n, const chavrupas_position *spots, size_t spots_n,
     chavrupas_cell_row *cells, size_t cells_n,
-    uint32_t slot, uint32_t version);
+    uint32_t slot, uint32_t version, uint32_t tracker);
 
 /* Many deferred calls one after the other, with one check of the tables: kind 0 is set_position, any other is remove (its position is not read).
-   Call i gets its own answer and data in out[i]; the three lists have one length, and `out` at least that. Gives the number of calls.
+   Call i names a handle and a tracker in handles[i], and gets its own answer and data in out[i]; the three lists have one length, and `out` at least that.
+   Gives the number of calls.
    Answers 3 (also for lists of unequal length), 9 with the number of calls: then nothing is done. */
 chavrupas_batch_reply chavrupas_points_batch(
     chavrupas_point_nums *nums, size_t nums_n, chavrupas_point_reals *reals, size_t reals_n, chavrupas_point_ints *ints, size_t ints_n,
     const uint64_t *map, size_t map_n, const chavrupas_pool_row *pool, size_t pool_n, const chavrupas_position *spots, size_t spots_n,
     chavrupas_cell_row *cells, size_t cells_n,
-    const uint32_t *kinds, size_t kinds_n, const chavrupas_handle *handles, size_t handles_n,
+    const uint32_t *kinds, size_t kinds_n, const chavrupas_tracked *handles, size_t handles_n,
     const chavrupas_position *positions, size_t positions_n, chavrupas_reply *out, size_t out_n);
 
 /* Ends the frame: pending moves and removals are applied. Gives how many objects moved and how many were removed. Moved are those whose place is
@@ -168,23 +180,23 @@ chavrupas_maintained chavrupas_points_maintain(
     uint64_t *map, size_t map_n, chavrupas_pool_row *pool, size_t pool_n, chavrupas_position *spots, size_t spots_n,
     chavrupas_cell_row *cells, size_t cells_n);
 
-/* Takes the object out now, whatever is pending for it. Gives its data.
-   Answers 3, 11, 12. */
+/* Takes the object, which is this tracker's, out now, whatever is pending for it. Gives its data.
+   Answers 3, 13, 11, 12, 14. */
 chavrupas_reply chavrupas_points_remove_maintain(
     chavrupas_point_nums *nums, size_t nums_n, const chavrupas_point_reals *reals, size_t reals_n,
     const chavrupas_point_ints *ints, size_t ints_n, uint64_t *map, size_t map_n, chavrupas_pool_row *pool, size_t pool_n,
     chavrupas_position *spots, size_t spots_n, chavrupas_cell_row *cells, size_t cells_n,
-    uint32_t slot, uint32_t version);
+    uint32_t slot, uint32_t version, uint32_t tracker);
 
-/* Writes the recorded position and the data of every object, ascending by slot, then empties the grid; old handles answer 12 from then on.
+/* Writes the recorded position, the data and the tracker of every object, ascending by slot, then empties the grid; old handles answer 12 from then on.
    Answers 3, 9 with the number of objects. */
 chavrupas_count chavrupas_points_clear(
     chavrupas_point_nums *nums, size_t nums_n, const chavrupas_point_reals *reals, size_t reals_n,
     const chavrupas_point_ints *ints, size_t ints_n, uint64_t *map, size_t map_n, const chavrupas_pool_row *pool, size_t pool_n,
     const chavrupas_position *spots, size_t spots_n, const chavrupas_cell_row *cells, size_t cells_n,
-    chavrupas_position *places, size_t places_n, uint32_t *objs, size_t objs_n);
+    chavrupas_position *places, size_t places_n, chavrupas_point_data *objs, size_t objs_n);
 
-/* The recorded position and the data of an object.
+/* The recorded position, the data and the tracker of an object.
    Answers 3, 11, 12. */
 chavrupas_point_got chavrupas_points_get(
     const chavrupas_point_nums *nums, size_t nums_n, const chavrupas_point_reals *reals, size_t reals_n,
@@ -207,38 +219,38 @@ chavrupas_count chavrupas_points_handles(
     const chavrupas_position *spots, size_t spots_n, const chavrupas_cell_row *cells, size_t cells_n,
     chavrupas_handle *out, size_t out_n);
 
-/* Every object of the cells from that of (left, low) to that of (right, high): handles, and beside them recorded positions and data. The shortest of
-   the three outputs counts. Reversed corners find nothing.
+/* Every object of the cells from that of (left, low) to that of (right, high): handles, and beside them recorded positions, and data with trackers. The
+   shortest of the three outputs counts. Reversed corners find nothing.
    Answers 3, 6, 7, 9 with the number found. */
 chavrupas_count chavrupas_points_query(
     const chavrupas_point_nums *nums, size_t nums_n, const chavrupas_point_reals *reals, size_t reals_n,
     const chavrupas_point_ints *ints, size_t ints_n, const uint64_t *map, size_t map_n, const chavrupas_pool_row *pool, size_t pool_n,
     const chavrupas_position *spots, size_t spots_n, const chavrupas_cell_row *cells, size_t cells_n,
     float left, float low, float right, float high, chavrupas_handle *found, size_t found_n, chavrupas_position *places, size_t places_n,
-    uint32_t *objs, size_t objs_n);
+    chavrupas_point_data *objs, size_t objs_n);
 
 /* The objects strictly nearer to (x, y) than `radius`, which is from 0 to 1,048,576; the test is in float, each operation rounded once. Writes handles,
-   recorded positions and data, as `query` does.
+   recorded positions, data and trackers, as `query` does.
    Answers 3, 6, 7, 9 with the number found. */
 chavrupas_count chavrupas_points_query_around(
     const chavrupas_point_nums *nums, size_t nums_n, const chavrupas_point_reals *reals, size_t reals_n,
     const chavrupas_point_ints *ints, size_t ints_n, const uint64_t *map, size_t map_n, const chavrupas_pool_row *pool, size_t pool_n,
     const chavrupas_position *spots, size_t spots_n, const chavrupas_cell_row *cells, size_t cells_n,
     float x, float y, float radius, chavrupas_handle *found, size_t found_n, chavrupas_position *places, size_t places_n,
-    uint32_t *objs, size_t objs_n);
+    chavrupas_point_data *objs, size_t objs_n);
 
-/* The objects of a rectangle, edges included; its corners may come in any order. Writes handles, recorded positions and data, as `query` does.
+/* The objects of a rectangle, edges included; its corners may come in any order. Writes handles, recorded positions, data and trackers, as `query` does.
    Answers 3, 6, 7, 9 with the number found. */
 chavrupas_count chavrupas_points_query_aabb(
     const chavrupas_point_nums *nums, size_t nums_n, const chavrupas_point_reals *reals, size_t reals_n,
     const chavrupas_point_ints *ints, size_t ints_n, const uint64_t *map, size_t map_n, const chavrupas_pool_row *pool, size_t pool_n,
     const chavrupas_position *spots, size_t spots_n, const chavrupas_cell_row *cells, size_t cells_n,
     float left, float low, float right, float high, chavrupas_handle *found, size_t found_n, chavrupas_position *places, size_t places_n,
-    uint32_t *objs, size_t objs_n);
+    chavrupas_point_data *objs, size_t objs_n);
 
 /* The nearest of the objects that `query_around` would find for this circle, and of equally near ones that of the lowest slot; distances are compared squared,
-   in float, each operation rounded once. Gives count 1 with handle, recorded position and data; count 0 and zeros if the circle is empty. It writes to no
-   output, and so never answers 9.
+   in float, each operation rounded once. Gives count 1 with handle, recorded position, data and tracker; count 0 and zeros if the circle is empty. It writes
+   to no output, and so never answers 9.
    Answers 3, 6, 7. */
 chavrupas_nearest chavrupas_points_nearest(
     const chavrupas_point_nums *nums, size_t nums_n, const chavrupas_point_reals *reals, size_t reals_n,

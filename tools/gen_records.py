@@ -899,15 +899,15 @@ WRITES = ['mut'] * 7
 READS = ['shr'] * 3 + ['copy'] * 4
 # crate, call, how it takes the tables, its values, its result, the name of its meaning
 CALLS = [
-    ('record_deferred', 'set_position', MARKS, ['Handle', 'Position'], 'u32', 'setPosition'),
-    ('record_deferred', 'remove', MARKS, ['Handle'], 'Reply', 'remove'),
-    ('record_insert', 'insert', WRITES, ['Position', 'u32'], 'Inserted', 'insert'),
+    ('record_deferred', 'set_position', MARKS, ['Handle', 'Position', 'u32'], 'u32', 'setPosition'),
+    ('record_deferred', 'remove', MARKS, ['Handle', 'u32'], 'Reply', 'remove'),
+    ('record_insert', 'insert', WRITES, ['Position', 'u32', 'u32'], 'Inserted', 'insert'),
     ('record_maintain', 'maintain', WRITES, [], 'Maintained', 'maintain'),
     ('record_get', 'get', READS, ['Handle'], 'Got', 'get'),
     ('record_get', 'len', READS, [], 'Count', 'len'),
     ('record_query', 'query_around', READS, ['Position', 'f32'], 'Count', 'around'),
 ]
-OUTPUTS = {'query_around': ['u2', 'f2', 'u32']}
+OUTPUTS = {'query_around': ['u2', 'f2', 'u2']}
 SAID = {'set_position': '(reply {r} 0)'}
 
 IN_TWO = ['maintain', 'get']

@@ -47,12 +47,13 @@ fn read_point(t: &PointTables, size: u32, s: usize) -> Read<Point> {
     let target = Cell { x: i64::from(ints[2]), y: i64::from(ints[3]) };
     must(at.in_domain(), "a position is outside the domain")?;
     must(at.cell(size) == cell, "a record's cell is not that of its position")?;
-    let state = match t.nums[s][3] {
+    let (tracker, state) = (t.nums[s][3] / 4, t.nums[s][3] % 4);
+    must(tracker <= LAST_TRACKER, "a tracker is none of eight")?;
+    let state = match state {
         0 => State::Unchanged,
         1 => State::NewPos(next),
         2 => State::Relocate(next, target),
-        3 => State::Removed,
-        _ => return Err("a state is none of four"),
+        _ => State::Removed,
     };
     match state {
         State::NewPos(next) => {
@@ -66,7 +67,7 @@ fn read_point(t: &PointTables, size: u32, s: usize) -> Read<Point> {
         }
         _ => (),
     }
-    Ok(Point { data: t.nums[s][2], at, cell, state })
+    Ok(Point { data: t.nums[s][2], at, cell, state, tracker })
 }
 
 /// Building looks at lengths only.

@@ -1,7 +1,8 @@
-//! What a call is given besides coordinates: handles, places of outputs; and slots that have served long.
+//! What a call is given besides coordinates: handles, trackers, places of outputs; and slots that have served long.
 use crate::random::Rng;
 use crate::rules::LAST_VERSION;
 use crate::slots::{Handle, Slot, Slots};
+use std::collections::{HashMap, VecDeque};
 
 /// A slot that passes a test, if there is one.
 fn some_slot<T>(slots: &Slots<T>, rng: &mut Rng, passes: impl Fn(usize) -> bool) -> Option<usize> {
@@ -50,6 +51,40 @@ fn lost<T>(slots: &Slots<T>, rng: &mut Rng) -> Handle {
         2 => Handle { slot: rng.bits(), version: rng.bits() },
         _ => Handle { slot, version },
     }
+}
+
+/// The tracker of a call: mostly the point's own; at times another's, or a number of none. On a lost handle, which has none, any.
+pub fn tracker(own: Option<u32>, rng: &mut Rng) -> u32 {
+    let any = rng.below(8) as u32;
+    let own = own.unwrap_or(any);
+    match rng.below(16) {
+        0 => no_tracker(own, rng),
+        1 | 2 => any,
+        _ => own,
+    }
+}
+
+/// A number above 7: the first of them, the last, a little above, any; or one of which some bits are a tracker's number.
+fn no_tracker(own: u32, rng: &mut Rng) -> u32 {
+    match rng.below(4) {
+        0 => 8,
+        1 => rng.pick(&[9, 15, 16, 31, 32, u32::MAX]),
+        2 => own + rng.pick(&[8, 16, 32, 256, 65_536, 1 << 29, 1 << 30, 1 << 31]),
+        _ => rng.bits() | 8,
+    }
+}
+
+/// The places of calls of these trackers in another order that keeps each tracker's own.
+pub fn merge(trackers: &[u32], rng: &mut Rng) -> Vec<usize> {
+    let mut turns = trackers.to_vec();
+    for i in (1..turns.len()).rev() {
+        turns.swap(i, rng.below(i as u64 + 1) as usize);
+    }
+    let mut waiting: HashMap<u32, VecDeque<usize>> = HashMap::new();
+    for (i, tracker) in trackers.iter().enumerate() {
+        waiting.entry(*tracker).or_default().push_back(i);
+    }
+    turns.iter().map(|tracker| waiting.get_mut(tracker).unwrap().pop_front().unwrap()).collect()
 }
 
 /// Places of an output: enough mostly, or exactly as many as needed, or fewer.

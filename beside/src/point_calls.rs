@@ -10,10 +10,12 @@ use crate::tables::{Out, Outs, PointTables};
 #[derive(Clone, Debug)]
 pub enum PointCall {
     New(u32),
-    Insert(Spot, u32),
-    SetPosition(Handle, Spot),
-    Remove(Handle),
-    RemoveMaintain(Handle),
+    /// Position, data and tracker.
+    Insert(Spot, u32, u32),
+    /// The last number of these three is the tracker's.
+    SetPosition(Handle, Spot, u32),
+    Remove(Handle, u32),
+    RemoveMaintain(Handle, u32),
     /// The calls, and how many kinds too many.
     Batch(Vec<Deferred>, usize, usize),
     Maintain,
@@ -31,17 +33,17 @@ impl PointCall {
     pub fn of_port(&self, t: &mut PointTables) -> Outcome {
         match self {
             PointCall::New(size) => plain(t.call_new(*size), vec![]),
-            PointCall::Insert(at, data) => {
-                let r = t.call_insert(*at, *data);
+            PointCall::Insert(at, data, tracker) => {
+                let r = t.call_insert(*at, *data, *tracker);
                 plain(r.answer, vec![r.slot.into(), r.version.into()])
             }
-            PointCall::SetPosition(h, at) => plain(t.call_set_position(*h, *at), vec![]),
-            PointCall::Remove(h) => {
-                let r = t.call_remove(*h);
+            PointCall::SetPosition(h, at, tracker) => plain(t.call_set_position(*h, *at, *tracker), vec![]),
+            PointCall::Remove(h, tracker) => {
+                let r = t.call_remove(*h, *tracker);
                 plain(r.answer, vec![r.obj.into()])
             }
-            PointCall::RemoveMaintain(h) => {
-                let r = t.call_remove_maintain(*h);
+            PointCall::RemoveMaintain(h, tracker) => {
+                let r = t.call_remove_maintain(*h, *tracker);
                 plain(r.answer, vec![r.obj.into()])
             }
             PointCall::Batch(calls, more, places) => {
@@ -57,7 +59,7 @@ impl PointCall {
             }
             PointCall::Get(h) => {
                 let r = t.call_get(*h);
-                plain(r.answer, vec![r.x.to_bits().into(), r.y.to_bits().into(), r.obj.into()])
+                plain(r.answer, vec![r.x.to_bits().into(), r.y.to_bits().into(), r.obj.into(), r.tracker.into()])
             }
             PointCall::Nearest(centre, r) => {
                 let r = t.call_nearest(*centre, *r);
@@ -101,17 +103,17 @@ impl PointCall {
                 }
                 plain(answer, vec![])
             }
-            PointCall::Insert(at, data) => {
-                let (answer, h) = grid.insert(*at, *data);
+            PointCall::Insert(at, data, tracker) => {
+                let (answer, h) = grid.insert(*at, *data, *tracker);
                 plain(answer, vec![h.slot.into(), h.version.into()])
             }
-            PointCall::SetPosition(h, at) => plain(grid.set_position(*h, *at), vec![]),
-            PointCall::Remove(h) => {
-                let (answer, data) = grid.remove(*h);
+            PointCall::SetPosition(h, at, tracker) => plain(grid.set_position(*h, *at, *tracker), vec![]),
+            PointCall::Remove(h, tracker) => {
+                let (answer, data) = grid.remove(*h, *tracker);
                 plain(answer, vec![data.into()])
             }
-            PointCall::RemoveMaintain(h) => {
-                let (answer, data) = grid.remove_maintain(*h);
+            PointCall::RemoveMaintain(h, tracker) => {
+                let (answer, data) = grid.remove_maintain(*h, *tracker);
                 plain(answer, vec![data.into()])
             }
             PointCall::Batch(_, more, _) if *more > 0 => self.refused(TABLES),
@@ -124,8 +126,8 @@ impl PointCall {
                 plain(DONE, vec![moved.into(), removed.into()])
             }
             PointCall::Get(h) => {
-                let (answer, at, data) = grid.get(*h);
-                plain(answer, vec![at.bits()[0].into(), at.bits()[1].into(), data.into()])
+                let (answer, at, data, tracker) = grid.get(*h);
+                plain(answer, vec![at.bits()[0].into(), at.bits()[1].into(), data.into(), tracker.into()])
             }
             PointCall::Nearest(centre, r) => {
                 let (answer, found) = grid.nearest(*centre, *r);
@@ -145,7 +147,7 @@ impl PointCall {
             PointCall::Clear(places, more) => {
                 let r = grid.clear((*places).min(*more));
                 let spots = filled(*places, r.out.iter().map(|(at, _)| at.bits()));
-                let objs = filled(*more, r.out.iter().map(|(_, data)| [*data]));
+                let objs = filled(*more, r.out.iter().map(|(_, data)| *data));
                 Outcome { answer: r.answer, numbers: vec![r.count], outs: vec![spots, objs] }
             }
             PointCall::Query(Corners::Cells, ll, ur, lens) => found(grid.query(*ll, *ur, Outs::room(lens)), lens),
@@ -160,13 +162,13 @@ impl PointCall {
         let (numbers, words): (usize, Vec<usize>) = match self {
             PointCall::New(_) | PointCall::SetPosition(..) => (0, vec![]),
             PointCall::Insert(..) | PointCall::Maintain => (2, vec![]),
-            PointCall::Remove(_) | PointCall::RemoveMaintain(_) | PointCall::Len => (1, vec![]),
-            PointCall::Get(_) => (3, vec![]),
-            PointCall::Nearest(..) => (6, vec![]),
+            PointCall::Remove(..) | PointCall::RemoveMaintain(..) | PointCall::Len => (1, vec![]),
+            PointCall::Get(_) => (4, vec![]),
+            PointCall::Nearest(..) => (7, vec![]),
             PointCall::Batch(_, _, places) | PointCall::Handles(places) => (1, vec![untouched::<2>(*places)]),
-            PointCall::Clear(places, more) => (1, vec![untouched::<2>(*places), untouched::<1>(*more)]),
+            PointCall::Clear(places, more) => (1, vec![untouched::<2>(*places), untouched::<2>(*more)]),
             PointCall::Query(_, _, _, [a, b, c]) | PointCall::Around(_, _, [a, b, c]) => {
-                (1, vec![untouched::<2>(*a), untouched::<2>(*b), untouched::<1>(*c)])
+                (1, vec![untouched::<2>(*a), untouched::<2>(*b), untouched::<2>(*c)])
             }
         };
         refused(answer, numbers, words)
@@ -188,6 +190,6 @@ impl PointCall {
 fn found(r: Filled<Finding>, lens: &[usize; 3]) -> Outcome {
     let handles = filled(lens[0], r.out.iter().map(|f| [f.handle.slot, f.handle.version]));
     let spots = filled(lens[1], r.out.iter().map(|f| f.at.bits()));
-    let objs = filled(lens[2], r.out.iter().map(|f| [f.data]));
+    let objs = filled(lens[2], r.out.iter().map(|f| [f.data, f.tracker]));
     Outcome { answer: r.answer, numbers: vec![r.count], outs: vec![handles, spots, objs] }
 }

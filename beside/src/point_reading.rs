@@ -1,4 +1,5 @@
-//! Document 01 read anew: the point grid; and Req 06: which objects count as moved. A plain reading, not a fast one; it shares no text with the port.
+//! Document 01 read anew: the point grid; Req 06: which objects count as moved; Req 07: whose a point is. A plain reading, not a fast one; it shares no text
+//! with the port.
 use crate::rules::*;
 use crate::slots::{Handle, Slots};
 use std::collections::BTreeMap;
@@ -17,6 +18,7 @@ pub struct Point {
     pub at: Spot,
     pub cell: Cell,
     pub state: State,
+    pub tracker: u32,
 }
 
 impl Point {
@@ -42,11 +44,12 @@ pub struct Finding {
     pub handle: Handle,
     pub at: Spot,
     pub data: u32,
+    pub tracker: u32,
 }
 
 /// What `nearest` gives beside its answer: a count of 1 with the finding, its position by bits; or zeros.
-pub fn nearest_words(found: Option<Finding>) -> [u32; 6] {
-    found.map_or([0; 6], |f| [1, f.handle.slot, f.handle.version, f.at.bits()[0], f.at.bits()[1], f.data])
+pub fn nearest_words(found: Option<Finding>) -> [u32; 7] {
+    found.map_or([0; 7], |f| [1, f.handle.slot, f.handle.version, f.at.bits()[0], f.at.bits()[1], f.data, f.tracker])
 }
 
 /// An answer, a number beside it, and what the output is filled with.
@@ -79,6 +82,7 @@ pub struct Deferred {
     pub kind: u32,
     pub handle: Handle,
     pub at: Spot,
+    pub tracker: u32,
 }
 
 impl Points {
@@ -86,24 +90,31 @@ impl Points {
         Points { size, slots: Slots::new(n), lists: BTreeMap::new() }
     }
 
-    pub fn insert(&mut self, at: Spot, data: u32) -> (u32, Handle) {
+    pub fn insert(&mut self, at: Spot, data: u32, tracker: u32) -> (u32, Handle) {
         let none = Handle { slot: 0, version: 0 };
         let usable = self.slots.usable();
-        let answer = first(&[(!at.in_domain(), DOMAIN), (usable.is_none(), FULL)]);
+        let answer = first(&[(!at.in_domain(), DOMAIN), (tracker > LAST_TRACKER, NO_TRACKER), (usable.is_none(), FULL)]);
         if answer != DONE {
             return (answer, none);
         }
         let cell = at.cell(self.size);
-        let handle = self.slots.fill(usable.unwrap(), Point { data, at, cell, state: State::Unchanged });
+        let handle = self.slots.fill(usable.unwrap(), Point { data, at, cell, state: State::Unchanged, tracker });
         self.lists.entry(cell).or_default().push(handle.slot);
         (DONE, handle)
     }
 
-    pub fn set_position(&mut self, h: Handle, at: Spot) -> u32 {
-        let (size, why) = (self.size, self.slots.why_not(h));
+    /// Req 07: why a call of this tracker may not move or remove what the handle names.
+    fn not_own(&self, h: Handle, tracker: u32) -> u32 {
+        let object = self.slots.get(h);
+        let others = object.map_or(false, |o| o.tracker != tracker);
+        first(&[(tracker > LAST_TRACKER, NO_TRACKER), (object.is_none(), self.slots.why_not(h)), (others, OTHER_TRACKER)])
+    }
+
+    pub fn set_position(&mut self, h: Handle, at: Spot, tracker: u32) -> u32 {
+        let (size, why) = (self.size, self.not_own(h, tracker));
         let object = self.slots.get_mut(h);
         let marked = object.as_ref().map_or(false, |o| o.state == State::Removed);
-        let answer = first(&[(!at.in_domain(), DOMAIN), (object.is_none(), why), (marked, MARKED)]);
+        let answer = first(&[(!at.in_domain(), DOMAIN), (why != DONE, why), (marked, MARKED)]);
         if answer == DONE {
             let object = object.unwrap();
             let target = at.cell(size);
@@ -112,14 +123,14 @@ impl Points {
         answer
     }
 
-    pub fn remove(&mut self, h: Handle) -> (u32, u32) {
-        let why = self.slots.why_not(h);
-        match self.slots.get_mut(h) {
-            None => (why, 0),
-            Some(object) => {
+    pub fn remove(&mut self, h: Handle, tracker: u32) -> (u32, u32) {
+        match self.not_own(h, tracker) {
+            DONE => {
+                let object = self.slots.get_mut(h).unwrap();
                 object.state = State::Removed;
                 (DONE, object.data)
             }
+            why => (why, 0),
         }
     }
 
@@ -134,17 +145,17 @@ impl Points {
 
     fn deferred(&mut self, c: &Deferred) -> [u32; 2] {
         if c.kind == 0 {
-            [self.set_position(c.handle, c.at), 0]
+            [self.set_position(c.handle, c.at, c.tracker), 0]
         } else {
-            let (answer, data) = self.remove(c.handle);
+            let (answer, data) = self.remove(c.handle, c.tracker);
             [answer, data]
         }
     }
 
-    pub fn remove_maintain(&mut self, h: Handle) -> (u32, u32) {
-        let object = match self.slots.get(h) {
-            None => return (self.slots.why_not(h), 0),
-            Some(object) => object.clone(),
+    pub fn remove_maintain(&mut self, h: Handle, tracker: u32) -> (u32, u32) {
+        let object = match self.not_own(h, tracker) {
+            DONE => self.slots.get(h).unwrap().clone(),
+            why => return (why, 0),
         };
         let list = self.lists.get_mut(&object.cell).unwrap();
         let place = list.iter().position(|s| *s == h.slot).unwrap();
@@ -195,10 +206,11 @@ impl Points {
         (moved, removed)
     }
 
-    pub fn get(&self, h: Handle) -> (u32, Spot, u32) {
+    /// Answer, recorded position, data and tracker.
+    pub fn get(&self, h: Handle) -> (u32, Spot, u32, u32) {
         match self.slots.get(h) {
-            None => (self.slots.why_not(h), Spot::default(), 0),
-            Some(object) => (DONE, object.at, object.data),
+            None => (self.slots.why_not(h), Spot::default(), 0, 0),
+            Some(object) => (DONE, object.at, object.data, object.tracker),
         }
     }
 
@@ -206,8 +218,9 @@ impl Points {
         Filled::fitted(self.slots.objects().map(|(h, _)| h).collect(), places)
     }
 
-    pub fn clear(&mut self, places: usize) -> Filled<(Spot, u32)> {
-        let filled = Filled::fitted(self.slots.objects().map(|(_, o)| (o.at, o.data)).collect(), places);
+    /// Recorded position, and data with tracker, of each.
+    pub fn clear(&mut self, places: usize) -> Filled<(Spot, [u32; 2])> {
+        let filled = Filled::fitted(self.slots.objects().map(|(_, o)| (o.at, [o.data, o.tracker])).collect(), places);
         if filled.answer == DONE {
             self.lists.clear();
             self.slots.empty_all();
@@ -227,7 +240,8 @@ impl Points {
                 for slot in self.lists.range(row).flat_map(|(_, list)| list) {
                     let object = self.slots.live(*slot).unwrap();
                     if test(object.at) {
-                        out.push(Finding { handle: self.slots.handle(*slot as usize), at: object.at, data: object.data });
+                        let handle = self.slots.handle(*slot as usize);
+                        out.push(Finding { handle, at: object.at, data: object.data, tracker: object.tracker });
                     }
                 }
             }
@@ -263,7 +277,7 @@ impl Points {
             let (dx, dy) = (object.at.x - centre.x, object.at.y - centre.y);
             if dx * dx + dy * dy < best {
                 best = dx * dx + dy * dy;
-                found = Some(Finding { handle, at: object.at, data: object.data });
+                found = Some(Finding { handle, at: object.at, data: object.data, tracker: object.tracker });
             }
         }
         (circle.answer, found)

@@ -2,7 +2,7 @@
 use crate::holds::read_points;
 use crate::log::Log;
 use crate::original::OldPoints;
-use crate::picks::{age, data, places};
+use crate::picks::{age, data, merge, places};
 use crate::places::{sent_kind, Ground};
 use crate::point_reading::{nearest_words, Deferred, Filled, Finding, Points, State};
 use crate::port::{BatchLists, BatchReply, Corners, Count, Inserted, Maintained, Reply};
@@ -19,8 +19,8 @@ pub struct PointRound<'a> {
     before: PointTables,
     pub reading: Points,
     old: OldPoints,
-    /// The data that each handle was given with, since the last `clear`.
-    given: HashMap<(u32, u32), u32>,
+    /// The data and the tracker that each handle was given with, since the last `clear`.
+    given: HashMap<(u32, u32), [u32; 2]>,
     issued: Issued,
     /// The handle that the port gave with each data number, since the last `clear`.
     handles: HashMap<u32, Handle>,
@@ -81,67 +81,93 @@ impl<'a> PointRound<'a> {
     fn lost(&mut self, h: Handle, answer: u32) {
         let why = self.issued.why_not(h);
         self.log.hold(answer == why, || format!("{h:?} got {answer}, by what was given out it is {why}"));
-        if let Some(data) = self.given.get(&(h.slot, h.version)).copied() {
+        if let Some([data, _]) = self.given_with(h) {
             let none = self.old.get(data).is_none() && self.old.remove(data).is_none() && self.old.remove_maintain(data).is_none();
             self.log.hold(none, || format!("{h:?} is lost, but the original has {data}"));
         }
     }
 
-    pub fn insert(&mut self, at: Spot) {
+    /// The data and the tracker that a handle was given with.
+    fn given_with(&self, h: Handle) -> Option<[u32; 2]> {
+        self.given.get(&(h.slot, h.version)).copied()
+    }
+
+    /// The data, and beside it the tracker that the object with this data was given with.
+    fn with_tracker(&self, data: u32) -> [u32; 2] {
+        self.handles.get(&data).and_then(|h| self.given_with(*h)).unwrap_or([data, u32::MAX])
+    }
+
+    /// What a call got that names a handle and a tracker, read a second time: by what the grid has given out, and whom for.
+    fn by_history(&mut self, h: Handle, tracker: u32, answer: u32) {
+        let whose = self.given_with(h).map(|given| given[1]);
+        let (right, kind) = match answer {
+            DONE | MARKED => (whose == Some(tracker), "trackers: the point's own"),
+            OTHER_TRACKER => (whose.map_or(false, |own| own != tracker), "trackers: another's"),
+            NO_TRACKER => (tracker > LAST_TRACKER, "trackers: above 7"),
+            NEVER_ISSUED | GONE => (tracker <= LAST_TRACKER, "trackers: of a lost handle"),
+            _ => return,
+        };
+        self.log.note(kind, 1);
+        self.log.hold(right, || format!("tracker {tracker} got {answer} for {h:?}, which was given to {whose:?}"));
+        if answer == NEVER_ISSUED || answer == GONE {
+            self.lost(h, answer);
+        }
+    }
+
+    pub fn insert(&mut self, at: Spot, tracker: u32) {
         let data = data(&mut self.next);
-        let (answer, h) = self.reading.insert(at, data);
-        let got = self.tables.call_insert(at, data);
+        let (answer, h) = self.reading.insert(at, data, tracker);
+        let got = self.tables.call_insert(at, data, tracker);
         self.log.call("points insert", got.answer);
         let wanted = Inserted { answer, slot: h.slot, version: h.version };
-        self.log.hold(got == wanted, || format!("insert({at:?}) gave {got:?}, 01 says {wanted:?}"));
+        self.log.hold(got == wanted, || format!("insert({at:?}) for {tracker} gave {got:?}, 01 says {wanted:?}"));
         if answer == DONE {
             self.log.note("slots used again", u64::from(h.version > 1));
             self.old.insert(at, data);
-            self.given.insert((h.slot, h.version), data);
+            self.given.insert((h.slot, h.version), [data, tracker]);
             self.issued.give(h);
             self.handles.insert(data, Handle { slot: got.slot, version: got.version });
         }
         self.after(answer == DONE, false);
     }
 
-    pub fn set_position(&mut self, h: Handle, at: Spot) {
+    pub fn set_position(&mut self, h: Handle, at: Spot, tracker: u32) {
         self.log.note(self.reading.slots.kind(h), 1);
-        let answer = self.reading.set_position(h, at);
-        let got = self.tables.call_set_position(h, at);
+        let answer = self.reading.set_position(h, at, tracker);
+        let got = self.tables.call_set_position(h, at, tracker);
         self.log.call("points set_position", got);
-        self.log.hold(got == answer, || format!("set_position({h:?}, {at:?}) gave {got}, 01 says {answer}"));
+        self.log.hold(got == answer, || format!("set_position({h:?}, {at:?}) by {tracker} gave {got}, 01 says {answer}"));
         match answer {
             DONE => self.sent(h, at),
             // On a marked object the Rust's call does nothing.
             MARKED => self.old.set_position(self.reading.get(h).2, at),
-            NEVER_ISSUED | GONE => self.lost(h, got),
             _ => (),
         }
+        self.by_history(h, tracker, got);
         self.after(answer == DONE, false);
     }
 
     /// An accepted position: the original gets it too, and it is kept which objects were sent elsewhere.
     fn sent(&mut self, h: Handle, to: Spot) {
-        let (_, at, data) = self.reading.get(h);
+        let (_, at, data, _) = self.reading.get(h);
         self.old.set_position(data, to);
         if to.elsewhere(at) {
             self.away.insert((h.slot, h.version));
         }
     }
 
-    pub fn remove(&mut self, h: Handle, now: bool) {
+    pub fn remove(&mut self, h: Handle, tracker: u32, now: bool) {
         self.log.note(self.reading.slots.kind(h), 1);
-        let (answer, data) = if now { self.reading.remove_maintain(h) } else { self.reading.remove(h) };
-        let got = if now { self.tables.call_remove_maintain(h) } else { self.tables.call_remove(h) };
+        let (answer, data) = if now { self.reading.remove_maintain(h, tracker) } else { self.reading.remove(h, tracker) };
+        let got = if now { self.tables.call_remove_maintain(h, tracker) } else { self.tables.call_remove(h, tracker) };
         self.log.call(if now { "points remove_maintain" } else { "points remove" }, got.answer);
         let wanted = Reply { answer, obj: data };
-        self.log.hold(got == wanted, || format!("remove({h:?}) gave {got:?}, 01 says {wanted:?}"));
+        self.log.hold(got == wanted, || format!("remove({h:?}) by {tracker} gave {got:?}, 01 says {wanted:?}"));
         if answer == DONE {
             let old = if now { self.old.remove_maintain(data) } else { self.old.remove(data) };
             self.log.hold(old == Some(got.obj), || format!("remove({h:?}) gave {got:?}, the original {old:?}"));
-        } else {
-            self.lost(h, got.answer);
         }
+        self.by_history(h, tracker, got.answer);
         self.after(answer == DONE, false);
     }
 
@@ -159,6 +185,9 @@ impl<'a> PointRound<'a> {
         self.log.hold(got == reply, || format!("batch of {} gave {got:?}, 01 says {reply:?}", calls.len()));
         let filled = out.holds(wanted.out.iter().copied());
         self.log.hold(filled, || format!("batch filled its output otherwise than 01 says: {calls:?}"));
+        if wanted.answer == DONE {
+            self.merged(calls, &wanted.out);
+        }
         for (call, [answer, data]) in calls.iter().zip(&wanted.out) {
             self.log.note("deferred calls inside batches", 1);
             self.log.note(self.reading.slots.kind(call.handle), 1);
@@ -169,11 +198,23 @@ impl<'a> PointRound<'a> {
             } else if *answer == DONE {
                 let old = self.old.remove(*data);
                 self.log.hold(old == Some(*data), || format!("remove in a batch: the original gave {old:?}"));
-            } else if *answer == NEVER_ISSUED || *answer == GONE {
-                self.lost(call.handle, *answer);
             }
+            self.by_history(call.handle, call.tracker, *answer);
         }
         self.after(wanted.answer == DONE, calls.len() > 64);
+    }
+
+    /// Demand 3 as Req 07 reads it, of the port alone: the calls of a batch merged otherwise, each tracker's in its own order, get the same rows and leave the
+    /// same tables.
+    fn merged(&mut self, calls: &[Deferred], rows: &[[u32; 2]]) {
+        let order = merge(&calls.iter().map(|c| c.tracker).collect::<Vec<_>>(), &mut self.rng);
+        let (mut tables, mut out) = (self.before.clone(), Out::new(calls.len()));
+        let got = tables.call_batch(&BatchLists::of(&order.iter().map(|i| calls[*i]).collect::<Vec<_>>()), &mut out);
+        self.log.call("points batch", got.answer);
+        self.log.note("batches merged otherwise", u64::from(order.windows(2).any(|two| two[0] > two[1])));
+        let same = got.answer == DONE && out.holds(order.iter().map(|i| rows[*i]));
+        self.log.hold(same, || format!("a batch merged otherwise, {order:?}, gave {got:?} and other rows: {calls:?}"));
+        self.log.hold(tables == self.tables, || format!("a batch merged otherwise, {order:?}, left other tables: {calls:?}"));
     }
 
     /// Both counts are held to the original's own positions, too.
@@ -210,14 +251,16 @@ impl<'a> PointRound<'a> {
 
     pub fn get(&mut self, h: Handle) {
         self.log.note(self.reading.slots.kind(h), 1);
-        let (answer, at, data) = self.reading.get(h);
+        let (answer, at, data, tracker) = self.reading.get(h);
         let got = self.tables.call_get(h);
         self.log.call("points get", got.answer);
-        let same = got.answer == answer && Spot::new(got.x, got.y) == at && got.obj == data;
-        self.log.hold(same, || format!("get({h:?}) gave {got:?}, 01 says {answer}, {at:?}, {data}"));
+        let same = got.answer == answer && Spot::new(got.x, got.y) == at && [got.obj, got.tracker] == [data, tracker];
+        self.log.hold(same, || format!("get({h:?}) gave {got:?}, 01 says {answer}, {at:?}, {data}, {tracker}"));
         if answer == DONE {
             let old = self.old.get(data);
             self.log.hold(old == Some((Spot::new(got.x, got.y), got.obj)), || format!("get({h:?}) gave {got:?}, the original {old:?}"));
+            let given = self.given_with(h);
+            self.log.hold(given == Some([got.obj, got.tracker]), || format!("get({h:?}) gave {got:?}, it was given with {given:?}"));
         } else {
             self.lost(h, got.answer);
         }
@@ -243,7 +286,8 @@ impl<'a> PointRound<'a> {
         let filled = out.holds(wanted.out.iter().map(|h| [h.slot, h.version]));
         self.log.hold(same && filled, || format!("handles gave {got:?}, 01 says {} {}", wanted.answer, wanted.count));
         if got.answer == DONE {
-            let mut data: Vec<u32> = out.rows(got.count as usize).iter().map(|r| self.given[&(r[0], r[1])]).collect();
+            let rows = out.rows(got.count as usize).iter();
+            let mut data: Vec<u32> = rows.filter_map(|r| self.given.get(&(r[0], r[1]))).map(|given| given[0]).collect();
             data.sort_unstable();
             self.log.hold(data == self.old.all(), || "handles gave other objects than the original".to_string());
         }
@@ -258,13 +302,13 @@ impl<'a> PointRound<'a> {
         let got = self.tables.call_clear(&mut spots, &mut objs);
         self.log.call("points clear", got.answer);
         let same = u64::from(got.count) == wanted.count && got.answer == wanted.answer;
-        let filled = spots.holds(wanted.out.iter().map(|(at, _)| at.bits())) && objs.holds(wanted.out.iter().map(|(_, d)| [*d]));
+        let filled = spots.holds(wanted.out.iter().map(|(at, _)| at.bits())) && objs.holds(wanted.out.iter().map(|(_, data)| *data));
         self.log.hold(same && filled, || format!("clear gave {got:?}, 01 says {} {}", wanted.answer, wanted.count));
         if wanted.answer == DONE {
             let rows = spots.rows(got.count as usize).iter().zip(objs.rows(got.count as usize));
-            let mut all: Vec<_> = rows.map(|(at, data)| (data[0], *at)).collect();
+            let mut all: Vec<_> = rows.map(|(at, data)| (*data, *at)).collect();
             all.sort_unstable();
-            let old = self.old.clear();
+            let old: Vec<_> = self.old.clear().into_iter().map(|(data, at)| (self.with_tracker(data), at)).collect();
             self.log.hold(all == old, || format!("clear gave {all:?}, the original {old:?}"));
             self.given.clear();
             self.handles.clear();
@@ -292,7 +336,7 @@ impl<'a> PointRound<'a> {
         self.log.hold(same, || format!("{name} gave {got:?}, 01 says {} {}", wanted.answer, wanted.count));
         let filled = outs.found.holds(wanted.out.iter().map(|f| [f.handle.slot, f.handle.version]))
             && outs.spots.holds(wanted.out.iter().map(|f| f.at.bits()))
-            && outs.objs.holds(wanted.out.iter().map(|f| [f.data]));
+            && outs.objs.holds(wanted.out.iter().map(|f| [f.data, f.tracker]));
         self.log.hold(filled, || format!("{name} filled its outputs otherwise than 01 says: {:?}", wanted.out));
         if got.answer == DONE || got.answer == OUTPUT {
             self.log.hold(got.count as usize == old.len(), || format!("{name} found {}, the original {}", got.count, old.len()));
@@ -301,10 +345,10 @@ impl<'a> PointRound<'a> {
             let count = got.count as usize;
             self.log.note("queries that found something", u64::from(count > 0));
             self.log.note("findings", count as u64);
-            // The data that is written, and beside it the data that the handle was given with: the original's own, both of them.
+            // The data that is written, and beside it the data that the handle was given with: the original's own, both of them, with the tracker of that data.
             let rows = outs.objs.rows(count).iter().zip(outs.spots.rows(count)).zip(outs.found.rows(count));
-            let mut all: Vec<_> = rows.map(|((data, at), h)| (data[0], *at, self.given.get(&(h[0], h[1])).copied())).collect();
-            let mut old: Vec<_> = old.into_iter().map(|(data, at)| (data, at, Some(data))).collect();
+            let mut all: Vec<_> = rows.map(|((data, at), h)| (*data, *at, self.given.get(&(h[0], h[1])).copied())).collect();
+            let mut old: Vec<_> = old.into_iter().map(|(data, at)| (self.with_tracker(data), at, Some(self.with_tracker(data)))).collect();
             all.sort_unstable();
             old.sort_unstable();
             self.log.hold(all == old, || format!("{name} gave {all:?}, the original {old:?}"));
@@ -349,7 +393,9 @@ impl<'a> PointRound<'a> {
         self.log.hold(same, || format!("nearest({centre:?}, {r:?}) gave {got:?}, Req 02 says {answer}, {wanted:?}"));
         if answer == DONE {
             let old = self.old.nearest(centre, r, |data| self.handles[&data].slot);
-            let old = nearest_words(old.map(|(data, at)| Finding { handle: self.handles[&data], at: Spot::of_bits(at), data }));
+            let tracker = |data: u32| self.with_tracker(data)[1];
+            let old = old.map(|(data, at)| Finding { handle: self.handles[&data], at: Spot::of_bits(at), data, tracker: tracker(data) });
+            let old = nearest_words(old);
             self.log.hold(got.words() == old, || format!("nearest({centre:?}, {r:?}) gave {got:?}, the original's circle {old:?}"));
             self.met_nearest(centre, r, found);
         }

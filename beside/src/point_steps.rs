@@ -1,12 +1,12 @@
 //! Which calls a round on a point grid makes: any of them in any order, frames as a desk makes them, states left pending.
-use crate::picks::{good, handle, places};
-use crate::places::{at_rest, Ground, Kind};
+use crate::picks::{good, handle, places, tracker};
+use crate::places::{at_rest, wild, Ground, Kind};
 use crate::point_calls::PointCall;
 use crate::point_reading::Deferred;
 use crate::point_round::PointRound;
 use crate::port::Corners;
 use crate::random::Rng;
-use crate::rules::{Spot, EDGE};
+use crate::rules::{Spot, EDGE, LAST_TRACKER};
 use crate::slots::Handle;
 
 impl PointRound<'_> {
@@ -57,35 +57,45 @@ impl PointRound<'_> {
         (centre, self.ground.radius(centre, to, &mut self.rng))
     }
 
+    /// The tracker that a call on this handle names: mostly that of the point.
+    fn tracker(&mut self, h: Handle) -> u32 {
+        let own = self.reading.slots.get(h).map(|object| object.tracker);
+        tracker(own, &mut self.rng)
+    }
+
     /// A deferred call of a batch.
     fn deferred(&mut self) -> Deferred {
         let handle = handle(&self.reading.slots, &mut self.rng);
+        let tracker = self.tracker(handle);
         let from = self.reading.get(handle).1;
         let at = match self.rng.below(30) {
             0 => self.ground.any_spot(&mut self.rng),
             1..=8 => at_rest(from, &mut self.rng),
+            // Two refusals at once: the first in order is said.
+            9..=15 if tracker > LAST_TRACKER => Spot::new(from.x, wild(&mut self.rng)),
             _ => self.ground.spot_by(from, &mut self.rng),
         };
         let kind = if self.rng.once_in(6) { self.rng.pick(&[1, 2, u32::MAX]) } else { 0 };
-        Deferred { kind, handle, at }
+        Deferred { kind, handle, at, tracker }
     }
 
-    /// What now and then follows a deferred call on the same object: the recorded position again, or the removal.
+    /// What now and then follows a deferred call on the same object, of any tracker: the recorded position again, or the removal.
     fn follow(&mut self, call: &Deferred) -> Option<Deferred> {
         let at = at_rest(self.reading.get(call.handle).1, &mut self.rng);
+        let tracker = self.tracker(call.handle);
         match self.rng.below(12) {
-            0 => Some(Deferred { kind: 0, at, ..*call }),
-            1 => Some(Deferred { kind: 1, ..*call }),
+            0 => Some(Deferred { kind: 0, at, tracker, ..*call }),
+            1 => Some(Deferred { kind: 1, tracker, ..*call }),
             _ => None,
         }
     }
 
     fn any_move(&mut self) {
         let call = self.deferred();
-        self.set_position(call.handle, call.at);
+        self.set_position(call.handle, call.at, call.tracker);
         match self.follow(&call) {
-            Some(next) if next.kind == 0 => self.set_position(next.handle, next.at),
-            Some(next) => self.remove(next.handle, false),
+            Some(next) if next.kind == 0 => self.set_position(next.handle, next.at, next.tracker),
+            Some(next) => self.remove(next.handle, next.tracker, false),
             None => (),
         }
     }
@@ -106,16 +116,19 @@ impl PointRound<'_> {
         match self.rng.below(100) {
             0..=21 => {
                 let at = self.ground.any_spot(&mut self.rng);
-                self.insert(at);
+                let tracker = tracker(None, &mut self.rng);
+                self.insert(at, tracker);
             }
             22..=43 => self.any_move(),
             44..=49 => {
                 let h = handle(&self.reading.slots, &mut self.rng);
-                self.remove(h, false);
+                let tracker = self.tracker(h);
+                self.remove(h, tracker, false);
             }
             50..=54 => {
                 let h = handle(&self.reading.slots, &mut self.rng);
-                self.remove(h, true);
+                let tracker = self.tracker(h);
+                self.remove(h, tracker, true);
             }
             55..=59 => self.maintain(),
             60..=62 => self.any_batch(),
@@ -137,24 +150,25 @@ impl PointRound<'_> {
         }
     }
 
-    /// A frame as a desk makes it: every tracker sends a position, a little away or at rest, a few leave, the grid is maintained, circles are asked for, new
-    /// ones come.
+    /// A frame as a desk makes it: of every point its tracker sends a position, a little away or at rest, a few leave, some calls go astray, the grid is
+    /// maintained, circles are asked for, new points come.
     pub fn frame(&mut self) {
         let handles: Vec<Handle> = self.reading.slots.objects().map(|(h, _)| h).collect();
         let stride = f64::from(self.ground.size) * self.rng.pick(&[0.05, 0.5, 2.0]);
         let mut calls = vec![];
         for handle in handles {
-            let at = self.reading.get(handle).1;
+            let (_, at, _, own) = self.reading.get(handle);
             let step = |c: f32, rng: &mut Rng| ((f64::from(c) + (rng.unit() - 0.5) * stride) as f32).clamp(-EDGE, EDGE);
             let at = match self.rng.below(3) {
                 0 => at_rest(at, &mut self.rng),
                 _ => Spot::new(step(at.x, &mut self.rng), step(at.y, &mut self.rng)),
             };
-            calls.push(Deferred { kind: u32::from(self.rng.once_in(50)), handle, at });
+            let tracker = if self.rng.once_in(20) { self.tracker(handle) } else { own };
+            calls.push(Deferred { kind: u32::from(self.rng.once_in(50)), handle, at, tracker });
         }
         if self.rng.once_in(4) {
             for call in calls.iter().take(200) {
-                self.set_position(call.handle, call.at);
+                self.set_position(call.handle, call.at, call.tracker);
             }
         } else {
             self.batch(&calls, false);
@@ -170,7 +184,8 @@ impl PointRound<'_> {
         }
         for _ in 0..self.rng.below(5) {
             let at = self.ground.spot(&mut self.rng);
-            self.insert(at);
+            let tracker = tracker(None, &mut self.rng);
+            self.insert(at, tracker);
         }
     }
 
@@ -184,7 +199,8 @@ impl PointRound<'_> {
             }
             let from = self.some_spot();
             let at = if self.rng.once_in(2) { self.ground.spot(&mut self.rng) } else { self.ground.spot_by(from, &mut self.rng) };
-            self.insert(at);
+            let tracker = self.rng.below(8) as u32;
+            self.insert(at, tracker);
         }
     }
 
@@ -192,18 +208,18 @@ impl PointRound<'_> {
     pub fn defer(&mut self) {
         let handles: Vec<Handle> = self.reading.slots.objects().map(|(h, _)| h).collect();
         for h in handles {
-            let at = self.reading.get(h).1;
+            let (_, at, _, own) = self.reading.get(h);
             match self.rng.below(4) {
                 0 => (),
                 1 => {
                     let still = at_rest(at, &mut self.rng);
-                    self.set_position(h, still);
+                    self.set_position(h, still, own);
                 }
                 2 => {
                     let away = Spot::new(self.ground.coordinate(&mut self.rng), -at.y - self.ground.size as f32);
-                    self.set_position(h, Spot::new(away.x, away.y.clamp(-EDGE, EDGE)));
+                    self.set_position(h, Spot::new(away.x, away.y.clamp(-EDGE, EDGE)), own);
                 }
-                _ => self.remove(h, false),
+                _ => self.remove(h, own, false),
             }
         }
     }
@@ -211,6 +227,8 @@ impl PointRound<'_> {
     /// Any call of each kind, for tables like these.
     pub fn all_calls(&mut self) -> Vec<PointCall> {
         let (h, at, data) = (handle(&self.reading.slots, &mut self.rng), self.some_spot(), self.rng.bits());
+        let (own, new) = (self.tracker(h), tracker(None, &mut self.rng));
+        let to_set = if self.rng.once_in(6) { Spot::new(at.x, wild(&mut self.rng)) } else { at };
         let (from, to) = (self.some_spot(), self.ground.any_spot(&mut self.rng));
         let across = Spot::new(self.ground.across(from.x, &mut self.rng), self.ground.across(from.y, &mut self.rng));
         let r = self.ground.radius(from, at, &mut self.rng);
@@ -229,11 +247,11 @@ impl PointRound<'_> {
             PointCall::Query(Corners::Sorted, across, from, lens),
             PointCall::Around(from, r, lens),
             PointCall::Nearest(centre, near),
-            PointCall::Insert(to, data),
-            PointCall::SetPosition(h, at),
-            PointCall::Remove(h),
+            PointCall::Insert(to, data, new),
+            PointCall::SetPosition(h, to_set, own),
+            PointCall::Remove(h, own),
             batch,
-            PointCall::RemoveMaintain(h),
+            PointCall::RemoveMaintain(h, own),
             PointCall::Maintain,
             PointCall::Clear(lens[0], lens[1]),
             PointCall::New(size),

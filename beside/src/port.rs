@@ -50,6 +50,7 @@ pub struct PointGot {
     pub x: f32,
     pub y: f32,
     pub obj: u32,
+    pub tracker: u32,
 }
 
 #[repr(C)]
@@ -62,12 +63,13 @@ pub struct Nearest {
     pub x: f32,
     pub y: f32,
     pub obj: u32,
+    pub tracker: u32,
 }
 
 impl Nearest {
     /// All that stands beside the answer, the position by bits.
-    pub fn words(&self) -> [u32; 6] {
-        [self.count, self.slot, self.version, self.x.to_bits(), self.y.to_bits(), self.obj]
+    pub fn words(&self) -> [u32; 7] {
+        [self.count, self.slot, self.version, self.x.to_bits(), self.y.to_bits(), self.obj, self.tracker]
     }
 }
 
@@ -111,30 +113,30 @@ macro_rules! over_boxes {
 
 over_points! {
     fn chavrupas_points_new(size: u32) -> u32;
-    fn chavrupas_points_insert(x: f32, y: f32, obj: u32) -> Inserted;
-    fn chavrupas_points_set_position(slot: u32, version: u32, x: f32, y: f32) -> u32;
-    fn chavrupas_points_remove(slot: u32, version: u32) -> Reply;
+    fn chavrupas_points_insert(x: f32, y: f32, obj: u32, tracker: u32) -> Inserted;
+    fn chavrupas_points_set_position(slot: u32, version: u32, x: f32, y: f32, tracker: u32) -> u32;
+    fn chavrupas_points_remove(slot: u32, version: u32, tracker: u32) -> Reply;
     fn chavrupas_points_batch(
-        kinds: *const u32, kinds_len: usize, handles: *const [u32; 2], handles_len: usize,
+        kinds: *const u32, kinds_len: usize, handles: *const [u32; 3], handles_len: usize,
         positions: *const [f32; 2], positions_len: usize, out: Rows<2>, out_len: usize
     ) -> BatchReply;
     fn chavrupas_points_maintain() -> Maintained;
-    fn chavrupas_points_remove_maintain(slot: u32, version: u32) -> Reply;
-    fn chavrupas_points_clear(places: Rows<2>, places_len: usize, objs: Rows<1>, objs_len: usize) -> Count;
+    fn chavrupas_points_remove_maintain(slot: u32, version: u32, tracker: u32) -> Reply;
+    fn chavrupas_points_clear(places: Rows<2>, places_len: usize, objs: Rows<2>, objs_len: usize) -> Count;
     fn chavrupas_points_get(slot: u32, version: u32) -> PointGot;
     fn chavrupas_points_len() -> Count;
     fn chavrupas_points_handles(out: Rows<2>, out_len: usize) -> Count;
     fn chavrupas_points_query(
         left: f32, low: f32, right: f32, high: f32, found: Rows<2>, found_len: usize,
-        places: Rows<2>, places_len: usize, objs: Rows<1>, objs_len: usize
+        places: Rows<2>, places_len: usize, objs: Rows<2>, objs_len: usize
     ) -> Count;
     fn chavrupas_points_query_around(
         x: f32, y: f32, radius: f32, found: Rows<2>, found_len: usize,
-        places: Rows<2>, places_len: usize, objs: Rows<1>, objs_len: usize
+        places: Rows<2>, places_len: usize, objs: Rows<2>, objs_len: usize
     ) -> Count;
     fn chavrupas_points_query_aabb(
         left: f32, low: f32, right: f32, high: f32, found: Rows<2>, found_len: usize,
-        places: Rows<2>, places_len: usize, objs: Rows<1>, objs_len: usize
+        places: Rows<2>, places_len: usize, objs: Rows<2>, objs_len: usize
     ) -> Count;
     fn chavrupas_points_nearest(x: f32, y: f32, radius: f32) -> Nearest;
     fn chavrupas_encoder_fill_map(
@@ -188,7 +190,7 @@ macro_rules! with_boxes {
 #[derive(Clone, Debug, Default)]
 pub struct BatchLists {
     pub kinds: Vec<u32>,
-    pub handles: Vec<[u32; 2]>,
+    pub handles: Vec<[u32; 3]>,
     pub positions: Vec<[f32; 2]>,
 }
 
@@ -196,7 +198,7 @@ impl BatchLists {
     pub fn of(calls: &[Deferred]) -> Self {
         BatchLists {
             kinds: calls.iter().map(|c| c.kind).collect(),
-            handles: calls.iter().map(|c| [c.handle.slot, c.handle.version]).collect(),
+            handles: calls.iter().map(|c| [c.handle.slot, c.handle.version, c.tracker]).collect(),
             positions: calls.iter().map(|c| [c.at.x, c.at.y]).collect(),
         }
     }
@@ -205,7 +207,7 @@ impl BatchLists {
     pub fn uneven(&mut self, rng: &mut Rng) {
         match rng.below(6) {
             0 => self.kinds.push(0),
-            1 => self.handles.push([0, 1]),
+            1 => self.handles.push([0, 1, 0]),
             2 => self.positions.push([0.0, 0.0]),
             3 => drop(self.kinds.pop()),
             4 => drop(self.handles.pop()),
@@ -226,16 +228,16 @@ impl PointTables {
         with_points!(self, chavrupas_points_new(size))
     }
 
-    pub fn call_insert(&mut self, at: Spot, data: u32) -> Inserted {
-        with_points!(self, chavrupas_points_insert(at.x, at.y, data))
+    pub fn call_insert(&mut self, at: Spot, data: u32, tracker: u32) -> Inserted {
+        with_points!(self, chavrupas_points_insert(at.x, at.y, data, tracker))
     }
 
-    pub fn call_set_position(&mut self, h: Handle, at: Spot) -> u32 {
-        with_points!(self, chavrupas_points_set_position(h.slot, h.version, at.x, at.y))
+    pub fn call_set_position(&mut self, h: Handle, at: Spot, tracker: u32) -> u32 {
+        with_points!(self, chavrupas_points_set_position(h.slot, h.version, at.x, at.y, tracker))
     }
 
-    pub fn call_remove(&mut self, h: Handle) -> Reply {
-        with_points!(self, chavrupas_points_remove(h.slot, h.version))
+    pub fn call_remove(&mut self, h: Handle, tracker: u32) -> Reply {
+        with_points!(self, chavrupas_points_remove(h.slot, h.version, tracker))
     }
 
     pub fn call_batch(&mut self, calls: &BatchLists, out: &mut Out<2>) -> BatchReply {
@@ -247,11 +249,11 @@ impl PointTables {
         with_points!(self, chavrupas_points_maintain())
     }
 
-    pub fn call_remove_maintain(&mut self, h: Handle) -> Reply {
-        with_points!(self, chavrupas_points_remove_maintain(h.slot, h.version))
+    pub fn call_remove_maintain(&mut self, h: Handle, tracker: u32) -> Reply {
+        with_points!(self, chavrupas_points_remove_maintain(h.slot, h.version, tracker))
     }
 
-    pub fn call_clear(&mut self, places: &mut Out<2>, objs: &mut Out<1>) -> Count {
+    pub fn call_clear(&mut self, places: &mut Out<2>, objs: &mut Out<2>) -> Count {
         with_points!(self, chavrupas_points_clear(places.pointer(), places.places, objs.pointer(), objs.places))
     }
 

@@ -5,6 +5,8 @@ use crate::tables::{map_words, BoxTables, PointTables};
 /// A word of a table.
 pub enum Word<'a> {
     Narrow(&'a mut u32),
+    /// The tracker and the state of a point.
+    Whose(&'a mut u32),
     Signed(&'a mut i32),
     Wide(&'a mut u64),
 }
@@ -22,6 +24,12 @@ impl Word<'_> {
         };
         match self {
             Word::Narrow(v) => *v = narrow(*v),
+            Word::Whose(v) => {
+                // The last that may be, the ones behind it, another state, another tracker, and that state of a tracker above 7.
+                let old = *v;
+                let values = [0, 1, 31, 32, 35, old.wrapping_add(1), old.wrapping_sub(1), old ^ 2, old ^ 4, old.wrapping_add(32)];
+                *v = values.into_iter().chain([old ^ 0x8000_0000, u32::MAX]).nth(no).unwrap();
+            }
             Word::Signed(v) => *v = narrow(*v as u32) as i32,
             Word::Wide(v) => {
                 let old = *v;
@@ -34,7 +42,7 @@ impl Word<'_> {
 
     pub fn randomize(self, rng: &mut Rng) {
         match self {
-            Word::Narrow(v) => *v = rng.bits() >> rng.below(32),
+            Word::Narrow(v) | Word::Whose(v) => *v = rng.bits() >> rng.below(32),
             Word::Signed(v) => *v = rng.bits() as i32 >> rng.below(32),
             Word::Wide(v) => *v = rng.word() >> rng.below(64),
         }
@@ -104,7 +112,8 @@ impl Ruin for PointTables {
     fn word(&mut self, i: usize) -> Word<'_> {
         let mut i = i;
         if let Some((row, place)) = row_of(&mut i, self.nums.len(), 4) {
-            return Word::Narrow(&mut self.nums[row][place]);
+            let word = &mut self.nums[row][place];
+            return if place == 3 { Word::Whose(word) } else { Word::Narrow(word) };
         }
         if let Some((row, place)) = row_of(&mut i, self.reals.len(), 4) {
             return Word::Narrow(&mut self.reals[row][place]);

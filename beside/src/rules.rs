@@ -1,9 +1,10 @@
-//! Document 01 read anew: the answers, with those of Req 03, the domain, the cell rule and ranges of cells.
+//! Document 01 read anew: the answers, with those of Reqs 03 and 07, the domain, the cell rule and ranges of cells.
 
 /// The greatest magnitude of a coordinate, the greatest radius and the greatest cell size.
 pub const EDGE: f32 = 1_048_576.0;
 pub const MOST_CELLS: i64 = 4_096;
 pub const LAST_VERSION: u32 = u32::MAX;
+pub const LAST_TRACKER: u32 = 7;
 
 pub const DONE: u32 = 0;
 pub const MARKED: u32 = 1;
@@ -16,6 +17,8 @@ pub const POOL: u32 = 8;
 pub const OUTPUT: u32 = 9;
 pub const NEVER_ISSUED: u32 = 11;
 pub const GONE: u32 = 12;
+pub const NO_TRACKER: u32 = 13;
+pub const OTHER_TRACKER: u32 = 14;
 
 /// Two binary32 numbers, equal when their bits are.
 #[derive(Clone, Copy, Debug, Default)]

@@ -1,5 +1,6 @@
 //! Records for the trace program, with the answers that the original gives: both grids, some cell sizes, no slot used twice. Without reuse the
-//! original's order inside a cell is document 01's, so that its answers can be replayed as they are; a slot is the number of its insertion.
+//! original's order inside a cell is document 01's, so that its answers can be replayed as they are; a slot is the number of its insertion. The original has no
+//! trackers: a point's is the rest of its data divided by 8, and every call names the right one.
 use crate::box_reading::Aabb;
 use crate::original::{OldBoxes, OldPoints};
 use crate::random::Rng;
@@ -20,6 +21,10 @@ fn coordinate(sixteenths: i64) -> f32 {
 
 fn sixteenths(bits: u32) -> i64 {
     (f64::from(f32::from_bits(bits)) * 16.0) as i64
+}
+
+fn tracker(data: u32) -> u32 {
+    data % 8
 }
 
 fn spot(at: [i64; 2]) -> Spot {
@@ -85,7 +90,7 @@ impl Sample {
         let slot = self.point_slots.len() as u32;
         self.points.insert(spot([x, y]), data);
         self.point_slots.insert(data, slot);
-        self.line(format!("ins,{x},{y},{data}"), format!("0,{slot},1"))
+        self.line(format!("ins,{x},{y},{data},{}", tracker(data)), format!("0,{slot},1"))
     }
 
     fn some_point(&mut self) -> (u32, u32) {
@@ -105,7 +110,7 @@ impl Sample {
         } else {
             DONE
         };
-        self.line(format!("pos,{slot},1,{x},{y}"), answer.to_string())
+        self.line(format!("pos,{slot},1,{x},{y},{}", tracker(data)), answer.to_string())
     }
 
     fn remove(&mut self, now: bool) -> Result<()> {
@@ -116,7 +121,7 @@ impl Sample {
             _ => drop(self.marked.remove(&data)),
         }
         let name = if now { "now" } else { "rem" };
-        self.line(format!("{name},{slot},1"), given.map_or(GONE.to_string(), |data| format!("0,{data}")))
+        self.line(format!("{name},{slot},1,{}", tracker(data)), given.map_or(GONE.to_string(), |data| format!("0,{data}")))
     }
 
     /// Both counts are the original's, by its positions before and after.
@@ -143,7 +148,7 @@ impl Sample {
         };
         let mut answer = format!("0,{}", found.len());
         for (data, [x, y]) in found {
-            answer += &format!(",{},1,{},{},{data}", self.point_slots[&data], sixteenths(x), sixteenths(y));
+            answer += &format!(",{},1,{},{},{data},{}", self.point_slots[&data], sixteenths(x), sixteenths(y), tracker(data));
         }
         self.line(record, answer)
     }

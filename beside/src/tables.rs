@@ -132,11 +132,11 @@ impl<const W: usize> Out<W> {
     }
 }
 
-/// The outputs of a point query: handles, recorded positions, data.
+/// The outputs of a point query: handles, recorded positions, data with trackers.
 pub struct Outs {
     pub found: Out<2>,
     pub spots: Out<2>,
-    pub objs: Out<1>,
+    pub objs: Out<2>,
 }
 
 impl Outs {

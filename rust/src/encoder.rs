@@ -34,8 +34,8 @@ macro_rules! call {
 /// use chavrupas::{encoder, Aabb, AabbGrid, Grid, Refusal};
 ///
 /// let (mut points, mut boxes) = (Grid::new(encoder::SIDE, 8)?, AabbGrid::new(encoder::SIDE, 8, 64)?);
-/// points.insert([100.0, 40.0], 1)?; // block (6, 2)
-/// points.insert([15.9, 16.0], 2)?; // block (0, 1): the top edge is in
+/// points.insert([100.0, 40.0], 1, 0)?; // block (6, 2)
+/// points.insert([15.9, 16.0], 2, 0)?; // block (0, 1): the top edge is in
 /// boxes.insert(Aabb::new([90.0, 40.0], [112.0, 44.0]), 3)?; // block (5, 2) to (7, 2), whose left edge it touches
 /// let mut map = [0; encoder::BLOCKS];
 /// encoder::fill_map(&points, &boxes, &[[110.0, 40.0, 30.0]], &mut map)?;

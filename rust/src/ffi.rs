@@ -1,5 +1,5 @@
 //! The exports of the static library, as include/chavrupas.h declares them: each slice is a pointer, then its length in elements.
-use crate::{Aabb, Handle, Reply};
+use crate::{Aabb, Handle, Reply, Tracked};
 
 #[repr(C)]
 pub struct Inserted {
@@ -33,6 +33,7 @@ pub struct PointGot {
     pub x: f32,
     pub y: f32,
     pub obj: u32,
+    pub tracker: u32,
 }
 
 #[repr(C)]
@@ -42,6 +43,7 @@ pub struct Nearest {
     pub handle: Handle,
     pub position: [f32; 2],
     pub obj: u32,
+    pub tracker: u32,
 }
 
 #[repr(C)]
@@ -88,6 +90,7 @@ extern "C" {
         x: f32,
         y: f32,
         obj: u32,
+        tracker: u32,
     ) -> Inserted;
 
     pub fn chavrupas_points_set_position(
@@ -109,6 +112,7 @@ extern "C" {
         version: u32,
         x: f32,
         y: f32,
+        tracker: u32,
     ) -> u32;
 
     pub fn chavrupas_points_remove(
@@ -128,6 +132,7 @@ extern "C" {
         cells_n: usize,
         slot: u32,
         version: u32,
+        tracker: u32,
     ) -> Reply;
 
     pub fn chavrupas_points_batch(
@@ -147,7 +152,7 @@ extern "C" {
         cells_n: usize,
         kinds: *const u32,
         kinds_n: usize,
-        handles: *const Handle,
+        handles: *const Tracked,
         handles_n: usize,
         positions: *const [f32; 2],
         positions_n: usize,
@@ -189,6 +194,7 @@ extern "C" {
         cells_n: usize,
         slot: u32,
         version: u32,
+        tracker: u32,
     ) -> Reply;
 
     pub fn chavrupas_points_clear(
@@ -208,7 +214,7 @@ extern "C" {
         cells_n: usize,
         places: *mut [f32; 2],
         places_n: usize,
-        objs: *mut u32,
+        objs: *mut [u32; 2],
         objs_n: usize,
     ) -> Count;
 
@@ -290,7 +296,7 @@ extern "C" {
         found_n: usize,
         places: *mut [f32; 2],
         places_n: usize,
-        objs: *mut u32,
+        objs: *mut [u32; 2],
         objs_n: usize,
     ) -> Count;
 
@@ -316,7 +322,7 @@ extern "C" {
         found_n: usize,
         places: *mut [f32; 2],
         places_n: usize,
-        objs: *mut u32,
+        objs: *mut [u32; 2],
         objs_n: usize,
     ) -> Count;
 
@@ -343,7 +349,7 @@ extern "C" {
         found_n: usize,
         places: *mut [f32; 2],
         places_n: usize,
-        objs: *mut u32,
+        objs: *mut [u32; 2],
         objs_n: usize,
     ) -> Count;
 

@@ -3,16 +3,17 @@
 //! [`Grid`] and [`AabbGrid`] have the names and rules of flat_spatial's `Grid` and `AABBGrid`, with these differences: the number of slots is
 //! given to `new` and all memory is taken there; coordinates are `[f32; 2]`, data is one `u32`; what is refused is a [`Refusal`] and never a
 //! panic; queries take `&mut self`, since they put what they find into the grid's own memory, and give the data beside handle and position;
-//! [`Grid::nearest`] is new, and takes `&self`. [`encoder::fill_map`] is a layer above both grids: a byte for each block of a frame.
+//! [`Grid::nearest`] is new, and takes `&self`. A point is that of one tracker, a number from 0 to 7 that `insert` is given; calls that move or remove a
+//! point name a tracker, and another's are refused. [`encoder::fill_map`] is a layer above both grids: a byte for each block of a frame.
 //!
 //! ```
 //! use chavrupas::Grid;
 //!
 //! # fn main() -> Result<(), chavrupas::Refusal> {
 //! let mut grid = Grid::new(64, 4096)?; // cells of 64, 4,096 slots
-//! let hand = grid.insert([100.0, 500.0], 1)?;
-//! grid.insert([112.0, 508.0], 2)?;
-//! grid.set_position(hand, [2100.0, 500.0])?; // pending
+//! let hand = grid.insert([100.0, 500.0], 1, 0)?; // data 1, of tracker 0
+//! grid.insert([112.0, 508.0], 2, 0)?;
+//! grid.set_position(hand, [2100.0, 500.0], 0)?; // pending
 //! assert_eq!(grid.query_around([100.0, 500.0], 30.0)?.count(), 2);
 //! assert_eq!(grid.maintain().moved, 1); // the frame ends
 //! let found: Vec<u32> = grid.query_around([2100.0, 500.0], 30.0)?.map(|f| f.obj).collect();
@@ -38,7 +39,7 @@ mod grid;
 mod refusal;
 
 pub use aabbgrid::{AabbGrid, FoundBox};
-pub use grid::{Found, Grid, Kind, Maintained, Reply};
+pub use grid::{Found, Grid, Kind, Maintained, Reply, Tracked};
 pub use refusal::Refusal;
 
 /// An object: a slot, and the slot's version while the object is in it. It is good until the object is taken out, and [`Refusal::Gone`] from then on; one
@@ -48,6 +49,13 @@ pub use refusal::Refusal;
 pub struct Handle {
     pub slot: u32,
     pub version: u32,
+}
+
+impl Handle {
+    /// This point, as a call of this tracker names it.
+    pub const fn by(self, tracker: u32) -> Tracked {
+        Tracked { handle: self, tracker }
+    }
 }
 
 /// A box: its lower left and upper right corner.

@@ -25,6 +25,10 @@ pub enum Refusal {
     NeverIssued = 11,
     /// 12: a handle whose object was taken out.
     Gone = 12,
+    /// 13: a tracker number above 7.
+    NoTracker = 13,
+    /// 14: a point of another tracker.
+    OtherTracker = 14,
 }
 
 impl Refusal {
@@ -36,7 +40,20 @@ impl Refusal {
     /// What an answer number says: nothing for 0, which is "done", and for numbers that no call answers, as 5 and 10.
     pub fn of(answer: u32) -> Option<Refusal> {
         use Refusal::*;
-        let all = [Removed, CellSize, Tables, NoUsableSlot, OutsideDomain, TooManyCells, PoolFull, OutputTooShort, NeverIssued, Gone];
+        let all = [
+            Removed,
+            CellSize,
+            Tables,
+            NoUsableSlot,
+            OutsideDomain,
+            TooManyCells,
+            PoolFull,
+            OutputTooShort,
+            NeverIssued,
+            Gone,
+            NoTracker,
+            OtherTracker,
+        ];
         all.into_iter().find(|r| r.number() == answer)
     }
 }
@@ -54,6 +71,8 @@ impl fmt::Display for Refusal {
             Refusal::OutputTooShort => "output shorter than the findings",
             Refusal::NeverIssued => "handle never issued",
             Refusal::Gone => "handle of an object that is gone",
+            Refusal::NoTracker => "tracker number above 7",
+            Refusal::OtherTracker => "point of another tracker",
         })
     }
 }

@@ -34,19 +34,19 @@ fn points() {
     assert!(before > 0);
     for _ in 0..3 {
         for i in 0..256 {
-            g.insert([i as f32 * 3.0, i as f32], i).unwrap();
+            g.insert([i as f32 * 3.0, i as f32], i, i % 8).unwrap();
         }
         let (a, b) = (g.handles()[0], g.handles()[1]);
-        g.set_position(a, [900.0, -900.0]).unwrap();
-        g.batch(&[Kind::Remove, Kind::SetPosition], &[b, a], &[[0.0; 2], [5.0; 2]], &mut out).unwrap();
+        g.set_position(a, [900.0, -900.0], 0).unwrap();
+        g.batch(&[Kind::Remove, Kind::SetPosition], &[b.by(1), a.by(0)], &[[0.0; 2], [5.0; 2]], &mut out).unwrap();
         assert_eq!((g.maintain().removed, g.len()), (1, 255));
         assert_eq!(g.get(a).unwrap().1, 0);
         assert!(g.query([0.0; 2], [100.0; 2]).unwrap().count() > 0);
         assert!(g.query_around([50.0; 2], 40.0).unwrap().count() > 0);
         assert!(g.query_aabb([100.0; 2], [0.0; 2]).unwrap().count() > 0);
         assert!(g.nearest([50.0; 2], 40.0).unwrap().is_some());
-        assert_eq!(g.remove(a), Ok(0));
-        assert_eq!(g.remove_maintain(a), Ok(0));
+        assert_eq!(g.remove(a, 0), Ok(0));
+        assert_eq!(g.remove_maintain(a, 0), Ok(0));
         assert_eq!((g.clear().count(), g.len()), (254, 0));
     }
     assert_eq!(taken(), before);
@@ -77,7 +77,7 @@ fn maps() {
     let before = taken();
     for i in 0..64 {
         let x = i as f32 * 7.0;
-        p.insert([x, x], i).unwrap();
+        p.insert([x, x], i, 0).unwrap();
         b.insert(Aabb::new([x, 0.0], [x + 20.0, 20.0]), i).unwrap();
     }
     encoder::fill_map(&p, &b, &[[50.0, 50.0, 40.0]; 16], &mut map).unwrap();

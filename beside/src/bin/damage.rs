@@ -178,7 +178,7 @@ fn points(mut rng: Rng, log: &mut Log) {
     round.fill();
     round.defer();
     let whole = round.tables().clone();
-    let in_state = |state: u32| whole.nums.iter().filter(|row| row[1] == 1 && row[3] == state).count() as u64;
+    let in_state = |state: u32| whole.nums.iter().filter(|row| row[1] == 1 && row[3] % 4 == state).count() as u64;
     log.note("points with a new position before damage", in_state(1));
     log.note("points with a relocation before damage", in_state(2));
     log.note("points marked removed before damage", in_state(3));

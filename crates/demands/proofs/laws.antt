@@ -11,3 +11,4 @@ pub mod Handles
 pub mod Lengths
 pub mod PointSteps
 pub mod Tested
+pub mod Trackers

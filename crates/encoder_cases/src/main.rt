@@ -74,7 +74,18 @@ fn insert_all(
 ) {
     let mut k = 0;
     while k < places.len() {
-        points::insert(nums, reals, ints, map, pool, spots, cells, at(places[k]), 7);
+        points::insert(
+            nums,
+            reals,
+            ints,
+            map,
+            pool,
+            spots,
+            cells,
+            at(places[k]),
+            7,
+            0,
+        );
         k += 1;
     }
 }
@@ -148,8 +159,9 @@ fn go_on(
         cells,
         first_of(2),
         at([200.0, 200.0]),
+        0,
     );
-    points::remove(nums, reals, ints, map, pool, spots, cells, first_of(1));
+    points::remove(nums, reals, ints, map, pool, spots, cells, first_of(1), 0);
     if steps == 2 {
         points::maintain(nums, reals, ints, map, pool, spots, cells);
     }

@@ -43,6 +43,7 @@ pub struct PointGot {
     pub x: f32,
     pub y: f32,
     pub obj: u32,
+    pub tracker: u32,
 }
 
 // What is reported of the nearest point, with count 1, beside the answer; zeros where there is none.
@@ -55,6 +56,7 @@ pub struct Nearest {
     pub x: f32,
     pub y: f32,
     pub obj: u32,
+    pub tracker: u32,
 }
 
 #[repr(C)]

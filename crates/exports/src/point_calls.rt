@@ -44,7 +44,7 @@ pub extern "C" fn chavrupas_points_new(
     points::new(nums, reals, ints, map, pool, spots, cells, size)
 }
 
-// `insert`. 3, 6, 4.
+// `insert`. 3, 6, 13, 4.
 #[no_mangle]
 pub extern "C" fn chavrupas_points_insert(
     nums: &mut [[u32; 4]],
@@ -57,8 +57,9 @@ pub extern "C" fn chavrupas_points_insert(
     x: f32,
     y: f32,
     obj: u32,
+    tracker: u32,
 ) -> Inserted
-    ensures { λ r. ⌜ Gives (λ t. insertOf t (position x y) obj) (toldInserted r) nums reals ints map pool spots cells ⌝ }
+    ensures { λ r. ⌜ Gives (λ t. insertOf t (position x y) obj tracker) (toldInserted r) nums reals ints map pool spots cells ⌝ }
 {
     let r = points::insert(
         nums,
@@ -70,6 +71,7 @@ pub extern "C" fn chavrupas_points_insert(
         cells,
         Position { x, y },
         obj,
+        tracker,
     );
     Inserted {
         answer: r.answer,
@@ -78,7 +80,7 @@ pub extern "C" fn chavrupas_points_insert(
     }
 }
 
-// `set_position`. 3, 6, 11, 12, 1.
+// `set_position`. 3, 6, 13, 11, 12, 14, 1.
 #[no_mangle]
 pub extern "C" fn chavrupas_points_set_position(
     nums: &mut [[u32; 4]],
@@ -92,8 +94,9 @@ pub extern "C" fn chavrupas_points_set_position(
     version: u32,
     x: f32,
     y: f32,
+    tracker: u32,
 ) -> u32
-    ensures { λ r. ⌜ Gives (λ t. setPositionOf t (handle slot version) (position x y)) (reply r 0) nums reals ints map pool spots cells ⌝ }
+    ensures { λ r. ⌜ Gives (λ t. setPositionOf t (handle slot version) (position x y) tracker) (reply r 0) nums reals ints map pool spots cells ⌝ }
 {
     points::set_position(
         nums,
@@ -105,10 +108,11 @@ pub extern "C" fn chavrupas_points_set_position(
         cells,
         Handle { slot, version },
         Position { x, y },
+        tracker,
     )
 }
 
-// `remove`. 3, 11, 12.
+// `remove`. 3, 13, 11, 12, 14.
 #[no_mangle]
 pub extern "C" fn chavrupas_points_remove(
     nums: &mut [[u32; 4]],
@@ -120,8 +124,9 @@ pub extern "C" fn chavrupas_points_remove(
     cells: &mut [[u64; 2]],
     slot: u32,
     version: u32,
+    tracker: u32,
 ) -> Reply
-    ensures { λ r. ⌜ Gives (λ t. removeOf t (handle slot version)) (toldReply r) nums reals ints map pool spots cells ⌝ }
+    ensures { λ r. ⌜ Gives (λ t. removeOf t (handle slot version) tracker) (toldReply r) nums reals ints map pool spots cells ⌝ }
 {
     let r = points::remove(
         nums,
@@ -132,6 +137,7 @@ pub extern "C" fn chavrupas_points_remove(
         spots,
         cells,
         Handle { slot, version },
+        tracker,
     );
     Reply {
         answer: r.answer,
@@ -150,7 +156,7 @@ pub extern "C" fn chavrupas_points_batch(
     spots: &[[f32; 2]],
     cells: &mut [[u64; 2]],
     kinds: &[u32],
-    handles: &[[u32; 2]],
+    handles: &[[u32; 3]],
     positions: &[[f32; 2]],
     out: &mut [[u32; 2]],
 ) -> BatchReply
@@ -196,7 +202,7 @@ pub extern "C" fn chavrupas_points_maintain(
     }
 }
 
-// `remove_maintain`. 3, 11, 12.
+// `remove_maintain`. 3, 13, 11, 12, 14.
 #[no_mangle]
 pub extern "C" fn chavrupas_points_remove_maintain(
     nums: &mut [[u32; 4]],
@@ -208,8 +214,9 @@ pub extern "C" fn chavrupas_points_remove_maintain(
     cells: &mut [[u64; 2]],
     slot: u32,
     version: u32,
+    tracker: u32,
 ) -> Reply
-    ensures { λ r. ⌜ Gives (λ t. removeMaintainOf t (handle slot version)) (toldReply r) nums reals ints map pool spots cells ⌝ }
+    ensures { λ r. ⌜ Gives (λ t. removeMaintainOf t (handle slot version) tracker) (toldReply r) nums reals ints map pool spots cells ⌝ }
 {
     let r = points::remove_maintain(
         nums,
@@ -220,6 +227,7 @@ pub extern "C" fn chavrupas_points_remove_maintain(
         spots,
         cells,
         Handle { slot, version },
+        tracker,
     );
     Reply {
         answer: r.answer,
@@ -238,7 +246,7 @@ pub extern "C" fn chavrupas_points_clear(
     spots: &[[f32; 2]],
     cells: &[[u64; 2]],
     places: &mut [[f32; 2]],
-    objs: &mut [u32],
+    objs: &mut [[u32; 2]],
 ) -> Count
     ensures { λ r. ⌜ Gives (λ t. clearOf t (was places) (was objs)) (toldWritten r places objs) nums reals ints map pool spots cells ⌝ }
 {
@@ -262,7 +270,7 @@ pub extern "C" fn chavrupas_points_get(
     slot: u32,
     version: u32,
 ) -> PointGot
-    ensures { λ r. ⌜ got (r .answer) (position (r .x) (r .y)) (r .obj) ≡ getOf (before nums reals ints map pool spots cells) (handle slot version) ⌝ }
+    ensures { λ r. ⌜ got (r .answer) (position (r .x) (r .y)) (r .obj) (r .tracker) ≡ getOf (before nums reals ints map pool spots cells) (handle slot version) ⌝ }
 {
     let r = points::get(
         nums,
@@ -279,6 +287,7 @@ pub extern "C" fn chavrupas_points_get(
         x: r.position.x,
         y: r.position.y,
         obj: r.obj,
+        tracker: r.tracker,
     }
 }
 
@@ -339,7 +348,7 @@ pub extern "C" fn chavrupas_points_query(
     high: f32,
     found: &mut [[u32; 2]],
     places: &mut [[f32; 2]],
-    objs: &mut [u32],
+    objs: &mut [[u32; 2]],
 ) -> Count
     ensures { λ r. ⌜ Finds (λ t. queryOf t (position left low) (position right high)) (toldCount r) found places objs nums reals ints map pool spots cells ⌝ }
 {
@@ -378,7 +387,7 @@ pub extern "C" fn chavrupas_points_query_around(
     radius: f32,
     found: &mut [[u32; 2]],
     places: &mut [[f32; 2]],
-    objs: &mut [u32],
+    objs: &mut [[u32; 2]],
 ) -> Count
     ensures { λ r. ⌜ Finds (λ t. aroundOf t (position x y) radius) (toldCount r) found places objs nums reals ints map pool spots cells ⌝ }
 {
@@ -418,7 +427,7 @@ pub extern "C" fn chavrupas_points_query_aabb(
     high: f32,
     found: &mut [[u32; 2]],
     places: &mut [[f32; 2]],
-    objs: &mut [u32],
+    objs: &mut [[u32; 2]],
 ) -> Count
     ensures { λ r. ⌜ Finds (λ t. aabbOf t (position left low) (position right high)) (toldCount r) found places objs nums reals ints map pool spots cells ⌝ }
 {
@@ -477,5 +486,6 @@ pub extern "C" fn chavrupas_points_nearest(
         x: near.position.x,
         y: near.position.y,
         obj: near.obj,
+        tracker: near.tracker,
     }
 }

@@ -1,9 +1,19 @@
-// A first frame at a desk, on a grid of two slots, then a slot at its last version, then points that rest: what a person reads is what the gate
-// compares. Each line is a call, its answer and its numbers.
+// A first frame at a desk, on a grid of two slots that three trackers share, then a slot at its last version, then points that rest: what a person
+// reads is what the gate compares. Each line is a call, its answer and its numbers.
 use geometry::Position;
 use libc::STDOUT_FILENO;
 use replies::Count;
 use slots::Handle;
+
+// The numbers of the three trackers.
+const HANDS: u32 = 1;
+
+const LAMPS: u32 = 2;
+
+const FACES: u32 = 7;
+
+// No tracker's number.
+const NOBODY: u32 = 8;
 
 fn say(what: &[u8]) {
     io::write_all(STDOUT_FILENO, what);
@@ -18,20 +28,28 @@ fn next(n: u32) {
     number(n);
 }
 
-fn line(what: &[u8], answer: u32, a: u32, b: u32) {
+fn begin(what: &[u8], answer: u32, a: u32, b: u32) {
     say(what);
     number(answer);
     next(a);
     next(b);
+}
+
+fn line(what: &[u8], answer: u32, a: u32, b: u32) {
+    begin(what, answer, a, b);
     say(b"\n");
 }
 
 fn longer_line(what: &[u8], answer: u32, a: u32, b: u32, c: u32) {
-    say(what);
-    number(answer);
-    next(a);
-    next(b);
+    begin(what, answer, a, b);
     next(c);
+    say(b"\n");
+}
+
+fn longest_line(what: &[u8], answer: u32, a: u32, b: u32, c: u32, d: u32) {
+    begin(what, answer, a, b);
+    next(c);
+    next(d);
     say(b"\n");
 }
 
@@ -43,7 +61,7 @@ fn mark_of(p: [f32; 2]) -> u32 {
     0
 }
 
-// A point comes in: answer, slot, version.
+// A tracker's point comes in: answer, slot, version.
 fn enter(
     nums: &mut [[u32; 4]; 2],
     reals: &mut [[f32; 4]; 2],
@@ -54,8 +72,9 @@ fn enter(
     cells: &mut [[u64; 2]; 2],
     at: Position,
     obj: u32,
+    tracker: u32,
 ) {
-    let r = points::insert(nums, reals, ints, map, pool, spots, cells, at, obj);
+    let r = points::insert(nums, reals, ints, map, pool, spots, cells, at, obj, tracker);
     let h = r.handle;
     line(b"insert ", r.answer, h.slot, h.version);
 }
@@ -87,7 +106,7 @@ fn around(
     cells: &[[u64; 2]; 2],
     found: &mut [[u32; 2]],
     places: &mut [[f32; 2]],
-    objs: &mut [u32],
+    objs: &mut [[u32; 2]],
 ) -> Count {
     let centre = Position { x: 0.0, y: 0.0 };
     points::query_around(
@@ -106,7 +125,7 @@ fn around(
     )
 }
 
-// Its answer, how many it finds, the slot and the data of the last. The outputs are marked with 77 before.
+// Its answer, how many it finds, the slot, the data and the tracker of the last. The outputs are marked with 77 before.
 fn circle(
     nums: &[[u32; 4]; 2],
     reals: &[[f32; 4]; 2],
@@ -118,7 +137,7 @@ fn circle(
 ) {
     let mut found = [[77u32; 2]; 2];
     let mut places = [[77.0f32; 2]; 2];
-    let mut objs = [77u32; 2];
+    let mut objs = [[77u32; 2]; 2];
     let r = around(
         nums,
         reals,
@@ -132,10 +151,11 @@ fn circle(
         &mut objs,
     );
     let last = found[1];
-    longer_line(b"circle ", r.answer, r.count, last[0], objs[1]);
+    let data = objs[1];
+    longest_line(b"circle ", r.answer, r.count, last[0], data[0], data[1]);
 }
 
-// The same with too few places for the data alone: answer, how many it finds, and the marks, which stand in all three outputs.
+// The same with too few places for data and tracker alone: answer, how many it finds, and the marks, which stand in all three outputs.
 fn short_circle(
     nums: &[[u32; 4]; 2],
     reals: &[[f32; 4]; 2],
@@ -147,7 +167,7 @@ fn short_circle(
 ) {
     let mut found = [[77u32; 2]; 2];
     let mut places = [[77.0f32; 2]; 2];
-    let mut objs = [77u32; 1];
+    let mut objs = [[77u32; 2]; 1];
     let r = around(
         nums,
         reals,
@@ -162,11 +182,12 @@ fn short_circle(
     );
     let a = found[0];
     let b = found[1];
-    line(b"short ", r.answer, r.count, objs[0]);
+    let c = objs[0];
+    longer_line(b"short ", r.answer, r.count, c[0], c[1]);
     longer_line(b"kept ", a[0], b[0], mark_of(places[0]), mark_of(places[1]));
 }
 
-// The same with a place too many for the data: answer, how many it finds, the data of the last, and the mark behind it.
+// The same with a place too many for them: answer, how many it finds, data and tracker of the last, and the mark behind it.
 fn long_circle(
     nums: &[[u32; 4]; 2],
     reals: &[[f32; 4]; 2],
@@ -178,7 +199,7 @@ fn long_circle(
 ) {
     let mut found = [[77u32; 2]; 2];
     let mut places = [[77.0f32; 2]; 2];
-    let mut objs = [77u32; 3];
+    let mut objs = [[77u32; 2]; 3];
     let r = around(
         nums,
         reals,
@@ -191,22 +212,28 @@ fn long_circle(
         &mut places,
         &mut objs,
     );
-    longer_line(b"long ", r.answer, r.count, objs[1], objs[2]);
+    let last = objs[1];
+    let behind = objs[2];
+    longest_line(b"long ", r.answer, r.count, last[0], last[1], behind[0]);
 }
 
-// The answer of the batch, and what its five calls got.
-fn told(answer: u32, out: [[u32; 2]; 5]) {
+// The answer of the batch, and what its seven calls got.
+fn told(answer: u32, out: [[u32; 2]; 7]) {
     let a = out[0];
     let b = out[1];
     let c = out[2];
     let d = out[3];
     let e = out[4];
+    let f = out[5];
+    let g = out[6];
     line(b"batch ", answer, a[0], b[0]);
     line(b"removed ", b[1], c[0], c[1]);
     line(b"refused ", d[0], e[0], e[1]);
+    line(b"foreign ", f[0], g[0], g[1]);
 }
 
-// Five deferred calls with one check: far moves, two removals of one object, a move of what is removed, a handle that was never issued.
+// Seven deferred calls with one check: a far move, two removals of one object, a move of what is removed, a handle that was never issued, and of an
+// object that is another tracker's a move and a removal.
 fn frame(
     nums: &mut [[u32; 4]; 2],
     reals: &mut [[f32; 4]; 2],
@@ -216,16 +243,26 @@ fn frame(
     spots: &[[f32; 2]; 2],
     cells: &mut [[u64; 2]; 2],
 ) {
-    let kinds = [0u32, 1, 1, 0, 0];
-    let handles = [[0u32, 1], [1, 1], [1, 1], [1, 1], [0, 2]];
+    let kinds = [0u32, 1, 1, 0, 0, 0, 1];
+    let handles = [
+        [0, 1, HANDS],
+        [1, 1, LAMPS],
+        [1, 1, LAMPS],
+        [1, 1, LAMPS],
+        [0, 2, HANDS],
+        [0, 1, FACES],
+        [0, 1, LAMPS],
+    ];
     let positions = [
         [300.0f32, -0.5],
         [0.0, 0.0],
         [0.0, 0.0],
         [1.0, 1.0],
         [0.0, 0.0],
+        [1.0, 1.0],
+        [0.0, 0.0],
     ];
-    let mut out = [[9u32; 2]; 5];
+    let mut out = [[9u32; 2]; 7];
     let r = points::batch(
         nums,
         reals,
@@ -286,7 +323,7 @@ fn settle(
     circle(nums, reals, ints, map, pool, spots, cells);
 }
 
-// A grid of two slots with cells of 10; three points come, and the third finds no slot.
+// A grid of two slots with cells of 10; each tracker's point comes, and the third finds no slot. A number that is no tracker's is refused before that.
 fn open(
     nums: &mut [[u32; 4]; 2],
     reals: &mut [[f32; 4]; 2],
@@ -300,9 +337,10 @@ fn open(
     line(b"new ", made, 0, 0);
     let home = Position { x: 0.0, y: 0.0 };
     let near = Position { x: 5.0, y: 5.0 };
-    enter(nums, reals, ints, map, pool, spots, cells, home, 7);
-    enter(nums, reals, ints, map, pool, spots, cells, near, 8);
-    enter(nums, reals, ints, map, pool, spots, cells, near, 9);
+    enter(nums, reals, ints, map, pool, spots, cells, home, 7, HANDS);
+    enter(nums, reals, ints, map, pool, spots, cells, near, 8, LAMPS);
+    enter(nums, reals, ints, map, pool, spots, cells, near, 9, FACES);
+    enter(nums, reals, ints, map, pool, spots, cells, near, 9, NOBODY);
 }
 
 // A handle is asked for: answer, data, and its version.
@@ -325,7 +363,8 @@ fn ask(
     line(b"get ", r.answer, r.obj, version);
 }
 
-// The object of slot 0 is taken out at the last version, which is set in the table: no history of a few calls gets there.
+// The object of slot 0 is taken out by its tracker at the last version, which is set in the table: no history of a few calls gets there.
+// Answer, data, and the tracker that asked.
 fn retire(
     nums: &mut [[u32; 4]; 2],
     reals: &mut [[f32; 4]; 2],
@@ -334,6 +373,7 @@ fn retire(
     pool: &mut [[u64; 2]; 2],
     spots: &mut [[f32; 2]; 2],
     cells: &mut [[u64; 2]; 2],
+    tracker: u32,
 ) {
     let mut row = nums[0];
     row[0] = 4294967295;
@@ -342,11 +382,11 @@ fn retire(
         slot: 0,
         version: 4294967295,
     };
-    let r = points::remove_maintain(nums, reals, ints, map, pool, spots, cells, h);
-    line(b"taken ", r.answer, r.obj, 0);
+    let r = points::remove_maintain(nums, reals, ints, map, pool, spots, cells, h, tracker);
+    line(b"taken ", r.answer, r.obj, tracker);
 }
 
-// Everything is taken out.
+// Everything is taken out: answer, how many objects, data and tracker of the first.
 fn empty(
     nums: &mut [[u32; 4]; 2],
     reals: &mut [[f32; 4]; 2],
@@ -357,7 +397,7 @@ fn empty(
     cells: &mut [[u64; 2]; 2],
 ) {
     let mut places = [[77.0f32; 2]; 2];
-    let mut objs = [77u32; 2];
+    let mut objs = [[77u32; 2]; 2];
     let r = points::clear(
         nums,
         reals,
@@ -369,7 +409,8 @@ fn empty(
         &mut places,
         &mut objs,
     );
-    line(b"clear ", r.answer, r.count, objs[0]);
+    let first = objs[0];
+    longer_line(b"clear ", r.answer, r.count, first[0], first[1]);
 }
 
 // All that the retired slot had is gone, version 0 was never issued, and the next point takes the other slot; once that is emptied its handle
@@ -386,13 +427,14 @@ fn last(
     let made = points::new(nums, reals, ints, map, pool, spots, cells, 10);
     line(b"new ", made, 0, 0);
     let home = Position { x: 0.0, y: 0.0 };
-    enter(nums, reals, ints, map, pool, spots, cells, home, 7);
-    retire(nums, reals, ints, map, pool, spots, cells);
+    enter(nums, reals, ints, map, pool, spots, cells, home, 7, HANDS);
+    retire(nums, reals, ints, map, pool, spots, cells, LAMPS);
+    retire(nums, reals, ints, map, pool, spots, cells, HANDS);
     ask(nums, reals, ints, map, pool, spots, cells, 0, 4294967295);
     ask(nums, reals, ints, map, pool, spots, cells, 0, 4294967294);
     ask(nums, reals, ints, map, pool, spots, cells, 0, 1);
     ask(nums, reals, ints, map, pool, spots, cells, 0, 0);
-    enter(nums, reals, ints, map, pool, spots, cells, home, 8);
+    enter(nums, reals, ints, map, pool, spots, cells, home, 8, FACES);
     empty(nums, reals, ints, map, pool, spots, cells);
     ask(nums, reals, ints, map, pool, spots, cells, 1, 1);
 }
@@ -408,7 +450,7 @@ fn zero_bits(x: f32) -> u32 {
     77
 }
 
-// An object that came first into its slot is sent: answer, slot, and the bits of the x that it is sent to.
+// An object that came first into its slot is sent by a tracker: answer, slot, and the bits of the x that it is sent to.
 fn send(
     nums: &mut [[u32; 4]; 2],
     reals: &mut [[f32; 4]; 2],
@@ -419,16 +461,17 @@ fn send(
     cells: &mut [[u64; 2]; 2],
     slot: u32,
     at: Position,
+    tracker: u32,
 ) {
     let h = Handle {
         slot: slot,
         version: 1,
     };
-    let answer = points::set_position(nums, reals, ints, map, pool, spots, cells, h, at);
+    let answer = points::set_position(nums, reals, ints, map, pool, spots, cells, h, at, tracker);
     line(b"set ", answer, slot, zero_bits(at.x));
 }
 
-// What `get` says of the first object: answer, data, the bits of its x; and a circle: answer, how many it finds, the bits of the x of the first, its data.
+// What `get` says of the first object: answer, data, tracker, the bits of its x; and a circle: answer, how many it finds, then the same of the first.
 fn show_zero(
     nums: &[[u32; 4]; 2],
     reals: &[[f32; 4]; 2],
@@ -444,10 +487,10 @@ fn show_zero(
     };
     let g = points::get(nums, reals, ints, map, pool, spots, cells, h);
     let p = g.position;
-    line(b"get ", g.answer, g.obj, zero_bits(p.x));
+    longer_line(b"get ", g.answer, g.obj, g.tracker, zero_bits(p.x));
     let mut found = [[77u32; 2]; 2];
     let mut places = [[77.0f32; 2]; 2];
-    let mut objs = [77u32; 2];
+    let mut objs = [[77u32; 2]; 2];
     let r = around(
         nums,
         reals,
@@ -461,11 +504,19 @@ fn show_zero(
         &mut objs,
     );
     let first = places[0];
-    longer_line(b"circle ", r.answer, r.count, zero_bits(first[0]), objs[0]);
+    let data = objs[0];
+    longest_line(
+        b"circle ",
+        r.answer,
+        r.count,
+        data[0],
+        data[1],
+        zero_bits(first[0]),
+    );
 }
 
-// A point is sent where it is but for a zero's sign, and back: it has not moved, and takes the bits. Then one rests, and another goes by the least
-// step that there is from 16: it alone has moved.
+// A point is sent where it is but for a zero's sign, and back: it has not moved, and takes the bits. Another tracker cannot send it. Then one rests,
+// and another goes by the least step that there is from 16: it alone has moved.
 fn rest(
     nums: &mut [[u32; 4]; 2],
     reals: &mut [[f32; 4]; 2],
@@ -479,11 +530,12 @@ fn rest(
     line(b"new ", made, 0, 0);
     let plus = Position { x: 0.0, y: 5.0 };
     let minus = Position { x: -0.0, y: 5.0 };
-    enter(nums, reals, ints, map, pool, spots, cells, plus, 7);
-    send(nums, reals, ints, map, pool, spots, cells, 0, minus);
+    enter(nums, reals, ints, map, pool, spots, cells, plus, 7, HANDS);
+    send(nums, reals, ints, map, pool, spots, cells, 0, minus, HANDS);
+    send(nums, reals, ints, map, pool, spots, cells, 0, plus, LAMPS);
     end(nums, reals, ints, map, pool, spots, cells);
     show_zero(nums, reals, ints, map, pool, spots, cells);
-    send(nums, reals, ints, map, pool, spots, cells, 0, plus);
+    send(nums, reals, ints, map, pool, spots, cells, 0, plus, HANDS);
     end(nums, reals, ints, map, pool, spots, cells);
     show_zero(nums, reals, ints, map, pool, spots, cells);
     let there = Position { x: 16.0, y: 5.0 };
@@ -491,9 +543,9 @@ fn rest(
         x: 16.0000019073486328125,
         y: 5.0,
     };
-    enter(nums, reals, ints, map, pool, spots, cells, there, 8);
-    send(nums, reals, ints, map, pool, spots, cells, 0, plus);
-    send(nums, reals, ints, map, pool, spots, cells, 1, step);
+    enter(nums, reals, ints, map, pool, spots, cells, there, 8, LAMPS);
+    send(nums, reals, ints, map, pool, spots, cells, 0, plus, HANDS);
+    send(nums, reals, ints, map, pool, spots, cells, 1, step, LAMPS);
     end(nums, reals, ints, map, pool, spots, cells);
 }
 

@@ -1,5 +1,5 @@
 // The nearest point by rings of cells, on a grid of 4,096 slots with cells of 16: among 4,096 points, then among three. Each line is what was
-// asked, the answer, count, slot, version, x and y in sixteenths, data, and how many rings were looked through.
+// asked, the answer, count, slot, version, x and y in sixteenths, data, tracker, and how many rings were looked through.
 ghost use Rattle.basics.specs.Words.{_<_};
 use geometry::Position;
 use libc::STDOUT_FILENO;
@@ -36,6 +36,7 @@ fn tell(what: &[u8], r: Ringed) {
     next_place(position.x);
     next_place(position.y);
     next(near.obj as u64);
+    next(near.tracker as u64);
     next(r.rings as u64);
     say(b"\n");
 }
@@ -90,6 +91,11 @@ fn data_of(i: u16) -> u32 {
     i as u32 + 10000
 }
 
+// The eight trackers take turns.
+fn tracker_of(i: u16) -> u32 {
+    i as u32 % 8
+}
+
 fn fill(
     nums: &mut [[u32; 4]; 4096],
     reals: &mut [[f32; 4]; 4096],
@@ -113,6 +119,7 @@ fn fill(
             cells,
             spot(many, i),
             data_of(i),
+            tracker_of(i),
         );
         i += 1;
     }

@@ -27,7 +27,7 @@ pub struct BatchReply {
     pub count: u64,
 }
 
-fn handle_of(row: [u32; 2]) -> Handle
+fn handle_of(row: [u32; 3]) -> Handle
     ensures { λ r. ⌜ r ≡ handleOf row ⌝ }
 {
     Handle {
@@ -77,7 +77,7 @@ fn run(
     map: &[u64],
     cells: &mut [[u64; 2]],
     kinds: &[u32],
-    handles: &[[u32; 2]],
+    handles: &[[u32; 3]],
     positions: &[[f32; 2]],
     out: &mut [[u32; 2]],
 )
@@ -88,9 +88,10 @@ fn run(
 {
     let mut i = 0;
     while i < kinds.len() {
-        let h = handle_of(handles[i]);
+        let row = handles[i];
+        let h = handle_of(row);
         let p = position_of(positions[i]);
-        let r = deferred(nums, reals, ints, map, cells, kinds[i], h, p);
+        let r = deferred(nums, reals, ints, map, cells, kinds[i], h, p, row[2]);
         out[i] = reply_row(r);
         i += 1;
     }
@@ -106,7 +107,7 @@ fn run_many(
     spots: &[[f32; 2]],
     cells: &mut [[u64; 2]],
     kinds: &[u32],
-    handles: &[[u32; 2]],
+    handles: &[[u32; 3]],
     positions: &[[f32; 2]],
     out: &mut [[u32; 2]],
 )
@@ -118,9 +119,10 @@ fn run_many(
     let size = map[0];
     let mut i = 0;
     while i < kinds.len() {
-        let h = handle_of(handles[i]);
+        let row = handles[i];
+        let h = handle_of(row);
         let p = position_of(positions[i]);
-        let r = unmarked(nums, reals, ints, size, kinds[i], h, p);
+        let r = unmarked(nums, reals, ints, size, kinds[i], h, p, row[2]);
         out[i] = reply_row(r);
         i += 1;
     }
@@ -139,7 +141,7 @@ fn run_all(
     spots: &[[f32; 2]],
     cells: &mut [[u64; 2]],
     kinds: &[u32],
-    handles: &[[u32; 2]],
+    handles: &[[u32; 3]],
     positions: &[[f32; 2]],
     out: &mut [[u32; 2]],
 )
@@ -199,7 +201,7 @@ pub fn batch(
     spots: &[[f32; 2]],
     cells: &mut [[u64; 2]],
     kinds: &[u32],
-    handles: &[[u32; 2]],
+    handles: &[[u32; 3]],
     positions: &[[f32; 2]],
     out: &mut [[u32; 2]],
 ) -> BatchReply

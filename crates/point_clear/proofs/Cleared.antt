@@ -16,7 +16,7 @@ use Rattle.point_clear.proofs.laws.ClearLaws.{clear-unheld, clear-short
 use Rattle.point_clear.specs.Inner.{countBy, placesOf, objsOf}
 use Rattle.replies.specs.Meaning.Replies.{count}
 
-module _ (t : Tables) (places : List (List Float)) (objs : List ℕ) (held : Bool) (e : held ≡ holds t) where
+module _ (t : Tables) (places : List (List Float)) (objs : List (List ℕ)) (held : Bool) (e : held ≡ holds t) where
   -- the verdict says that the tables hold a grid
   a-grid : held ≡ true → Holds t
   a-grid h = holds-says t .yes (sym e ∙ h)
@@ -59,7 +59,7 @@ module _ (t : Tables) (places : List (List Float)) (objs : List ℕ) (held : Boo
       pub put-asks : (length (t .reals) ≡ length (t .nums)) × (length (t .nums) ≤ 4096) × (length (liveFrom 0 (t .nums)) ≤ length places) × (length (liveFrom 0 (t .nums)) ≤ length objs)
       put-asks = (grid .sized .of-reals, grid .sized .most, omega (arith, same, passed .1), omega (arith, same, passed .1))
 
-      pub done : (ns : List (List ℕ)) (m : List ℕ) (ps : List (List Float)) (os : List ℕ)
+      pub done : (ns : List (List ℕ)) (m : List ℕ) (ps : List (List Float)) (os : List (List ℕ))
           → ps ≡ written (placesOf (t .reals) (liveFrom 0 (t .nums))) places → os ≡ written (objsOf (t .nums) (liveFrom 0 (t .nums))) objs
           → ns ≡ clearedRows (t .nums) → m ≡ counting (clearedMap 0 (t .nums) (t .map)) 0 0
           → outcome (wrote c ps os) (tables ns (t .reals) (t .ints) m (t .pool) (t .spots) (t .cells)) ≡ clearOf t places objs

@@ -1,4 +1,4 @@
-// `clear`: writes recorded position and data, ascending by slot, then empties the grid. Versions rise as with any emptying.
+// `clear`: writes recorded position, data and tracker, ascending by slot, then empties the grid. Versions rise as with any emptying.
 ghost use Rattle.basics.specs.Words.{_+_, _≤_, _<_, _≡_, true, length, getD};
 ghost use Rattle.basics.specs.Meaning.Limits.{mostSlots};
 ghost use Rattle.basics.specs.Meaning.Lent.{was, is};
@@ -45,8 +45,8 @@ fn answer(map: &[u64], held: bool, places: usize, objs: usize) -> Count
     }
 }
 
-// The recorded position and the data of each live slot, from place 0 of the outputs on.
-fn put_objects(nums: &[Row], reals: &[[f32; 4]], places: &mut [[f32; 2]], objs: &mut [u32])
+// The recorded position, and the data and the tracker, of each live slot, from place 0 of the outputs on.
+fn put_objects(nums: &[Row], reals: &[[f32; 4]], places: &mut [[f32; 2]], objs: &mut [[u32; 2]])
     requires { ⌜ Room (now nums) (now reals) (now places) (now objs) ⌝ }
     ensures places { λ _. ⌜ is places ≡ written (placesOf (was reals) (liveFrom 0 (was nums))) (was places) ⌝ }
     ensures objs { λ _. ⌜ is objs ≡ written (objsOf (was nums) (liveFrom 0 (was nums))) (was objs) ⌝ }
@@ -58,7 +58,7 @@ fn put_objects(nums: &[Row], reals: &[[f32; 4]], places: &mut [[f32; 2]], objs: 
         if slot_walks::is_live(row) {
             let q = reals[i];
             places[k] = [q[0], q[1]];
-            objs[k] = row[2];
+            objs[k] = [row[2], point_records::tracker_in(row)];
             k += 1;
         }
         i += 1;
@@ -85,7 +85,7 @@ pub fn clear(
     spots: &[[f32; 2]],
     cells: &[[u64; 2]],
     places: &mut [[f32; 2]],
-    objs: &mut [u32],
+    objs: &mut [[u32; 2]],
 ) -> Count
     ensures { λ r. ⌜ wroteLent r places objs (after nums reals ints map pool spots cells) ≡ clearInto (before nums reals ints map pool spots cells) places objs ⌝ }
 {

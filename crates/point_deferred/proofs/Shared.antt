@@ -1,5 +1,5 @@
 -- What the code of a deferred call makes, from what each of its steps gives. Assumes nothing.
-use Rattle.basics.specs.Words.{ℕ, zero, suc, _^_, _<_, _≤_, _≡_, refl, ap, sym, _∙_, subst, Bool, true, false, List, [], _∷_, ⊎-elim, length, getD, set, take}
+use Rattle.basics.specs.Words.{ℕ, zero, suc, _^_, _<_, _≤_, _≡_, refl, ap, sym, _∙_, subst, true, false, List, [], _∷_, ⊎-elim, length, getD, set, take}
 use Rattle.basics.specs.Words.{ℤ, arith, eq-eqb, ne-eqb, sfits-of}
 use lib.Ieee.{Float}
 use lib.Signed.{mag}
@@ -12,13 +12,14 @@ use Rattle.storage.specs.Meaning.Keyed.{written}
 use Rattle.storage.specs.Meaning.Entries.{rowKey}
 use Rattle.storage.specs.Meaning.CellTable.{marked}
 use Rattle.storage.specs.Inner.Tables.{Rising}
-use Rattle.point_records.specs.Meaning.Columns.{recordAt, positionIn, stateOf, tagOf, pendingOf, targetOf}
-use Rattle.point_records.specs.Meaning.States.{isRemoved, aimed}
+use Rattle.point_records.specs.Meaning.Columns.{recordAt, recordOf, numsOf, positionIn, stateOf, tagOf, pendingOf, targetOf}
+use Rattle.point_records.specs.declared.State.{State}
+use Rattle.point_records.specs.Meaning.States.{isRemoved, aimed, withState}
 use Rattle.point_tables.specs.Meaning.Tables.{Tables, tables}
 use Rattle.point_tables.specs.Meaning.Outcome.{Outcome, outcome}
+use Rattle.point_records.specs.Inner.Rows.{withTag}
+use Rattle.point_records.proofs.laws.WordLaws.{tag-small, number-in}
 use Rattle.slots.specs.declared.Handle.{Handle}
-use Rattle.slots.specs.Meaning.Slot.{good, whyNotGood, handleRefusal}
-use Rattle.basics.specs.Meaning.Refusals.{orElse}
 use Rattle.point_tables.specs.Meaning.Tables.{rowsOf}
 use Rattle.point_tables.specs.Meaning.Decide.{holds, holds-says}
 use Rattle.basics.proofs.laws.Says.{d-eq, said-says}
@@ -34,8 +35,8 @@ use Rattle.point_deferred.proofs.laws.MovesLaws.{set-done, set-refused}
 use Rattle.point_deferred.specs.Inner.Ready.{Ready}
 use Rattle.point_deferred.proofs.laws.ReadyLaws.{rows-rise}
 use Rattle.point_deferred.specs.declared.rows.Pending.{Pending}
-use Rattle.point_deferred.specs.Inner.Rows.{cellIn, withTag, withPending, withTarget, returnedIn, PendingFor}
-use Rattle.point_deferred.specs.Inner.Held.{poolless, call, tagTo, PendedRows, pendedOnly, unmarkedOf, worked, heldAnswer, heldOf}
+use Rattle.point_deferred.specs.Inner.Rows.{cellIn, withPending, withTarget, returnedIn, PendingFor}
+use Rattle.point_deferred.specs.Inner.Held.{poolless, call, stateFor, tagTo, PendedRows, pendedOnly, unmarkedOf, worked, heldAnswer, heldOf}
 use Rattle.point_deferred.proofs.laws.Held.{withPool}
 use Rattle.point_deferred.proofs.laws.HeldLaws.{held-refused, held-done, call-worked}
 use Rattle.replies.specs.Meaning.Replies.{reply}
@@ -43,14 +44,6 @@ use Rattle.replies.specs.Meaning.Replies.{reply}
 -- a signed number that was read is what it was
 pub back : {z : ℤ} → mag z < 2 ^ hbits w32 → toZ w32 (ofZ w32 z) ≡ z
 back p = toZ-ofZ (sfits-of p)
-
--- a handle that is refused is not good
-pub not-good : (nums : List (List ℕ)) (h : Handle) (a : ℕ) → a ≡ handleRefusal nums h → (a ≡ 0 → ⊥) → good nums (h .slot) (h .version) ≡ false
-not-good nums h a e n = go (good nums (h .slot) (h .version)) e
-  where
-    go : (b : Bool) → a ≡ orElse b (whyNotGood nums h) 0 → b ≡ false
-    go true q = absurd (n q)
-    go false q = refl
 
 -- ---- tags
 pub tag-same : (d c : Cell) → d ≡ c → 1 ≡ tagTo d c
@@ -67,6 +60,10 @@ up-to-two zero p c h = refl
 up-to-two (suc zero) p c h = refl
 up-to-two (suc (suc zero)) p c h = refl
 up-to-two (suc (suc (suc n))) p c h = absurd (omega arith)
+
+-- the row with the tag of another state is that of the record with the state, since a tracker that was read has its number
+row-tagged : (n : List ℕ) (q : List Float) (z : List ℤ) (state : State) → withTag n (tagOf state) ≡ numsOf (withState (recordOf n q z) state)
+row-tagged n q z state = rw (number-in n)
 
 -- ---- the rows of what becomes pending
 module _ (size : ℕ) (c : Cell) (at : Position) where
@@ -86,6 +83,9 @@ module _ (size : ℕ) (c : Cell) (at : Position) where
       (λ e. rw e)
 
 module _ (size : ℕ) (q : List Float) (z : List ℤ) (kind : ℕ) (at : Position) where
+  pub tag-few : (p : Pending) → PendingFor size q z kind at p → p .tag ≤ 3
+  tag-few p h = omega (arith, tag-small (stateFor size (cellIn z) kind at), h .tag)
+
   pub leads-nowhere : (p : Position) (c : Cell) → (kind ≡ 0 → ⊥) → p ≡ positionIn q → c ≡ cellIn z → PendingFor size q z kind at (record { tag = 3; at = p; to = c })
   leads-nowhere p c n ep ec = record { tag = rw (ne-eqb kind 0 n); place = rw (ne-eqb kind 0 n) ep; cell = rw (ne-eqb kind 0 n) ec }
 
@@ -104,7 +104,7 @@ module _ (ns : List (List ℕ)) (qs : List (List Float)) (zs : List (List ℤ)) 
   pended-rows p d n q z h ed en eq ez =
       record {
         answer = ed;
-        nums = ap (set ns s) (en ∙ ap (withTag (getD ns s [])) (h .tag));
+        nums = ap (set ns s) (en ∙ ap (withTag (getD ns s [])) (h .tag) ∙ row-tagged (getD ns s []) (getD qs s []) (getD zs s []) (stateFor size (cellIn (getD zs s [])) kind at));
         reals = ap (set qs s) (eq ∙ ap (withPending (getD qs s [])) (h .place));
         ints = ap (set zs s) (ez ∙ ap (withTarget (getD zs s [])) (h .cell));
       }
@@ -130,32 +130,32 @@ pub done : (t u : Tables) (c : Call) (a d : ℕ) → a ≡ heldAnswer t c → a 
 done t u c a d e z w = ap (λ (o : Outcome ℕ). outcome (reply 0 (o .result)) (o .after)) w ∙ sym (held-done t c (sym e ∙ z))
 
 -- ---- the public calls: on tables that hold no grid, and on those that do
-pub set-no-grid : (t : Tables) (h : Handle) (at : Position) → holds t ≡ false → outcome (reply 3 0) t ≡ setPositionOf t h at
+pub set-no-grid : (t : Tables) (h : Handle) (at : Position) (k : ℕ) → holds t ≡ false → outcome (reply 3 0) t ≡ setPositionOf t h at k
 unfolding setPositionOf setPositionAnswer
-set-no-grid t h at e = rw e
+set-no-grid t h at k e = rw e
 
-pub remove-no-grid : (t : Tables) (h : Handle) → holds t ≡ false → outcome (reply 3 0) t ≡ removeOf t h
+pub remove-no-grid : (t : Tables) (h : Handle) (k : ℕ) → holds t ≡ false → outcome (reply 3 0) t ≡ removeOf t h k
 unfolding removeOf removeAnswer
-remove-no-grid t h e = rw e
+remove-no-grid t h k e = rw e
 
-set-returns : (t : Tables) (h : Handle) (at : Position) → setPositionOf t h at .result .obj ≡ 0
-set-returns t h at = ⊎-elim (λ e. rw (set-done t h at e)) (λ n. rw (set-refused t h at n)) (d-eq (setPositionAnswer t h at) 0)
+set-returns : (t : Tables) (h : Handle) (at : Position) (k : ℕ) → setPositionOf t h at k .result .obj ≡ 0
+set-returns t h at k = ⊎-elim (λ e. rw (set-done t h at k e)) (λ n. rw (set-refused t h at k n)) (d-eq (setPositionAnswer t h at k) 0)
 
-module _ (t u : Tables) (pool : List (List ℕ)) (spots : List (List Float)) (h : Handle) (at : Position) (r : Reply) (g : holds (withPool t pool spots) ≡ true) where
-  worked-call : (k : ℕ) → outcome r u ≡ heldOf t (call k h at) → outcome r (withPool u pool spots) ≡ callOf (withPool t pool spots) (call k h at)
-  worked-call k e =
+module _ (t u : Tables) (pool : List (List ℕ)) (spots : List (List Float)) (h : Handle) (at : Position) (k : ℕ) (r : Reply) (g : holds (withPool t pool spots) ≡ true) where
+  worked-call : (kind : ℕ) → outcome r u ≡ heldOf t (call kind h at k) → outcome r (withPool u pool spots) ≡ callOf (withPool t pool spots) (call kind h at k)
+  worked-call kind e =
       ap (λ (o : Outcome Reply). outcome (o .result) (withPool (o .after) pool spots)) e
-      ∙ sym (call-worked pool spots t (holds-says (withPool t pool spots) .yes g) (call k h at))
+      ∙ sym (call-worked pool spots t (holds-says (withPool t pool spots) .yes g) (call kind h at k))
 
-  pub remove-held : outcome r u ≡ heldOf t (call 1 h at) → outcome r (withPool u pool spots) ≡ removeOf (withPool t pool spots) h
+  pub remove-held : outcome r u ≡ heldOf t (call 1 h at k) → outcome r (withPool u pool spots) ≡ removeOf (withPool t pool spots) h k
   unfolding callOf
   remove-held e = worked-call 1 e
 
-  pub set-held : outcome r u ≡ heldOf t (call 0 h at) → outcome (reply (r .answer) 0) (withPool u pool spots) ≡ setPositionOf (withPool t pool spots) h at
+  pub set-held : outcome r u ≡ heldOf t (call 0 h at k) → outcome (reply (r .answer) 0) (withPool u pool spots) ≡ setPositionOf (withPool t pool spots) h at k
   unfolding callOf
   set-held e =
-      let w : outcome r (withPool u pool spots) ≡ setPositionOf (withPool t pool spots) h at = worked-call 0 e in
-      let z : r .obj ≡ 0 = ap (λ (o : Outcome Reply). o .result .obj) w ∙ set-returns (withPool t pool spots) h at in
+      let w : outcome r (withPool u pool spots) ≡ setPositionOf (withPool t pool spots) h at k = worked-call 0 e in
+      let z : r .obj ≡ 0 = ap (λ (o : Outcome Reply). o .result .obj) w ∙ set-returns (withPool t pool spots) h at k in
       ap (λ (d : ℕ). outcome (reply (r .answer) d) (withPool u pool spots)) (sym z) ∙ w
 
 -- ---- a call without its mark, refused and done

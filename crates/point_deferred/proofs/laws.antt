@@ -6,4 +6,5 @@ pub mod MovesKeeps
 pub mod MovesLaws
 pub mod HeldLaws
 pub mod PendedLaws
+pub mod TrackerLaws
 pub mod Held

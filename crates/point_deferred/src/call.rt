@@ -15,14 +15,21 @@ use replies::Reply;
 use slots::Handle;
 use slots::Row;
 
-fn set_refusal(nums: &[Row], reals: &[[f32; 4]], ints: &[[i32; 4]], h: Handle, at: Position) -> u32
+fn set_refusal(
+    nums: &[Row],
+    reals: &[[f32; 4]],
+    ints: &[[i32; 4]],
+    h: Handle,
+    at: Position,
+    tracker: u32,
+) -> u32
     requires { ⌜ (length (now reals) ≡ length (now nums)) × (length (now ints) ≡ length (now nums)) ⌝ }
-    ensures { λ r. ⌜ r ≡ setRefusal (was nums) (recordAt (was nums) (was reals) (was ints) (h .slot) .state) h at ⌝ }
+    ensures { λ r. ⌜ r ≡ setRefusal (was nums) (recordAt (was nums) (was reals) (was ints) (h .slot) .state) h at tracker ⌝ }
 {
     if !geometry::position_in_domain(at) {
         return 6;
     }
-    let why = slots::refusal_of(nums, h);
+    let why = point_records::own_refusal(nums, h, tracker);
     if why != 0 {
         return why;
     }
@@ -43,14 +50,15 @@ fn refusal(
     kind: u32,
     h: Handle,
     at: Position,
+    tracker: u32,
 ) -> u32
     requires { ⌜ (length (now reals) ≡ length (now nums)) × (length (now ints) ≡ length (now nums)) ⌝ }
-    ensures { λ r. ⌜ r ≡ refusalOf (was nums) (recordAt (was nums) (was reals) (was ints) (h .slot) .state) (Held.call kind h at) ⌝ }
+    ensures { λ r. ⌜ r ≡ refusalOf (was nums) (recordAt (was nums) (was reals) (was ints) (h .slot) .state) (Held.call kind h at tracker) ⌝ }
 {
     if kind == 0 {
-        return set_refusal(nums, reals, ints, h, at);
+        return set_refusal(nums, reals, ints, h, at, tracker);
     }
-    slots::refusal_of(nums, h)
+    point_records::own_refusal(nums, h, tracker)
 }
 
 // The object at slot s has something pending.
@@ -70,7 +78,7 @@ fn pend(
     let q = reals[s];
     let z = ints[s];
     let p = rows::pending_for(size, q, z, kind, at);
-    nums[s] = rows::with_tag(n, p.tag);
+    nums[s] = point_records::with_tag(n, p.tag);
     reals[s] = rows::with_pending(q, p.at);
     ints[s] = rows::with_target(z, p.to);
     rows::returned_in(n, kind)
@@ -105,11 +113,12 @@ pub fn unmarked(
     kind: u32,
     h: Handle,
     at: Position,
+    tracker: u32,
 ) -> Reply
     requires { ⌜ (length (now reals) ≡ length (now nums)) × (length (now ints) ≡ length (now nums)) × SizeInDomain size ⌝ }
-    ensures { λ r. ⌜ outcome r (columnsAfter nums reals ints size) ≡ unmarkedOf (columnsBefore nums reals ints size) (Held.call kind h at) ⌝ }
+    ensures { λ r. ⌜ outcome r (columnsAfter nums reals ints size) ≡ unmarkedOf (columnsBefore nums reals ints size) (Held.call kind h at tracker) ⌝ }
 {
-    let a = refusal(nums, reals, ints, kind, h, at);
+    let a = refusal(nums, reals, ints, kind, h, at, tracker);
     if a != 0 {
         return Reply { answer: a, obj: 0 };
     }
@@ -127,11 +136,12 @@ pub fn deferred(
     kind: u32,
     h: Handle,
     at: Position,
+    tracker: u32,
 ) -> Reply
     requires { ⌜ Ready (lentPoolless nums reals ints map cells) ⌝ }
-    ensures { λ r. ⌜ outcome r (poollessAfter nums reals ints map cells) ≡ heldOf (poollessBefore nums reals ints map cells) (Held.call kind h at) ⌝ }
+    ensures { λ r. ⌜ outcome r (poollessAfter nums reals ints map cells) ≡ heldOf (poollessBefore nums reals ints map cells) (Held.call kind h at tracker) ⌝ }
 {
-    let a = refusal(nums, reals, ints, kind, h, at);
+    let a = refusal(nums, reals, ints, kind, h, at, tracker);
     if a != 0 {
         return Reply { answer: a, obj: 0 };
     }

@@ -4,7 +4,7 @@ ghost use Rattle.cells.specs.Meaning.Size.{SizeInDomain};
 ghost use Rattle.point_records.specs.Meaning.Columns.{positionIn};
 ghost use Rattle.point_records.specs.Meaning.Occupied.{InDomain};
 ghost use Rattle.point_deferred.specs.Inner.Held.{tagTo};
-ghost use Rattle.point_deferred.specs.Inner.Rows.{cellIn, withTag, withPending, withTarget, PendingFor, returnedIn};
+ghost use Rattle.point_deferred.specs.Inner.Rows.{cellIn, withPending, withTarget, PendingFor, returnedIn};
 use cells::Cell;
 use geometry::Position;
 use slots::Row;
@@ -57,12 +57,6 @@ pub fn pending_for(size: u64, q: [f32; 4], z: [i32; 4], kind: u32, at: Position)
     let to = cells::cell_at(size, at);
     let tag = tag_to(to, c);
     Pending { tag, at, to }
-}
-
-pub fn with_tag(n: Row, tag: u32) -> Row
-    ensures { λ r. ⌜ r ≡ withTag n tag ⌝ }
-{
-    [n[0], n[1], n[2], tag]
 }
 
 pub fn with_pending(q: [f32; 4], at: Position) -> [f32; 4]

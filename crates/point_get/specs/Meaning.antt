@@ -1,4 +1,4 @@
--- `get`, `len` and `handles`: recorded position and data; removed objects count until maintain. Assumes nothing.
+-- `get`, `len` and `handles`: recorded position, data and tracker; removed objects count until maintain. Assumes nothing.
 use Rattle.basics.specs.Words.{ℕ, List, [], _∷_, length, eqb, leb}
 use Rattle.basics.specs.Meaning.Refusals.{Refusal, unless, pick, byTests}
 use Rattle.geometry.specs.declared.Position.{Position}
@@ -7,21 +7,25 @@ use Rattle.slots.specs.declared.Handle.{Handle}
 use Rattle.slots.specs.Meaning.Slot.{handleTest}
 use Rattle.storage.specs.Meaning.Keyed.{written}
 use Rattle.slot_walks.specs.Meaning.Live.{handlesIn}
+use Rattle.point_records.specs.Meaning.Word.{trackerAt}
 use Rattle.point_tables.specs.Meaning.Tables.{Tables, recordOn}
 use Rattle.point_tables.specs.Meaning.Decide.{holds}
 use Rattle.point_get.specs.declared.Got.{Got}
 use Rattle.replies.specs.declared.Count.{Count}
 use Rattle.replies.specs.Meaning.Replies.{count}
 
-abbrev pub got : ℕ → Position → ℕ → Got
-got a p d = record { answer = a; position = p; obj = d }
+abbrev pub got : ℕ → Position → ℕ → ℕ → Got
+got a p d k = record { answer = a; position = p; obj = d; tracker = k }
 
 -- ---- get
 abbrev pub getTests : Tables → Handle → List Refusal
 getTests t h = unless (holds t) 3 ∷ handleTest (t .nums) h ∷ []
 
 unfoldable pub getOf : Tables → Handle → Got
-getOf t h = byTests (getTests t h) (got 0 (recordOn t (h .slot) .position) (recordOn t (h .slot) .obj)) (λ a. got a zero-position 0)
+getOf t h =
+    byTests (getTests t h)
+    (got 0 (recordOn t (h .slot) .position) (recordOn t (h .slot) .obj) (trackerAt (t .nums) (h .slot)))
+    (λ a. got a zero-position 0 0)
 
 -- ---- the handles of the live slots, as rows (slot, version), ascending by slot
 unfoldable pub liveHandles : Tables → List (List ℕ)

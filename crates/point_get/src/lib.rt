@@ -8,11 +8,12 @@ use replies::Count;
 use slots::Handle;
 use slots::Row;
 
-// The recorded position and the data of an object beside the answer.
+// The recorded position, the data and the tracker of an object beside the answer.
 pub struct Got {
     pub answer: u32,
     pub position: Position,
     pub obj: u32,
+    pub tracker: u32,
 }
 
 pub fn get(
@@ -32,6 +33,7 @@ pub fn get(
             answer: 3,
             position: Position { x: 0.0, y: 0.0 },
             obj: 0,
+            tracker: 0,
         };
     }
     let why = slots::refusal_of(nums, h);
@@ -40,6 +42,7 @@ pub fn get(
             answer: why,
             position: Position { x: 0.0, y: 0.0 },
             obj: 0,
+            tracker: 0,
         };
     }
     let s = basics::wide(h.slot);
@@ -49,6 +52,7 @@ pub fn get(
         answer: 0,
         position: Position { x: q[0], y: q[1] },
         obj: n[2],
+        tracker: point_records::tracker_in(n),
     }
 }
 

@@ -1,3 +1,4 @@
 -- The laws.
 pub mod HistoryLaws
 pub mod OnwardLaws
+pub mod TrackerLaws

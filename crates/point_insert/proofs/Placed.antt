@@ -47,7 +47,7 @@ module _ (t : Tables) (s : ℕ) (p : Position) (f : Fresh t s p) where
   few u e = omega (arith, one-more, f .holds .sized .most)
 
   -- ---- the exit tables, by what each call ensures
-  module _ (d u r : ℕ) (c : Cell) (k : ℕ) (row : List ℕ) (spot : List Float)
+  module _ (d w u r : ℕ) (c : Cell) (k : ℕ) (row : List ℕ) (spot : List Float)
       (eu : u ≡ usedOf t) (er : r ≡ rowsOf t) (ec : c ≡ cellAt (sizeOf t) p) (ek : k ≡ keyOf c)
       (ew : row ≡ entryRow k (record { slot = s; position = p })) (es : spot ≡ entrySpot (record { slot = s; position = p })) where
     key-is : k ≡ keyOf (cellAt (sizeOf t) p)
@@ -61,22 +61,22 @@ module _ (t : Tables) (s : ℕ) (p : Position) (f : Fresh t s p) where
 
     pub put-is :
         (ns : List (List ℕ)) (qs : List (List Float)) (zs : List (List ℤ)) (m : List ℕ) (pool : List (List ℕ)) (spots : List (List Float)) (cells : List (List ℕ)) (n : ℕ)
-        → ns ≡ set (t .nums) s (numsOf (freshRecord (versionAt (t .nums) s) p c d))
-        → qs ≡ set (t .reals) s (realsOf (freshRecord (versionAt (t .nums) s) p c d))
-        → zs ≡ set (t .ints) s (intsOf (freshRecord (versionAt (t .nums) s) p c d))
+        → ns ≡ set (t .nums) s (numsOf (freshRecord (versionAt (t .nums) s) p c d w))
+        → qs ≡ set (t .reals) s (realsOf (freshRecord (versionAt (t .nums) s) p c d w))
+        → zs ≡ set (t .ints) s (intsOf (freshRecord (versionAt (t .nums) s) p c d w))
         → Columns (Pooled.entriesWith u row spot (t .pool) (t .spots)) (t .pool) (t .spots) pool spots
         → (n ≡ length (entered k (take r (t .cells)))) × (cells ≡ written (entered k (take r (t .cells))) (t .cells))
         → m ≡ counting (taken (t .map) s) (u + 1) n
-        → tables ns qs zs m pool spots cells ≡ put t s p d
+        → tables ns qs zs m pool spots cells ≡ put t s p d w
     unfolding put
     put-is ns qs zs m pool spots cells n en eq ez ep ecs em =
-        let e1 : ns ≡ set (t .nums) s (numsOf (freshRecord (versionAt (t .nums) s) p (cellAt (sizeOf t) p) d)) = en ∙ ap (λ (b : Cell). set (t .nums) s (numsOf (freshRecord (versionAt (t .nums) s) p b d))) ec in
-        let e2 : qs ≡ set (t .reals) s (realsOf (freshRecord (versionAt (t .nums) s) p (cellAt (sizeOf t) p) d)) = eq ∙ ap (λ (b : Cell). set (t .reals) s (realsOf (freshRecord (versionAt (t .nums) s) p b d))) ec in
-        let e3 : zs ≡ set (t .ints) s (intsOf (freshRecord (versionAt (t .nums) s) p (cellAt (sizeOf t) p) d)) = ez ∙ ap (λ (b : Cell). set (t .ints) s (intsOf (freshRecord (versionAt (t .nums) s) p b d))) ec in
+        let e1 : ns ≡ set (t .nums) s (numsOf (freshRecord (versionAt (t .nums) s) p (cellAt (sizeOf t) p) d w)) = en ∙ ap (λ (b : Cell). set (t .nums) s (numsOf (freshRecord (versionAt (t .nums) s) p b d w))) ec in
+        let e2 : qs ≡ set (t .reals) s (realsOf (freshRecord (versionAt (t .nums) s) p (cellAt (sizeOf t) p) d w)) = eq ∙ ap (λ (b : Cell). set (t .reals) s (realsOf (freshRecord (versionAt (t .nums) s) p b d w))) ec in
+        let e3 : zs ≡ set (t .ints) s (intsOf (freshRecord (versionAt (t .nums) s) p (cellAt (sizeOf t) p) d w)) = ez ∙ ap (λ (b : Cell). set (t .ints) s (intsOf (freshRecord (versionAt (t .nums) s) p b d w))) ec in
         let e5 : pool ≡ written (map rowOf (entriesWith t s p)) (t .pool) = ep .in-rows ∙ ap (λ (es : List Entry). written (map rowOf es) (t .pool)) entries-are in
         let e6 : spots ≡ written (map spotOf (entriesWith t s p)) (t .spots) = ep .in-spots ∙ ap (λ (es : List Entry). written (map spotOf es) (t .spots)) entries-are in
         let e7 : cells ≡ written (rowsWith t p) (t .cells) = ecs .1 ∙ ap (λ (rs : List (List ℕ)). written rs (t .cells)) rows-are in
-        let used-is : u + 1 ≡ length (entriesWith t s p) = ap (λ (j : ℕ). j + 1) eu ∙ sym (more t (f .holds) s (f .inside) (f .is-free) p d) in
+        let used-is : u + 1 ≡ length (entriesWith t s p) = ap (λ (j : ℕ). j + 1) eu ∙ sym (more t (f .holds) s (f .inside) (f .is-free) p d w) in
         let n-is : n ≡ length (rowsWith t p) = ecs .0 ∙ ap length rows-are in
         let e4 : m ≡ counting (taken (t .map) s) (length (entriesWith t s p)) (length (rowsWith t p)) = em ∙ ap (λ (j : ℕ). counting (taken (t .map) s) j n) used-is ∙ ap (counting (taken (t .map) s) (length (entriesWith t s p))) n-is in
         λ z. tables (e1 z) (e2 z) (e3 z) (e4 z) (e5 z) (e6 z) (e7 z)

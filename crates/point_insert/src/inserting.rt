@@ -29,15 +29,21 @@ struct Choice {
 }
 
 // The first refusal that applies, or the lowest usable slot.
-fn choose(nums: &[Row], map: &[u64], held: bool, at: Position) -> Choice
+fn choose(nums: &[Row], map: &[u64], held: bool, at: Position, tracker: u32) -> Choice
     requires { ⌜ (held ≡ true → (length (now map) ≡ 3 + wordsFor (length (now nums))) × (length (now nums) ≤ mostSlots) × NonePast (now map) (length (now nums))) ⌝ }
-    ensures { λ r. ⌜ Chosen held at (was map) (length (was nums)) (r .answer) (r .slot) ⌝ }
+    ensures { λ r. ⌜ Chosen held at tracker (was map) (length (was nums)) (r .answer) (r .slot) ⌝ }
 {
     if !held {
         return Choice { answer: 3, slot: 0 };
     }
     if !geometry::position_in_domain(at) {
         return Choice { answer: 6, slot: 0 };
+    }
+    if tracker > point_records::LAST_TRACKER {
+        return Choice {
+            answer: 13,
+            slot: 0,
+        };
     }
     let u = slots::lowest(map, nums.len());
     match u {
@@ -63,9 +69,10 @@ fn accepted(nums: &[Row], s: usize) -> Inserted
 }
 
 // The record of a new object: nothing is pending.
-fn fresh_record(version: u32, at: Position, cell: Cell, obj: u32) -> Record
-    ensures { λ r. ⌜ r ≡ freshRecord version at cell obj ⌝ }
+fn fresh_record(version: u32, at: Position, cell: Cell, obj: u32, tracker: u32) -> Record
+    ensures { λ r. ⌜ r ≡ freshRecord version at cell obj tracker ⌝ }
 {
+    let tracker = point_records::tracker_of(tracker);
     Record {
         version,
         phase: slots::LIVE,
@@ -73,6 +80,7 @@ fn fresh_record(version: u32, at: Position, cell: Cell, obj: u32) -> Record
         position: at,
         cell,
         state: State::Unchanged,
+        tracker,
     }
 }
 
@@ -85,12 +93,13 @@ fn occupy(
     at: Position,
     cell: Cell,
     obj: u32,
+    tracker: u32,
 )
     requires { ⌜ (s < length (now nums)) × (s < length (now reals)) × (s < length (now ints)) ⌝ }
-    ensures { λ _. ⌜ Stored nums reals ints s (freshRecord (versionAt (was nums) s) at cell obj) ⌝ }
+    ensures { λ _. ⌜ Stored nums reals ints s (freshRecord (versionAt (was nums) s) at cell obj tracker) ⌝ }
 {
     let row = nums[s];
-    let r = fresh_record(row[0], at, cell, obj);
+    let r = fresh_record(row[0], at, cell, obj, tracker);
     point_records::store(nums, reals, ints, s, r);
 }
 
@@ -116,9 +125,10 @@ fn put(
     s: usize,
     at: Position,
     obj: u32,
+    tracker: u32,
 )
     requires { ⌜ Fresh (lent nums reals ints map pool spots cells) s at ⌝ }
-    ensures { λ _. ⌜ after nums reals ints map pool spots cells ≡ Insert.put (before nums reals ints map pool spots cells) s at obj ⌝ }
+    ensures { λ _. ⌜ after nums reals ints map pool spots cells ≡ Insert.put (before nums reals ints map pool spots cells) s at obj tracker ⌝ }
 {
     let used = basics::index_of(map[1]);
     let rows = basics::index_of(map[2]);
@@ -130,7 +140,7 @@ fn put(
     };
     let row = point_records::entry_row(key, e);
     let spot = point_records::entry_spot(e);
-    occupy(nums, reals, ints, s, at, cell, obj);
+    occupy(nums, reals, ints, s, at, cell, obj, tracker);
     storage::append_entry(pool, spots, used, row, spot);
     let more = storage::enter_cell(cells, rows, key);
     count(map, s, used + 1, more);
@@ -146,17 +156,30 @@ pub fn insert(
     cells: &mut [[u64; 2]],
     at: Position,
     obj: u32,
+    tracker: u32,
 ) -> Inserted
-    ensures { λ r. ⌜ outcome r (after nums reals ints map pool spots cells) ≡ insertOf (before nums reals ints map pool spots cells) at obj ⌝ }
+    ensures { λ r. ⌜ outcome r (after nums reals ints map pool spots cells) ≡ insertOf (before nums reals ints map pool spots cells) at obj tracker ⌝ }
 {
     let held = point_tables::check(nums, reals, ints, map, pool, spots, cells);
-    let c = choose(nums, map, held, at);
+    let c = choose(nums, map, held, at, tracker);
     let a = c.answer;
     if a != 0 {
         return replies::refused_insert(a);
     }
     let s = c.slot;
     let r = accepted(nums, s);
-    put(nums, reals, ints, map, pool, spots, cells, s, at, obj);
+    put(
+        nums,
+        reals,
+        ints,
+        map,
+        pool,
+        spots,
+        cells,
+        s,
+        at,
+        obj,
+        tracker,
+    );
     r
 }

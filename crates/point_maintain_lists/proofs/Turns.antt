@@ -4,7 +4,7 @@ use lib.Ieee.{Float}
 use Rattle.storage.specs.Meaning.Entries.{Entry}
 use Rattle.storage.specs.Meaning.Packed.{second}
 use Rattle.storage.proofs.laws.FilterLaws.{all-any}
-use Rattle.point_records.specs.Meaning.Columns.{tagIn}
+use Rattle.point_records.specs.Meaning.Word.{tagIn}
 use Rattle.point_tables.specs.Inner.Entry.{entryAt}
 use Rattle.point_maintain.specs.Meaning.Walk.{Fate, stays}
 use Rattle.point_maintain.proofs.laws.KeptLaws.{kept-calm}

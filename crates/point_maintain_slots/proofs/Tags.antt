@@ -5,7 +5,8 @@ use Rattle.basics.specs.Meaning.Refusals.{pick}
 use Rattle.basics.proofs.laws.Says.{apart, untrue, both-true}
 use Rattle.slots.specs.Meaning.Slot.{live, phaseAt}
 use Rattle.storage.proofs.laws.FilterLaws.{by-test}
-use Rattle.point_records.specs.Meaning.Columns.{tagIn, tagAt, positionIn, pickState}
+use Rattle.point_records.specs.Meaning.Columns.{positionIn, pickState}
+use Rattle.point_records.specs.Meaning.Word.{tagIn, tagAt}
 use Rattle.point_records.specs.declared.State.the-variants.{Unchanged, Removed}
 use Rattle.point_records.specs.Meaning.States.{isRemoved}
 use Rattle.point_maintain.specs.Meaning.Moved.{movesFrom, hasMoved}

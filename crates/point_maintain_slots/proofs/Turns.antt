@@ -9,7 +9,10 @@ use Rattle.slots.specs.Meaning.Slot.{live, phaseAt, emptiedNums, emptiedMap}
 use Rattle.storage.specs.Meaning.Entries.{rowOf}
 use Rattle.point_records.specs.declared.State.{State}
 use Rattle.point_records.specs.declared.State.the-variants.{Unchanged, NewPos, Relocate, Removed}
-use Rattle.point_records.specs.Meaning.Columns.{tagIn, recordAt}
+use Rattle.point_records.specs.Meaning.Columns.{recordAt}
+use Rattle.point_records.specs.Meaning.Word.{wordOf, tagIn}
+use Rattle.point_records.specs.Inner.Rows.{withTag}
+use Rattle.point_records.proofs.laws.WordLaws.{number-in}
 use Rattle.point_tables.specs.Meaning.Tables.{Tables, slotsOf, recordOn}
 use Rattle.point_tables.specs.Inner.Count.{isLive}
 use Rattle.point_maintain.specs.Meaning.Walk.{settled, settledBy}
@@ -21,13 +24,16 @@ use Rattle.point_maintain_slots.specs.Inner.Pass.{recordTables, Slotted,
 use Rattle.point_maintain_slots.proofs.laws.PutLaws.{put-none, put-one, put-length, put-more}
 use Rattle.point_maintain_slots.proofs.laws.PassLaws.{next-turned, next-rows, next-slotted, below-next, below-count, below-grows}
 
--- ---- the rows that `place` writes, where each signed number is known by an equation
-pub made : (ns : List (List ℕ)) (qs : List (List Float)) (zs : List (List ℤ)) (s : ℕ) (c : Cell) (x y u v : ℤ) → x ≡ c .x → y ≡ c .y → u ≡ c .x → v ≡ c .y
+-- ---- the rows that `place` writes, where the row of numbers and each signed number are known by an equation
+pub made : (ns : List (List ℕ)) (qs : List (List Float)) (zs : List (List ℤ)) (s : ℕ) (c : Cell) (n : List ℕ) (x y u v : ℤ)
+    → n ≡ withTag (getD ns s []) 0 → x ≡ c .x → y ≡ c .y → u ≡ c .x → v ≡ c .y
     → Placed ns qs zs s c
-    (set ns s (getD (getD ns s []) 0 0 ∷ getD (getD ns s []) 1 0 ∷ getD (getD ns s []) 2 0 ∷ 0 ∷ []))
+    (set ns s n)
     (set qs s (getD (getD qs s []) 2 nan ∷ getD (getD qs s []) 3 nan ∷ getD (getD qs s []) 2 nan ∷ getD (getD qs s []) 3 nan ∷ []))
     (set zs s (x ∷ y ∷ u ∷ v ∷ []))
-made ns qs zs s c x y u v ex ey eu ev = (refl, refl, cc)
+made ns qs zs s c n x y u v en ex ey eu ev =
+    let w = getD ns s [] in
+    (ap (set ns s) (en ∙ ap (λ (k : ℕ). getD w 0 0 ∷ getD w 1 0 ∷ getD w 2 0 ∷ wordOf k 0 ∷ []) (sym (number-in w))), refl, cc)
 
 -- ---- the turn of slot s, by its phase and its tag: what stands in the tables then, the rows put, and the pool
 module _ (ns : List (List ℕ)) (qs : List (List Float)) (zs : List (List ℤ)) (m : List ℕ) (s at : ℕ) (l : List (List ℕ)) where

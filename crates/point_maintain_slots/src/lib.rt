@@ -22,7 +22,7 @@ fn place(nums: &mut [Row], reals: &mut [[f32; 4]], ints: &mut [[i32; 4]], s: usi
 {
     let n = nums[s];
     let q = reals[s];
-    nums[s] = [n[0], n[1], n[2], 0];
+    nums[s] = point_records::with_tag(n, 0);
     reals[s] = [q[2], q[3], q[2], q[3]];
     ints[s] = [c.x, c.y, c.x, c.y];
 }

@@ -32,6 +32,7 @@ fn none(answer: u32) -> Nearest
         },
         position: Position { x: 0.0, y: 0.0 },
         obj: 0,
+        tracker: 0,
     }
 }
 
@@ -53,6 +54,7 @@ fn told(nums: &[Row], pool: &[[u64; 2]], spots: &[[f32; 2]], b: Best) -> Nearest
         handle,
         position,
         obj: f.obj,
+        tracker: f.tracker,
     }
 }
 

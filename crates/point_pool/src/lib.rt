@@ -53,9 +53,13 @@ fn entry_ok(
     if !point_records::in_cell(size, c, x, y, q, z) {
         return false;
     }
-    // the row anew, so that no more of it than the tag is loaded and kept
+    // the row anew, so that no more of it than the word is loaded and kept
     let row = nums[s];
-    let tag = point_records::tag_in(row);
+    let word = point_records::parts_in(row);
+    if !word.fits {
+        return false;
+    }
+    let tag = word.tag;
     if tag == 0 {
         return true;
     }

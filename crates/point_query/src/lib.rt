@@ -26,7 +26,7 @@ pub fn query(
     ur: Position,
     found: &mut [[u32; 2]],
     places: &mut [[f32; 2]],
-    objs: &mut [u32],
+    objs: &mut [[u32; 2]],
 ) -> Count
     ensures { λ r. ⌜ Finds (λ t. queryOf t ll ur) r found places objs nums reals ints map pool spots cells ⌝ }
 {
@@ -62,7 +62,7 @@ pub fn query_around(
     radius: f32,
     found: &mut [[u32; 2]],
     places: &mut [[f32; 2]],
-    objs: &mut [u32],
+    objs: &mut [[u32; 2]],
 ) -> Count
     ensures { λ r. ⌜ Finds (λ t. aroundOf t centre radius) r found places objs nums reals ints map pool spots cells ⌝ }
 {
@@ -100,7 +100,7 @@ pub fn query_aabb(
     b: Position,
     found: &mut [[u32; 2]],
     places: &mut [[f32; 2]],
-    objs: &mut [u32],
+    objs: &mut [[u32; 2]],
 ) -> Count
     ensures { λ r. ⌜ Finds (λ t. aabbOf t a b) r found places objs nums reals ints map pool spots cells ⌝ }
 {

@@ -3,3 +3,5 @@ pub mod OccupiedLaws
 pub mod ColumnLaws
 pub mod KeptLaws
 pub mod Decide
+pub mod WordLaws
+pub mod OwnLaws

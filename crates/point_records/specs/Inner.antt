@@ -3,3 +3,4 @@ pub mod Decide
 pub mod Kept
 pub mod Listed
 pub mod Occupied
+pub mod Rows

@@ -2,3 +2,5 @@
 pub mod Columns
 pub mod Occupied
 pub mod States
+pub mod Trackers
+pub mod Word

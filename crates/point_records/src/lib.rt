@@ -1,5 +1,5 @@
 // The object records of the point grid, and the columns that they stand in. The Rust's StoreObject and ObjectState.
-ghost use Rattle.basics.specs.Words.{_≤_, _<_, _≡_, [], length, set};
+ghost use Rattle.basics.specs.Words.{_<_, _≡_, [], length, set};
 ghost use Rattle.basics.specs.Meaning.Lent.{was, is};
 ghost use Rattle.basics.specs.Meaning.Says.{Says};
 ghost use Rattle.cells.specs.Meaning.Size.{SizeInDomain};
@@ -8,11 +8,12 @@ ghost use Rattle.cells.specs.Inner.Span.{Spans};
 ghost use Rattle.cells.specs.Meaning.Key.{keyOf};
 ghost use Rattle.point_records.specs.Meaning.Occupied.{InDomain, Agrees};
 ghost use Rattle.point_records.specs.Inner.Occupied.{InCell};
-ghost use Rattle.point_records.specs.Meaning.Columns.{tagIn, tagOf, pendingOf, targetOf, stateOf, recordAt, numsOf, realsOf, intsOf, recordOf, pendingIn};
+ghost use Rattle.point_records.specs.Meaning.Columns.{tagOf, pendingOf, targetOf, stateOf, recordAt, numsOf, realsOf, intsOf, recordOf, pendingIn};
 ghost use Rattle.point_records.specs.Inner.Kept.{Kept};
 
 mod entries;
 mod spans;
+mod trackers;
 
 use cells::Cell;
 use cells::Span;
@@ -23,6 +24,13 @@ pub use entries::spot_at;
 use geometry::Position;
 use slots::Row;
 pub use spans::span_at;
+pub use trackers::LAST_TRACKER;
+pub use trackers::own_refusal;
+pub use trackers::parts_in;
+pub use trackers::tag_in;
+pub use trackers::tracker_in;
+pub use trackers::tracker_of;
+pub use trackers::with_tag;
 
 // What maintain has still to do to an object.
 pub enum State {
@@ -32,7 +40,26 @@ pub enum State {
     Removed,
 }
 
-// A slot's record: version and phase (0 free, 1 live, 2 retired), the object's data, where it is recorded, and its state.
+// A table of records is lent by the caller, with whatever it holds: so a record has one of eight, and no number that could be above 7.
+pub enum Tracker {
+    T0,
+    T1,
+    T2,
+    T3,
+    T4,
+    T5,
+    T6,
+    T7,
+}
+
+// What the fourth number of a slot's row says, and whether it may be that of an occupied slot.
+pub struct Parts {
+    pub fits: bool,
+    pub tracker: u32,
+    pub tag: u32,
+}
+
+// A slot's record: version and phase (0 free, 1 live, 2 retired), the object's data, where it is recorded, its state, and its tracker.
 pub struct Record {
     pub version: u32,
     pub phase: u32,
@@ -40,6 +67,7 @@ pub struct Record {
     pub position: Position,
     pub cell: Cell,
     pub state: State,
+    pub tracker: Tracker,
 }
 
 // An entry of a cell's list: the object's slot and its recorded position.
@@ -96,13 +124,6 @@ pub fn target_of(s: State, c: Cell) -> Cell
     }
 }
 
-// The tag of the state in a slot's row: no other code reads it.
-pub fn tag_in(row: Row) -> u32
-    ensures { λ r. ⌜ r ≡ tagIn row ⌝ }
-{
-    row[3]
-}
-
 pub fn load(nums: &[Row], reals: &[[f32; 4]], ints: &[[i32; 4]], i: usize) -> Record
     requires { ⌜ (i < length (now nums)) × (i < length (now reals)) × (i < length (now ints)) ⌝ }
     ensures { λ r. ⌜ r ≡ recordAt (was nums) (was reals) (was ints) i ⌝ }
@@ -110,9 +131,10 @@ pub fn load(nums: &[Row], reals: &[[f32; 4]], ints: &[[i32; 4]], i: usize) -> Re
     let n = nums[i];
     let q = reals[i];
     let z = ints[i];
-    let tag = tag_in(n);
+    let word = parts_in(n);
+    let tracker = trackers::tracker_of(word.tracker);
     let state = state_of(
-        tag,
+        word.tag,
         Position { x: q[2], y: q[3] },
         Cell { x: z[2], y: z[3] },
     );
@@ -123,7 +145,18 @@ pub fn load(nums: &[Row], reals: &[[f32; 4]], ints: &[[i32; 4]], i: usize) -> Re
         position: Position { x: q[0], y: q[1] },
         cell: Cell { x: z[0], y: z[1] },
         state,
+        tracker,
     }
+}
+
+// The row of numbers that a record takes.
+pub fn nums_of(r: Record) -> Row
+    ensures { λ n. ⌜ n ≡ numsOf r ⌝ }
+{
+    let s = r.state;
+    let t = r.tracker;
+    let word = trackers::word_of(trackers::number_of(t), tag_of(s));
+    [r.version, r.phase, r.obj, word]
 }
 
 pub fn store(nums: &mut [Row], reals: &mut [[f32; 4]], ints: &mut [[i32; 4]], i: usize, r: Record)
@@ -135,8 +168,7 @@ pub fn store(nums: &mut [Row], reals: &mut [[f32; 4]], ints: &mut [[i32; 4]], i:
     let s = r.state;
     let q = pending_of(s, p);
     let d = target_of(s, c);
-    let t = tag_of(s);
-    nums[i] = [r.version, r.phase, r.obj, t];
+    nums[i] = nums_of(r);
     reals[i] = [p.x, p.y, q.x, q.y];
     ints[i] = [c.x, c.y, d.x, d.y];
 }
@@ -194,19 +226,16 @@ fn agrees(
     ends: &mut [[f32; 2]; 128],
 ) -> bool
     requires { ⌜ SizeInDomain size × Spans size (c .x) (x .lo) (x .hi) × Spans size (c .y) (y .lo) (y .hi) × (tag ≡ 0 → ⊥) × Kept size (now known) (now ends) ⌝ }
-    ensures says { λ b. ⌜ Says b ((tag ≤ 3) × Agrees size c (stateOf tag p to)) ⌝ }
+    ensures says { λ b. ⌜ Says b (Agrees size c (stateOf tag p to)) ⌝ }
     ensures kept { λ b. ⌜ Kept size (is known) (is ends) ⌝ }
 {
-    if tag == 3 {
-        return true;
-    }
     if tag == 1 {
         return inside(size, c, x, y, p);
     }
     if tag == 2 {
         return relocated(size, p, to, c, known, ends);
     }
-    false
+    true
 }
 
 // Whether what is pending agrees, for an object whose cell, that of row z, has these spans.
@@ -221,7 +250,7 @@ pub fn pending_ok(
     ends: &mut [[f32; 2]; 128],
 ) -> bool
     requires { ⌜ SizeInDomain size × Spans size (recordOf [] q z .cell .x) (x .lo) (x .hi) × Spans size (recordOf [] q z .cell .y) (y .lo) (y .hi) × (tag ≡ 0 → ⊥) × Kept size (now known) (now ends) ⌝ }
-    ensures says { λ b. ⌜ Says b ((tag ≤ 3) × Agrees size (recordOf [] q z .cell) (pendingIn tag q z)) ⌝ }
+    ensures says { λ b. ⌜ Says b (Agrees size (recordOf [] q z .cell) (pendingIn tag q z)) ⌝ }
     ensures kept { λ b. ⌜ Kept size (is known) (is ends) ⌝ }
 {
     agrees(

@@ -1,11 +1,12 @@
-// `remove_maintain`: the object is taken out now, whatever its state. The last entry of its list moves into the gap.
-ghost use Rattle.basics.specs.Words.{_+_, _/_, _≤_, _<_, _≡_, [], _∷_, length, take};
+// `remove_maintain`: the object, which is this tracker's, is taken out now, whatever its state. The last entry of its list moves into the gap.
+ghost use Rattle.basics.specs.Words.{_+_, _/_, _≤_, _<_, _≡_, _∷_, length, take};
 ghost use Rattle.basics.specs.Meaning.Lent.{was, is};
 ghost use Rattle.basics.specs.Meaning.Refusals.{unless, firstOf};
-ghost use Rattle.slots.specs.Meaning.Slot.{handleTest, emptiedNums, emptiedMap};
+ghost use Rattle.slots.specs.Meaning.Slot.{emptiedNums, emptiedMap};
 ghost use Rattle.storage.specs.Inner.Keyed.{Sorted};
 ghost use Rattle.storage.specs.Meaning.Entries.{rowKey};
 ghost use Rattle.storage.specs.Inner.Tables.{Rising};
+ghost use Rattle.point_records.specs.Meaning.Trackers.{ownTests};
 ghost use Rattle.point_tables.specs.Meaning.Lent.{lent, before, after};
 ghost use Rattle.point_tables.specs.Meaning.Tables.{counting};
 ghost use Rattle.point_tables.specs.Meaning.Outcome.{outcome};
@@ -16,13 +17,13 @@ use slots::Handle;
 use slots::Row;
 
 // The answer: the first refusal that applies, or 0. The object's state is not looked at.
-fn answer(nums: &[Row], held: bool, h: Handle) -> u32
-    ensures { λ r. ⌜ r ≡ firstOf (unless held 3 ∷ handleTest (was nums) h ∷ []) ⌝ }
+fn answer(nums: &[Row], held: bool, h: Handle, tracker: u32) -> u32
+    ensures { λ r. ⌜ r ≡ firstOf (unless held 3 ∷ ownTests (was nums) h tracker) ⌝ }
 {
     if !held {
         return 3;
     }
-    slots::refusal_of(nums, h)
+    point_records::own_refusal(nums, h, tracker)
 }
 
 // The row of a cell whose list is empty goes. Returns how many rows are left.
@@ -88,11 +89,12 @@ pub fn remove_maintain(
     spots: &mut [[f32; 2]],
     cells: &mut [[u64; 2]],
     h: Handle,
+    tracker: u32,
 ) -> Reply
-    ensures { λ r. ⌜ outcome r (after nums reals ints map pool spots cells) ≡ removeMaintainOf (before nums reals ints map pool spots cells) h ⌝ }
+    ensures { λ r. ⌜ outcome r (after nums reals ints map pool spots cells) ≡ removeMaintainOf (before nums reals ints map pool spots cells) h tracker ⌝ }
 {
     let held = point_tables::check(nums, reals, ints, map, pool, spots, cells);
-    let a = answer(nums, held, h);
+    let a = answer(nums, held, h, tracker);
     if a != 0 {
         return Reply { answer: a, obj: 0 };
     }

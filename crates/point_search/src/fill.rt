@@ -3,7 +3,7 @@ ghost use Rattle.basics.specs.Words.{_≤_, _<_, min, _≡_, length, set, take}
 ghost use Rattle.basics.specs.Meaning.Limits.{mostSlots};
 ghost use Rattle.basics.specs.Meaning.Lent.{was, is};
 ghost use Rattle.storage.specs.Meaning.Keyed.{written};
-ghost use Rattle.point_search.specs.Meaning.Searches.{handleRow, placeRow, findings};
+ghost use Rattle.point_search.specs.Meaning.Searches.{handleRow, placeRow, objRow, findings};
 ghost use Rattle.point_search.specs.Meaning.Lent.{lentOutputs, outputsBefore, outputsAfter};
 ghost use Rattle.point_search.specs.Inner.Fill.{findingOf, filled};
 ghost use Rattle.point_search.specs.Inner.Asked.{Searchable, searchFills, BegunBy, Reportable, Reported, RoomFor, SearchReported};
@@ -20,7 +20,7 @@ use replies::Count;
 use slots::Handle;
 use slots::Row;
 
-// What is reported of an entry: the handle of its slot, its position, and the data that stands in the slot's row.
+// What is reported of an entry: the handle of its slot, its position, and the data and the tracker that stand in the slot's row.
 pub fn finding_of(nums: &[Row], e: Entry) -> Finding
     requires { ⌜ (e .slot < length (now nums)) × (length (now nums) ≤ mostSlots) ⌝ }
     ensures { λ r. ⌜ r ≡ findingOf (was nums) e ⌝ }
@@ -35,6 +35,7 @@ pub fn finding_of(nums: &[Row], e: Entry) -> Finding
         },
         position,
         obj: n[2],
+        tracker: point_records::tracker_in(n),
     }
 }
 
@@ -49,20 +50,20 @@ fn room(handles: usize, places: usize, objs: usize) -> usize
 fn put_finding(
     handles: &mut [[u32; 2]],
     places: &mut [[f32; 2]],
-    objs: &mut [u32],
+    objs: &mut [[u32; 2]],
     k: usize,
     f: Finding,
 )
     requires { ⌜ (k < length (now handles)) × (k < length (now places)) × (k < length (now objs)) ⌝ }
     ensures handles { λ _. ⌜ is handles ≡ set (was handles) k (handleRow f) ⌝ }
     ensures places { λ _. ⌜ is places ≡ set (was places) k (placeRow f) ⌝ }
-    ensures objs { λ _. ⌜ is objs ≡ set (was objs) k (f .obj) ⌝ }
+    ensures objs { λ _. ⌜ is objs ≡ set (was objs) k (objRow f) ⌝ }
 {
     let h = f.handle;
     let p = f.position;
     handles[k] = [h.slot, h.version];
     places[k] = [p.x, p.y];
-    objs[k] = f.obj;
+    objs[k] = [f.obj, f.tracker];
 }
 
 // Writes what is reported of the entries at the first r places found, from place 0 of the outputs on.
@@ -74,7 +75,7 @@ fn put_findings(
     r: usize,
     handles: &mut [[u32; 2]],
     places: &mut [[f32; 2]],
-    objs: &mut [u32],
+    objs: &mut [[u32; 2]],
 )
     requires { ⌜ Reportable (now nums) (now pool) (now spots) (now found) r × RoomFor r (lentOutputs handles places objs) ⌝ }
     ensures { λ _. ⌜ Reported (was nums) (was pool) (was spots) (take r (was found)) (outputsBefore handles places objs) (outputsAfter handles places objs) ⌝ }
@@ -98,7 +99,7 @@ fn report(
     r: usize,
     handles: &mut [[u32; 2]],
     places: &mut [[f32; 2]],
-    objs: &mut [u32],
+    objs: &mut [[u32; 2]],
 ) -> Count
     requires { ⌜ Reportable (now nums) (now pool) (now spots) (now found) r × (r ≤ mostSlots) ⌝ }
     ensures { λ c. ⌜ findings c (outputsAfter handles places objs) ≡ filled (was nums) (was pool) (was spots) (take r (was found)) (outputsBefore handles places objs) ⌝ }
@@ -142,7 +143,7 @@ fn fill_many(
     part: Part,
     handles: &mut [[u32; 2]],
     places: &mut [[f32; 2]],
-    objs: &mut [u32],
+    objs: &mut [[u32; 2]],
 ) -> Count
     requires { ⌜ Searchable a b (now nums) (now pool) (now spots) used × (part .place ≤ used) × BegunBy a b test (now pool) (now spots) part (now few) ⌝ }
     ensures { λ r. ⌜ findings r (outputsAfter handles places objs) ≡ searchFills a b test (was nums) (was pool) (was spots) used (outputsBefore handles places objs) ⌝ }
@@ -164,7 +165,7 @@ fn fill_few(
     test: Test,
     handles: &mut [[u32; 2]],
     places: &mut [[f32; 2]],
-    objs: &mut [u32],
+    objs: &mut [[u32; 2]],
 ) -> Count
     requires { ⌜ Searchable a b (now nums) (now pool) (now spots) used ⌝ }
     ensures { λ r. ⌜ findings r (outputsAfter handles places objs) ≡ searchFills a b test (was nums) (was pool) (was spots) used (outputsBefore handles places objs) ⌝ }
@@ -205,7 +206,7 @@ fn put_run(
     n: usize,
     handles: &mut [[u32; 2]],
     places: &mut [[f32; 2]],
-    objs: &mut [u32],
+    objs: &mut [[u32; 2]],
 ) -> usize
     requires { ⌜ StretchReportable (now nums) (now pool) (now spots) from to n (lentOutputs handles places objs) ⌝ }
     ensures { λ r. ⌜ StretchReported test (was nums) (was pool) (was spots) from to n (outputsBefore handles places objs) r (outputsAfter handles places objs) ⌝ }
@@ -236,7 +237,7 @@ fn put_range(
     test: Test,
     handles: &mut [[u32; 2]],
     places: &mut [[f32; 2]],
-    objs: &mut [u32],
+    objs: &mut [[u32; 2]],
 ) -> usize
     requires { ⌜ Searchable a b (now nums) (now pool) (now spots) used × RoomFor used (lentOutputs handles places objs) ⌝ }
     ensures { λ r. ⌜ SearchReported a b test (was nums) (was pool) (was spots) used (outputsBefore handles places objs) r (outputsAfter handles places objs) ⌝ }
@@ -275,7 +276,7 @@ pub fn fill(
     test: Test,
     handles: &mut [[u32; 2]],
     places: &mut [[f32; 2]],
-    objs: &mut [u32],
+    objs: &mut [[u32; 2]],
 ) -> Count
     requires { ⌜ Searchable a b (now nums) (now pool) (now spots) used ⌝ }
     ensures { λ r. ⌜ findings r (outputsAfter handles places objs) ≡ searchFills a b test (was nums) (was pool) (was spots) used (outputsBefore handles places objs) ⌝ }

@@ -32,6 +32,7 @@ pub struct Finding {
     pub handle: Handle,
     pub position: Position,
     pub obj: u32,
+    pub tracker: u32,
 }
 
 // The cells of the corners of a range, beside the answer to it; zeros where it is refused.
@@ -104,7 +105,7 @@ pub fn search(
     test: Test,
     handles: &mut [[u32; 2]],
     places: &mut [[f32; 2]],
-    objs: &mut [u32],
+    objs: &mut [[u32; 2]],
 ) -> Count
     requires { ⌜ (ok ≡ true → Reached ll × Reached ur) ⌝ }
     ensures { λ r. ⌜ Finds (λ t. searchOf t ok ll ur test) r handles places objs nums reals ints map pool spots cells ⌝ }

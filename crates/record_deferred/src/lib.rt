@@ -25,16 +25,17 @@ pub fn set_position_for(
     cells: &mut [[u64; 2]],
     h: Handle,
     at: Position,
+    tracker: u32,
 ) -> u32
-    ensures { λ r. ⌜ outcome (reply r 0) (after nums reals ints map pool spots cells) ≡ setPositionFor n (before nums reals ints map pool spots cells) h at ⌝ }
+    ensures { λ r. ⌜ outcome (reply r 0) (after nums reals ints map pool spots cells) ≡ setPositionFor n (before nums reals ints map pool spots cells) h at tracker ⌝ }
 {
     if n != nums.len() {
         return 3;
     }
-    points::set_position(nums, reals, ints, map, pool, spots, cells, h, at)
+    points::set_position(nums, reals, ints, map, pool, spots, cells, h, at, tracker)
 }
 
-// Where the object shall be after the next maintain. 3, 6, 11, 12, 1.
+// Where the object shall be after the next maintain, if it is this tracker's. 3, 6, 13, 11, 12, 14, 1.
 pub fn set_position(
     records: &mut [Record],
     nums: &mut [Row],
@@ -46,12 +47,25 @@ pub fn set_position(
     cells: &mut [[u64; 2]],
     h: Handle,
     at: Position,
+    tracker: u32,
 ) -> u32
-    ensures { λ r. ⌜ Shows (λ rs t. setPositionOn rs t h at) (reply r 0) records nums reals ints map pool spots cells ⌝ }
+    ensures { λ r. ⌜ Shows (λ rs t. setPositionOn rs t h at tracker) (reply r 0) records nums reals ints map pool spots cells ⌝ }
 {
     records::spread(records, nums, reals, ints);
     let n = records.len();
-    let r = set_position_for(n, nums, reals, ints, map, pool, spots, cells, h, at);
+    let r = set_position_for(
+        n,
+        nums,
+        reals,
+        ints,
+        map,
+        pool,
+        spots,
+        cells,
+        h,
+        at,
+        tracker,
+    );
     records::gather(records, nums, reals, ints);
     r
 }
@@ -66,16 +80,17 @@ pub fn remove_for(
     spots: &[[f32; 2]],
     cells: &mut [[u64; 2]],
     h: Handle,
+    tracker: u32,
 ) -> Reply
-    ensures { λ r. ⌜ outcome r (after nums reals ints map pool spots cells) ≡ removeFor n (before nums reals ints map pool spots cells) h ⌝ }
+    ensures { λ r. ⌜ outcome r (after nums reals ints map pool spots cells) ≡ removeFor n (before nums reals ints map pool spots cells) h tracker ⌝ }
 {
     if n != nums.len() {
         return Reply { answer: 3, obj: 0 };
     }
-    points::remove(nums, reals, ints, map, pool, spots, cells, h)
+    points::remove(nums, reals, ints, map, pool, spots, cells, h, tracker)
 }
 
-// Marks the object; gives the data. 3, 11, 12.
+// Marks the object, if it is this tracker's; gives the data. 3, 13, 11, 12, 14.
 pub fn remove(
     records: &mut [Record],
     nums: &mut [Row],
@@ -86,12 +101,13 @@ pub fn remove(
     spots: &[[f32; 2]],
     cells: &mut [[u64; 2]],
     h: Handle,
+    tracker: u32,
 ) -> Reply
-    ensures { λ r. ⌜ Shows (λ rs t. removeOn rs t h) r records nums reals ints map pool spots cells ⌝ }
+    ensures { λ r. ⌜ Shows (λ rs t. removeOn rs t h tracker) r records nums reals ints map pool spots cells ⌝ }
 {
     records::spread(records, nums, reals, ints);
     let n = records.len();
-    let r = remove_for(n, nums, reals, ints, map, pool, spots, cells, h);
+    let r = remove_for(n, nums, reals, ints, map, pool, spots, cells, h, tracker);
     records::gather(records, nums, reals, ints);
     r
 }

@@ -1,6 +1,6 @@
 // A small history on a table of records that is made by value: an object that is on its way to another cell is asked for, is settled, and is
-// asked for again; tables that are no grid are refused. Each line is what was asked, get's answer and the data, and the state of the record:
-// 0 unchanged, 1 new position, 2 relocate, 3 removed. The columns are scratch.
+// asked for again; tables that are no grid are refused. Each line is what was asked, get's answer, the data and the tracker, and the state of the
+// record: 0 unchanged, 1 new position, 2 relocate, 3 removed. The columns are scratch. Before it, who may send the object there: the tracker and the answer.
 ghost use Rattle.basics.specs.Words.{_≡_};
 ghost use Rattle.point_tables.specs.Meaning.Lent.{before};
 ghost use Rattle.record_maintain.specs.Meaning.Calls.{maintainOn};
@@ -11,6 +11,7 @@ use libc::STDOUT_FILENO;
 use point_get::Got;
 use point_records::Record;
 use point_records::State;
+use point_records::Tracker;
 use slots::Handle;
 use slots::Row;
 
@@ -65,6 +66,8 @@ fn tell(what: &[u8], g: Got, t: [Record; 2]) {
     say(b",");
     number(g.obj);
     say(b",");
+    number(g.tracker);
+    say(b",");
     let s = r.state;
     let k = point_records::tag_of(s);
     number(k);
@@ -90,8 +93,8 @@ fn ask(
     tell(what, g, t);
 }
 
-// The object of slot 0, at the origin, of a version, on its way to (16, 0), which is of cell (1, 0); slot 1 is free.
-fn table(version: u32, target: Cell) -> [Record; 2] {
+// The object of slot 0, a tracker's, at the origin, of a version, on its way to (16, 0), which is of cell (1, 0); slot 1 is free.
+fn table(version: u32, target: Cell, tracker: Tracker) -> [Record; 2] {
     let home = Cell { x: 0, y: 0 };
     let origin = Position { x: 0.0, y: 0.0 };
     let state = State::Relocate(Position { x: 16.0, y: 0.0 }, target);
@@ -102,6 +105,7 @@ fn table(version: u32, target: Cell) -> [Record; 2] {
         position: origin,
         cell: home,
         state,
+        tracker,
     };
     let nothing = Record {
         version: 1,
@@ -110,6 +114,7 @@ fn table(version: u32, target: Cell) -> [Record; 2] {
         position: origin,
         cell: home,
         state: State::Unchanged,
+        tracker: Tracker::T0,
     };
     [moving, nothing]
 }
@@ -123,9 +128,20 @@ fn history(
     spots: &mut [[f32; 2]; 2],
     cells: &mut [[u64; 2]; 2],
 ) {
-    let t = table(1, Cell { x: 1, y: 0 });
+    let t = table(1, Cell { x: 1, y: 0 }, Tracker::T1);
     ask(b"moving ", t, nums, reals, ints, map, pool, spots, cells);
-    let wrong = table(1, Cell { x: 5, y: 0 });
+    ask(
+        b"of tracker 2 ",
+        table(1, Cell { x: 1, y: 0 }, Tracker::T2),
+        nums,
+        reals,
+        ints,
+        map,
+        pool,
+        spots,
+        cells,
+    );
+    let wrong = table(1, Cell { x: 5, y: 0 }, Tracker::T1);
     ask(
         b"wrong target ",
         wrong,
@@ -151,7 +167,7 @@ fn history(
     );
     ask(
         b"version 0 ",
-        table(0, Cell { x: 1, y: 0 }),
+        table(0, Cell { x: 1, y: 0 }, Tracker::T1),
         nums,
         reals,
         ints,
@@ -174,6 +190,27 @@ fn history(
     );
 }
 
+// A tracker sends the object to (16, 0): its number and the answer.
+fn send(
+    nums: &mut [[u32; 4]; 2],
+    reals: &mut [[f32; 4]; 2],
+    ints: &mut [[i32; 4]; 2],
+    map: &[u64; 4],
+    pool: &[[u64; 2]; 2],
+    spots: &[[f32; 2]; 2],
+    cells: &mut [[u64; 2]; 2],
+    h: Handle,
+    tracker: u32,
+) {
+    let away = Position { x: 16.0, y: 0.0 };
+    let answer = points::set_position(nums, reals, ints, map, pool, spots, cells, h, away, tracker);
+    say(b"sent by ");
+    number(tracker);
+    say(b" ");
+    number(answer);
+    say(b"\n");
+}
+
 fn main() {
     let mut nums = [[0u32; 4]; 2];
     let mut reals = [[0.0f32; 4]; 2];
@@ -183,7 +220,6 @@ fn main() {
     let mut spots = [[0.0f32; 2]; 2];
     let mut cells = [[0u64; 2]; 2];
     let origin = Position { x: 0.0, y: 0.0 };
-    let away = Position { x: 16.0, y: 0.0 };
     points::new(
         &mut nums,
         &reals,
@@ -204,8 +240,9 @@ fn main() {
         &mut cells,
         origin,
         7,
+        1,
     );
-    points::set_position(
+    send(
         &mut nums,
         &mut reals,
         &mut ints,
@@ -214,7 +251,18 @@ fn main() {
         &spots,
         &mut cells,
         r.handle,
-        away,
+        2,
+    );
+    send(
+        &mut nums,
+        &mut reals,
+        &mut ints,
+        &map,
+        &pool,
+        &spots,
+        &mut cells,
+        r.handle,
+        1,
     );
     history(
         &mut nums,

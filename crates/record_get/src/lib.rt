@@ -31,12 +31,13 @@ pub fn get_for(
             answer: 3,
             position: Position { x: 0.0, y: 0.0 },
             obj: 0,
+            tracker: 0,
         };
     }
     points::get(nums, reals, ints, map, pool, spots, cells, h)
 }
 
-// The recorded position and the data. 3, 11, 12.
+// The recorded position, the data and the tracker. 3, 11, 12.
 pub fn get(
     records: &[Record],
     nums: &mut [Row],

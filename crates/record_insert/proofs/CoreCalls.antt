@@ -41,11 +41,11 @@ module _ {M : Type 1} (𝓤 : URA M) (H : Heap 𝓤) (A : Atoms 𝓤) (mem : Mem
   InsertFor = tripleOf 𝓤 H A insert-for.signature (insert-for.spec 𝓤 H A mem run)
 
 module _ {M : Type 1} {𝓤 : URA M} {H : Heap 𝓤} {A : Atoms 𝓤} {K : Type 0} {W : Given 𝓤 H A} {Γ : List (Item 𝓤)} {E : Env 𝓤 H} {C : Calls 𝓤 H} {Λ : Loops 𝓤 H} {p : Post 𝓤 H} {f : Name} {xs : List Operand} {d : Place} {rest : Body} where
-  pub calls-insert-for : K → (mem : Memory → SProp 𝓤) (run : Routine → Fun 𝓤) → FmC 𝓤 H (W .laws) C → Triple 𝓤 (C f) (InsertFor 𝓤 H A mem run) → (ℓ₀ : Lifetime) {κ₀ : Lft} {q₀ : Share} (γ₀ : GName) (b₀ o₀ : ℕ) (y₀ : List (List ℕ)) (m₀ : ℕ) (ℓ₁ : Lifetime) {κ₁ : Lft} {q₁ : Share} (γ₁ : GName) (b₁ o₁ : ℕ) (y₁ : List (List Float)) (m₁ : ℕ) (ℓ₂ : Lifetime) {κ₂ : Lft} {q₂ : Share} (γ₂ : GName) (b₂ o₂ : ℕ) (y₂ : List (List ℤ)) (m₂ : ℕ) (ℓ₃ : Lifetime) {κ₃ : Lft} {q₃ : Share} (γ₃ : GName) (b₃ o₃ : ℕ) (y₃ : List (ℕ)) (m₃ : ℕ) (ℓ₄ : Lifetime) {κ₄ : Lft} {q₄ : Share} (γ₄ : GName) (b₄ o₄ : ℕ) (y₄ : List (List ℕ)) (m₄ : ℕ) (ℓ₅ : Lifetime) {κ₅ : Lft} {q₅ : Share} (γ₅ : GName) (b₅ o₅ : ℕ) (y₅ : List (List Float)) (m₅ : ℕ) (ℓ₆ : Lifetime) {κ₆ : Lft} {q₆ : Share} (γ₆ : GName) (b₆ o₆ : ℕ) (y₆ : List (List ℕ)) (m₆ : ℕ) (v₀ : ℕ) (v₁ : Position) (v₂ : ℕ)
-      → m₀ ≡ length y₀ → m₁ ≡ length y₁ → m₂ ≡ length y₂ → m₃ ≡ length y₃ → m₄ ≡ length y₄ → m₅ ≡ length y₅ → m₆ ≡ length y₆ → Room N4 m₀ → Room F4 m₁ → Room Z4 m₂ → Room u64 m₃ → Room N2 m₄ → Room F2 m₅ → Room N2 m₆ → v₀ < 2 ^ 64 → Is PT.the-row v₁ (LL.vals PT.the-type PT′.the-laws v₁) → v₂ < 2 ^ 32 → ((i j : Item 𝓤) → Opds K W (i ∷ j ∷ Γ) E xs (vint w64 v₀ ∷ sliceVal (b₀, o₀) m₀ ∷ sliceVal (b₁, o₁) m₁ ∷ sliceVal (b₂, o₂) m₂ ∷ sliceVal (b₃, o₃) m₃ ∷ sliceVal (b₄, o₄) m₄ ∷ sliceVal (b₅, o₅) m₅ ∷ sliceVal (b₆, o₆) m₆ ∷ LL.val PT.the-type PT′.the-laws v₁ ∷ vint w32 v₂ ∷ []))
-      → ((r : Inserted) (zs : (Unit {0} × (List (List ℕ) × (List (List Float) × (List (List ℤ) × (List (ℕ) × (List (List ℕ) × (List (List Float) × (List (List ℕ) × (Unit {0} × (Unit {0} × Unit {0}))))))))))) → (length (zs .1 .0) ≡ length y₀) → (length (zs .1 .1 .0) ≡ length y₁) → (length (zs .1 .1 .1 .0) ≡ length y₂) → (length (zs .1 .1 .1 .1 .0) ≡ length y₃) → (length (zs .1 .1 .1 .1 .1 .0) ≡ length y₄) → (length (zs .1 .1 .1 .1 .1 .1 .0) ≡ length y₅) → (length (zs .1 .1 .1 .1 .1 .1 .1 .0) ≡ length y₆) → (outcome r (tables (zs .1 .0) (zs .1 .1 .0) (zs .1 .1 .1 .0) (zs .1 .1 .1 .1 .0) (zs .1 .1 .1 .1 .1 .0) (zs .1 .1 .1 .1 .1 .1 .0) (zs .1 .1 .1 .1 .1 .1 .1 .0)) ≡ insertFor v₀ (tables y₀ y₁ y₂ y₃ y₄ y₅ y₆) v₁ v₂) → Is IT.the-row r (LL.vals IT.the-type IT′.the-laws r) → Seq K W (‵ (MutSlice ℓ₀ κ₀ N4 .own (to N4 b₀ o₀ γ₀ (zs .1 .0)) (sliceVal (b₀, o₀) m₀ ∷ [])) ∷ ‵ (flft κ₀ q₀) ∷ ‵ (MutSlice ℓ₁ κ₁ F4 .own (to F4 b₁ o₁ γ₁ (zs .1 .1 .0)) (sliceVal (b₁, o₁) m₁ ∷ [])) ∷ ‵ (flft κ₁ q₁) ∷ ‵ (MutSlice ℓ₂ κ₂ Z4 .own (to Z4 b₂ o₂ γ₂ (zs .1 .1 .1 .0)) (sliceVal (b₂, o₂) m₂ ∷ [])) ∷ ‵ (flft κ₂ q₂) ∷ ‵ (MutSlice ℓ₃ κ₃ u64 .own (to u64 b₃ o₃ γ₃ (zs .1 .1 .1 .1 .0)) (sliceVal (b₃, o₃) m₃ ∷ [])) ∷ ‵ (flft κ₃ q₃) ∷ ‵ (MutSlice ℓ₄ κ₄ N2 .own (to N2 b₄ o₄ γ₄ (zs .1 .1 .1 .1 .1 .0)) (sliceVal (b₄, o₄) m₄ ∷ [])) ∷ ‵ (flft κ₄ q₄) ∷ ‵ (MutSlice ℓ₅ κ₅ F2 .own (to F2 b₅ o₅ γ₅ (zs .1 .1 .1 .1 .1 .1 .0)) (sliceVal (b₅, o₅) m₅ ∷ [])) ∷ ‵ (flft κ₅ q₅) ∷ ‵ (MutSlice ℓ₆ κ₆ N2 .own (to N2 b₆ o₆ γ₆ (zs .1 .1 .1 .1 .1 .1 .1 .0)) (sliceVal (b₆, o₆) m₆ ∷ [])) ∷ ‵ (flft κ₆ q₆) ∷ Γ) (lands C Λ E d (LL.val IT.the-type IT′.the-laws r) rest p))
+  pub calls-insert-for : K → (mem : Memory → SProp 𝓤) (run : Routine → Fun 𝓤) → FmC 𝓤 H (W .laws) C → Triple 𝓤 (C f) (InsertFor 𝓤 H A mem run) → (ℓ₀ : Lifetime) {κ₀ : Lft} {q₀ : Share} (γ₀ : GName) (b₀ o₀ : ℕ) (y₀ : List (List ℕ)) (m₀ : ℕ) (ℓ₁ : Lifetime) {κ₁ : Lft} {q₁ : Share} (γ₁ : GName) (b₁ o₁ : ℕ) (y₁ : List (List Float)) (m₁ : ℕ) (ℓ₂ : Lifetime) {κ₂ : Lft} {q₂ : Share} (γ₂ : GName) (b₂ o₂ : ℕ) (y₂ : List (List ℤ)) (m₂ : ℕ) (ℓ₃ : Lifetime) {κ₃ : Lft} {q₃ : Share} (γ₃ : GName) (b₃ o₃ : ℕ) (y₃ : List (ℕ)) (m₃ : ℕ) (ℓ₄ : Lifetime) {κ₄ : Lft} {q₄ : Share} (γ₄ : GName) (b₄ o₄ : ℕ) (y₄ : List (List ℕ)) (m₄ : ℕ) (ℓ₅ : Lifetime) {κ₅ : Lft} {q₅ : Share} (γ₅ : GName) (b₅ o₅ : ℕ) (y₅ : List (List Float)) (m₅ : ℕ) (ℓ₆ : Lifetime) {κ₆ : Lft} {q₆ : Share} (γ₆ : GName) (b₆ o₆ : ℕ) (y₆ : List (List ℕ)) (m₆ : ℕ) (v₀ : ℕ) (v₁ : Position) (v₂ : ℕ) (v₃ : ℕ)
+      → m₀ ≡ length y₀ → m₁ ≡ length y₁ → m₂ ≡ length y₂ → m₃ ≡ length y₃ → m₄ ≡ length y₄ → m₅ ≡ length y₅ → m₆ ≡ length y₆ → Room N4 m₀ → Room F4 m₁ → Room Z4 m₂ → Room u64 m₃ → Room N2 m₄ → Room F2 m₅ → Room N2 m₆ → v₀ < 2 ^ 64 → Is PT.the-row v₁ (LL.vals PT.the-type PT′.the-laws v₁) → v₂ < 2 ^ 32 → v₃ < 2 ^ 32 → ((i j : Item 𝓤) → Opds K W (i ∷ j ∷ Γ) E xs (vint w64 v₀ ∷ sliceVal (b₀, o₀) m₀ ∷ sliceVal (b₁, o₁) m₁ ∷ sliceVal (b₂, o₂) m₂ ∷ sliceVal (b₃, o₃) m₃ ∷ sliceVal (b₄, o₄) m₄ ∷ sliceVal (b₅, o₅) m₅ ∷ sliceVal (b₆, o₆) m₆ ∷ LL.val PT.the-type PT′.the-laws v₁ ∷ vint w32 v₂ ∷ vint w32 v₃ ∷ []))
+      → ((r : Inserted) (zs : (Unit {0} × (List (List ℕ) × (List (List Float) × (List (List ℤ) × (List (ℕ) × (List (List ℕ) × (List (List Float) × (List (List ℕ) × (Unit {0} × (Unit {0} × (Unit {0} × Unit {0})))))))))))) → (length (zs .1 .0) ≡ length y₀) → (length (zs .1 .1 .0) ≡ length y₁) → (length (zs .1 .1 .1 .0) ≡ length y₂) → (length (zs .1 .1 .1 .1 .0) ≡ length y₃) → (length (zs .1 .1 .1 .1 .1 .0) ≡ length y₄) → (length (zs .1 .1 .1 .1 .1 .1 .0) ≡ length y₅) → (length (zs .1 .1 .1 .1 .1 .1 .1 .0) ≡ length y₆) → (outcome r (tables (zs .1 .0) (zs .1 .1 .0) (zs .1 .1 .1 .0) (zs .1 .1 .1 .1 .0) (zs .1 .1 .1 .1 .1 .0) (zs .1 .1 .1 .1 .1 .1 .0) (zs .1 .1 .1 .1 .1 .1 .1 .0)) ≡ insertFor v₀ (tables y₀ y₁ y₂ y₃ y₄ y₅ y₆) v₁ v₂ v₃) → Is IT.the-row r (LL.vals IT.the-type IT′.the-laws r) → Seq K W (‵ (MutSlice ℓ₀ κ₀ N4 .own (to N4 b₀ o₀ γ₀ (zs .1 .0)) (sliceVal (b₀, o₀) m₀ ∷ [])) ∷ ‵ (flft κ₀ q₀) ∷ ‵ (MutSlice ℓ₁ κ₁ F4 .own (to F4 b₁ o₁ γ₁ (zs .1 .1 .0)) (sliceVal (b₁, o₁) m₁ ∷ [])) ∷ ‵ (flft κ₁ q₁) ∷ ‵ (MutSlice ℓ₂ κ₂ Z4 .own (to Z4 b₂ o₂ γ₂ (zs .1 .1 .1 .0)) (sliceVal (b₂, o₂) m₂ ∷ [])) ∷ ‵ (flft κ₂ q₂) ∷ ‵ (MutSlice ℓ₃ κ₃ u64 .own (to u64 b₃ o₃ γ₃ (zs .1 .1 .1 .1 .0)) (sliceVal (b₃, o₃) m₃ ∷ [])) ∷ ‵ (flft κ₃ q₃) ∷ ‵ (MutSlice ℓ₄ κ₄ N2 .own (to N2 b₄ o₄ γ₄ (zs .1 .1 .1 .1 .1 .0)) (sliceVal (b₄, o₄) m₄ ∷ [])) ∷ ‵ (flft κ₄ q₄) ∷ ‵ (MutSlice ℓ₅ κ₅ F2 .own (to F2 b₅ o₅ γ₅ (zs .1 .1 .1 .1 .1 .1 .0)) (sliceVal (b₅, o₅) m₅ ∷ [])) ∷ ‵ (flft κ₅ q₅) ∷ ‵ (MutSlice ℓ₆ κ₆ N2 .own (to N2 b₆ o₆ γ₆ (zs .1 .1 .1 .1 .1 .1 .1 .0)) (sliceVal (b₆, o₆) m₆ ∷ [])) ∷ ‵ (flft κ₆ q₆) ∷ Γ) (lands C Λ E d (LL.val IT.the-type IT′.the-laws r) rest p))
       → Seq K W (‵ (MutSlice ℓ₀ κ₀ N4 .own (to N4 b₀ o₀ γ₀ y₀) (sliceVal (b₀, o₀) m₀ ∷ [])) ∷ ‵ (flft κ₀ q₀) ∷ ‵ (MutSlice ℓ₁ κ₁ F4 .own (to F4 b₁ o₁ γ₁ y₁) (sliceVal (b₁, o₁) m₁ ∷ [])) ∷ ‵ (flft κ₁ q₁) ∷ ‵ (MutSlice ℓ₂ κ₂ Z4 .own (to Z4 b₂ o₂ γ₂ y₂) (sliceVal (b₂, o₂) m₂ ∷ [])) ∷ ‵ (flft κ₂ q₂) ∷ ‵ (MutSlice ℓ₃ κ₃ u64 .own (to u64 b₃ o₃ γ₃ y₃) (sliceVal (b₃, o₃) m₃ ∷ [])) ∷ ‵ (flft κ₃ q₃) ∷ ‵ (MutSlice ℓ₄ κ₄ N2 .own (to N2 b₄ o₄ γ₄ y₄) (sliceVal (b₄, o₄) m₄ ∷ [])) ∷ ‵ (flft κ₄ q₄) ∷ ‵ (MutSlice ℓ₅ κ₅ F2 .own (to F2 b₅ o₅ γ₅ y₅) (sliceVal (b₅, o₅) m₅ ∷ [])) ∷ ‵ (flft κ₅ q₅) ∷ ‵ (MutSlice ℓ₆ κ₆ N2 .own (to N2 b₆ o₆ γ₆ y₆) (sliceVal (b₆, o₆) m₆ ∷ [])) ∷ ‵ (flft κ₆ q₆) ∷ Γ) (runs C Λ E (seq (call f xs d) rest) p)
-  calls-insert-for t mem run fm met ℓ₀ {κ₀} {q₀} γ₀ b₀ o₀ y₀ m₀ ℓ₁ {κ₁} {q₁} γ₁ b₁ o₁ y₁ m₁ ℓ₂ {κ₂} {q₂} γ₂ b₂ o₂ y₂ m₂ ℓ₃ {κ₃} {q₃} γ₃ b₃ o₃ y₃ m₃ ℓ₄ {κ₄} {q₄} γ₄ b₄ o₄ y₄ m₄ ℓ₅ {κ₅} {q₅} γ₅ b₅ o₅ y₅ m₅ ℓ₆ {κ₆} {q₆} γ₆ b₆ o₆ y₆ m₆ v₀ v₁ v₂ e₀ e₁ e₂ e₃ e₄ e₅ e₆ room₀ room₁ room₂ room₃ room₄ room₅ room₆ g₀ g₁ g₂ os k =
-      let ps : List (Passed 𝓤 H A) = value usize v₀ _ (uint-makes 𝓤 H A W w64 v₀ _ (refl, g₀)) ∷ mutably 𝓤 H A W N4 ℓ₀ (named 0) κ₀ q₀ γ₀ b₀ o₀ y₀ m₀ e₀ room₀ ∷ mutably 𝓤 H A W F4 ℓ₁ (named 1) κ₁ q₁ γ₁ b₁ o₁ y₁ m₁ e₁ room₁ ∷ mutably 𝓤 H A W Z4 ℓ₂ (named 2) κ₂ q₂ γ₂ b₂ o₂ y₂ m₂ e₂ room₂ ∷ mutably 𝓤 H A W u64 ℓ₃ (named 3) κ₃ q₃ γ₃ b₃ o₃ y₃ m₃ e₃ room₃ ∷ mutably 𝓤 H A W N2 ℓ₄ (named 4) κ₄ q₄ γ₄ b₄ o₄ y₄ m₄ e₄ room₄ ∷ mutably 𝓤 H A W F2 ℓ₅ (named 5) κ₅ q₅ γ₅ b₅ o₅ y₅ m₅ e₅ room₅ ∷ mutably 𝓤 H A W N2 ℓ₆ (named 6) κ₆ q₆ γ₆ b₆ o₆ y₆ m₆ e₆ room₆ ∷ value PT.the-row v₁ _ (LL.makes PT.the-type PT′.the-plain 𝓤 H A v₁ _ g₁) ∷ value u32 v₂ _ (uint-makes 𝓤 H A W w32 v₂ _ (refl, g₂)) ∷ [] in
+  calls-insert-for t mem run fm met ℓ₀ {κ₀} {q₀} γ₀ b₀ o₀ y₀ m₀ ℓ₁ {κ₁} {q₁} γ₁ b₁ o₁ y₁ m₁ ℓ₂ {κ₂} {q₂} γ₂ b₂ o₂ y₂ m₂ ℓ₃ {κ₃} {q₃} γ₃ b₃ o₃ y₃ m₃ ℓ₄ {κ₄} {q₄} γ₄ b₄ o₄ y₄ m₄ ℓ₅ {κ₅} {q₅} γ₅ b₅ o₅ y₅ m₅ ℓ₆ {κ₆} {q₆} γ₆ b₆ o₆ y₆ m₆ v₀ v₁ v₂ v₃ e₀ e₁ e₂ e₃ e₄ e₅ e₆ room₀ room₁ room₂ room₃ room₄ room₅ room₆ g₀ g₁ g₂ g₃ os k =
+      let ps : List (Passed 𝓤 H A) = value usize v₀ _ (uint-makes 𝓤 H A W w64 v₀ _ (refl, g₀)) ∷ mutably 𝓤 H A W N4 ℓ₀ (named 0) κ₀ q₀ γ₀ b₀ o₀ y₀ m₀ e₀ room₀ ∷ mutably 𝓤 H A W F4 ℓ₁ (named 1) κ₁ q₁ γ₁ b₁ o₁ y₁ m₁ e₁ room₁ ∷ mutably 𝓤 H A W Z4 ℓ₂ (named 2) κ₂ q₂ γ₂ b₂ o₂ y₂ m₂ e₂ room₂ ∷ mutably 𝓤 H A W u64 ℓ₃ (named 3) κ₃ q₃ γ₃ b₃ o₃ y₃ m₃ e₃ room₃ ∷ mutably 𝓤 H A W N2 ℓ₄ (named 4) κ₄ q₄ γ₄ b₄ o₄ y₄ m₄ e₄ room₄ ∷ mutably 𝓤 H A W F2 ℓ₅ (named 5) κ₅ q₅ γ₅ b₅ o₅ y₅ m₅ e₅ room₅ ∷ mutably 𝓤 H A W N2 ℓ₆ (named 6) κ₆ q₆ γ₆ b₆ o₆ y₆ m₆ e₆ room₆ ∷ value PT.the-row v₁ _ (LL.makes PT.the-type PT′.the-plain 𝓤 H A v₁ _ g₁) ∷ value u32 v₂ _ (uint-makes 𝓤 H A W w32 v₂ _ (refl, g₂)) ∷ value u32 v₃ _ (uint-makes 𝓤 H A W w32 v₃ _ (refl, g₃)) ∷ [] in
       calls-with W t fm (InsertFor 𝓤 H A mem run) met ps (λ ls. ((lives 𝓤 H A ps ls, shares 𝓤 H A ps, tt, seens 𝓤 H A ps ls, values 𝓤 H A ps ls), tt)) IT.the-row (LL.vals IT.the-type IT′.the-laws) (LL.tells IT.the-type IT′.the-laws)
-      (λ r zs. outcome r (tables (zs .1 .0) (zs .1 .1 .0) (zs .1 .1 .1 .0) (zs .1 .1 .1 .1 .0) (zs .1 .1 .1 .1 .1 .0) (zs .1 .1 .1 .1 .1 .1 .0) (zs .1 .1 .1 .1 .1 .1 .1 .0)) ≡ insertFor v₀ (tables y₀ y₁ y₂ y₃ y₄ y₅ y₆) v₁ v₂) (λ ls. asks-nothing 𝓤 H A _) (λ ls w. id⊢ 𝓤 _) (λ ls. os) (λ r zs is e fs. k r zs (fs .0) (fs .1 .0) (fs .1 .1 .0) (fs .1 .1 .1 .0) (fs .1 .1 .1 .1 .0) (fs .1 .1 .1 .1 .1 .0) (fs .1 .1 .1 .1 .1 .1 .0) e is)
+      (λ r zs. outcome r (tables (zs .1 .0) (zs .1 .1 .0) (zs .1 .1 .1 .0) (zs .1 .1 .1 .1 .0) (zs .1 .1 .1 .1 .1 .0) (zs .1 .1 .1 .1 .1 .1 .0) (zs .1 .1 .1 .1 .1 .1 .1 .0)) ≡ insertFor v₀ (tables y₀ y₁ y₂ y₃ y₄ y₅ y₆) v₁ v₂ v₃) (λ ls. asks-nothing 𝓤 H A _) (λ ls w. id⊢ 𝓤 _) (λ ls. os) (λ r zs is e fs. k r zs (fs .0) (fs .1 .0) (fs .1 .1 .0) (fs .1 .1 .1 .0) (fs .1 .1 .1 .1 .0) (fs .1 .1 .1 .1 .1 .0) (fs .1 .1 .1 .1 .1 .1 .0) e is)

@@ -23,8 +23,9 @@ pub fn insert_for(
     cells: &mut [[u64; 2]],
     at: Position,
     obj: u32,
+    tracker: u32,
 ) -> Inserted
-    ensures { λ r. ⌜ outcome r (after nums reals ints map pool spots cells) ≡ insertFor n (before nums reals ints map pool spots cells) at obj ⌝ }
+    ensures { λ r. ⌜ outcome r (after nums reals ints map pool spots cells) ≡ insertFor n (before nums reals ints map pool spots cells) at obj tracker ⌝ }
 {
     if n != nums.len() {
         return Inserted {
@@ -35,10 +36,10 @@ pub fn insert_for(
             },
         };
     }
-    points::insert(nums, reals, ints, map, pool, spots, cells, at, obj)
+    points::insert(nums, reals, ints, map, pool, spots, cells, at, obj, tracker)
 }
 
-// A new object at a position. 3, 6, 4.
+// A new object at a position, which is this tracker's. 3, 6, 13, 4.
 pub fn insert(
     records: &mut [Record],
     nums: &mut [Row],
@@ -50,12 +51,25 @@ pub fn insert(
     cells: &mut [[u64; 2]],
     at: Position,
     obj: u32,
+    tracker: u32,
 ) -> Inserted
-    ensures { λ r. ⌜ Shows (λ rs t. insertOn rs t at obj) r records nums reals ints map pool spots cells ⌝ }
+    ensures { λ r. ⌜ Shows (λ rs t. insertOn rs t at obj tracker) r records nums reals ints map pool spots cells ⌝ }
 {
     records::spread(records, nums, reals, ints);
     let n = records.len();
-    let r = insert_for(n, nums, reals, ints, map, pool, spots, cells, at, obj);
+    let r = insert_for(
+        n,
+        nums,
+        reals,
+        ints,
+        map,
+        pool,
+        spots,
+        cells,
+        at,
+        obj,
+        tracker,
+    );
     records::gather(records, nums, reals, ints);
     r
 }

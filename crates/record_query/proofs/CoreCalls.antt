@@ -18,7 +18,7 @@ use sound.WpLaws.{FmC}
 use denote.Laws.{Is}
 use denote.Plain.{uint-makes}
 use denote.Floats.{float-makes}
-use denote.Builtin.{u32, u64, f32, usize}
+use denote.Builtin.{u64, f32, usize}
 use denote.Slice.{sliceVal, MutSlice, ShrSlice, Room}
 use denote.Struct.Laws as LL
 use denote.Triple.Spec.{tripleOf}
@@ -42,11 +42,11 @@ module _ {M : Type 1} (𝓤 : URA M) (H : Heap 𝓤) (A : Atoms 𝓤) (mem : Mem
   QueryAroundFor = tripleOf 𝓤 H A query-around-for.signature (query-around-for.spec 𝓤 H A mem run)
 
 module _ {M : Type 1} {𝓤 : URA M} {H : Heap 𝓤} {A : Atoms 𝓤} {K : Type 0} {W : Given 𝓤 H A} {Γ : List (Item 𝓤)} {E : Env 𝓤 H} {C : Calls 𝓤 H} {Λ : Loops 𝓤 H} {p : Post 𝓤 H} {f : Name} {xs : List Operand} {d : Place} {rest : Body} where
-  pub calls-query-around-for : K → (mem : Memory → SProp 𝓤) (run : Routine → Fun 𝓤) → FmC 𝓤 H (W .laws) C → Triple 𝓤 (C f) (QueryAroundFor 𝓤 H A mem run) → (ℓ₀ : Lifetime) {κ₀ : Lft} {q₀ : Share} (γ₀ : GName) (b₀ o₀ : ℕ) (y₀ : List (List ℕ)) (m₀ : ℕ) (ℓ₁ : Lifetime) {κ₁ : Lft} {q₁ : Share} (γ₁ : GName) (b₁ o₁ : ℕ) (y₁ : List (List Float)) (m₁ : ℕ) (ℓ₂ : Lifetime) {κ₂ : Lft} {q₂ : Share} (γ₂ : GName) (b₂ o₂ : ℕ) (y₂ : List (List ℤ)) (m₂ : ℕ) (ℓ₃ : Lifetime) {κ₃ : Lft} {q₃ : Share} (γ₃ : GName) (b₃ o₃ : ℕ) (y₃ : List (ℕ)) (m₃ : ℕ) (ℓ₄ : Lifetime) {κ₄ : Lft} {q₄ : Share} (γ₄ : GName) (b₄ o₄ : ℕ) (y₄ : List (List ℕ)) (m₄ : ℕ) (ℓ₅ : Lifetime) {κ₅ : Lft} {q₅ : Share} (γ₅ : GName) (b₅ o₅ : ℕ) (y₅ : List (List Float)) (m₅ : ℕ) (ℓ₆ : Lifetime) {κ₆ : Lft} {q₆ : Share} (γ₆ : GName) (b₆ o₆ : ℕ) (y₆ : List (List ℕ)) (m₆ : ℕ) (ℓ₇ : Lifetime) {κ₇ : Lft} {q₇ : Share} (γ₇ : GName) (b₇ o₇ : ℕ) (y₇ : List (List ℕ)) (m₇ : ℕ) (ℓ₈ : Lifetime) {κ₈ : Lft} {q₈ : Share} (γ₈ : GName) (b₈ o₈ : ℕ) (y₈ : List (List Float)) (m₈ : ℕ) (ℓ₉ : Lifetime) {κ₉ : Lft} {q₉ : Share} (γ₉ : GName) (b₉ o₉ : ℕ) (y₉ : List (ℕ)) (m₉ : ℕ) (v₀ : ℕ) (v₁ : Position) (v₂ : Float)
-      → m₀ ≡ length y₀ → m₁ ≡ length y₁ → m₂ ≡ length y₂ → m₇ ≡ length y₇ → m₈ ≡ length y₈ → m₉ ≡ length y₉ → Room N4 m₀ → Room F4 m₁ → Room Z4 m₂ → Room U2 m₇ → Room F2 m₈ → Room u32 m₉ → v₀ < 2 ^ 64 → Is PT.the-row v₁ (LL.vals PT.the-type PT′.the-laws v₁) → fits binary32 v₂ ≡ true → ((i j : Item 𝓤) → Opds K W (i ∷ j ∷ Γ) E xs (vint w64 v₀ ∷ sliceVal (b₀, o₀) m₀ ∷ sliceVal (b₁, o₁) m₁ ∷ sliceVal (b₂, o₂) m₂ ∷ sliceVal (b₃, o₃) m₃ ∷ sliceVal (b₄, o₄) m₄ ∷ sliceVal (b₅, o₅) m₅ ∷ sliceVal (b₆, o₆) m₆ ∷ LL.val PT.the-type PT′.the-laws v₁ ∷ vfloat binary32 v₂ ∷ sliceVal (b₇, o₇) m₇ ∷ sliceVal (b₈, o₈) m₈ ∷ sliceVal (b₉, o₉) m₉ ∷ []))
-      → ((r : Count) (zs : (Unit {0} × (Unit {0} × (Unit {0} × (Unit {0} × (Unit {0} × (Unit {0} × (Unit {0} × (Unit {0} × (Unit {0} × (Unit {0} × (List (List ℕ) × (List (List Float) × (List (ℕ) × Unit {0})))))))))))))) → (length (zs .1 .1 .1 .1 .1 .1 .1 .1 .1 .1 .0) ≡ length y₇) → (length (zs .1 .1 .1 .1 .1 .1 .1 .1 .1 .1 .1 .0) ≡ length y₈) → (length (zs .1 .1 .1 .1 .1 .1 .1 .1 .1 .1 .1 .1 .0) ≡ length y₉) → (findings r (outputs (zs .1 .1 .1 .1 .1 .1 .1 .1 .1 .1 .0) (zs .1 .1 .1 .1 .1 .1 .1 .1 .1 .1 .1 .0) (zs .1 .1 .1 .1 .1 .1 .1 .1 .1 .1 .1 .1 .0)) ≡ aroundFor v₀ (tables y₀ y₁ y₂ y₃ y₄ y₅ y₆) v₁ v₂ (outputs y₇ y₈ y₉)) → Is CT.the-row r (LL.vals CT.the-type CT′.the-laws r) → Seq K W (‵ (MutSlice ℓ₀ κ₀ N4 .own (to N4 b₀ o₀ γ₀ y₀) (sliceVal (b₀, o₀) m₀ ∷ [])) ∷ ‵ (flft κ₀ q₀) ∷ ‵ (MutSlice ℓ₁ κ₁ F4 .own (to F4 b₁ o₁ γ₁ y₁) (sliceVal (b₁, o₁) m₁ ∷ [])) ∷ ‵ (flft κ₁ q₁) ∷ ‵ (MutSlice ℓ₂ κ₂ Z4 .own (to Z4 b₂ o₂ γ₂ y₂) (sliceVal (b₂, o₂) m₂ ∷ [])) ∷ ‵ (flft κ₂ q₂) ∷ ‵ (ShrSlice ℓ₃ κ₃ u64 .own (to u64 b₃ o₃ γ₃ y₃) (sliceVal (b₃, o₃) m₃ ∷ [])) ∷ ‵ (flft κ₃ q₃) ∷ ‵ (ShrSlice ℓ₄ κ₄ N2 .own (to N2 b₄ o₄ γ₄ y₄) (sliceVal (b₄, o₄) m₄ ∷ [])) ∷ ‵ (flft κ₄ q₄) ∷ ‵ (ShrSlice ℓ₅ κ₅ F2 .own (to F2 b₅ o₅ γ₅ y₅) (sliceVal (b₅, o₅) m₅ ∷ [])) ∷ ‵ (flft κ₅ q₅) ∷ ‵ (ShrSlice ℓ₆ κ₆ N2 .own (to N2 b₆ o₆ γ₆ y₆) (sliceVal (b₆, o₆) m₆ ∷ [])) ∷ ‵ (flft κ₆ q₆) ∷ ‵ (MutSlice ℓ₇ κ₇ U2 .own (to U2 b₇ o₇ γ₇ (zs .1 .1 .1 .1 .1 .1 .1 .1 .1 .1 .0)) (sliceVal (b₇, o₇) m₇ ∷ [])) ∷ ‵ (flft κ₇ q₇) ∷ ‵ (MutSlice ℓ₈ κ₈ F2 .own (to F2 b₈ o₈ γ₈ (zs .1 .1 .1 .1 .1 .1 .1 .1 .1 .1 .1 .0)) (sliceVal (b₈, o₈) m₈ ∷ [])) ∷ ‵ (flft κ₈ q₈) ∷ ‵ (MutSlice ℓ₉ κ₉ u32 .own (to u32 b₉ o₉ γ₉ (zs .1 .1 .1 .1 .1 .1 .1 .1 .1 .1 .1 .1 .0)) (sliceVal (b₉, o₉) m₉ ∷ [])) ∷ ‵ (flft κ₉ q₉) ∷ Γ) (lands C Λ E d (LL.val CT.the-type CT′.the-laws r) rest p))
-      → Seq K W (‵ (MutSlice ℓ₀ κ₀ N4 .own (to N4 b₀ o₀ γ₀ y₀) (sliceVal (b₀, o₀) m₀ ∷ [])) ∷ ‵ (flft κ₀ q₀) ∷ ‵ (MutSlice ℓ₁ κ₁ F4 .own (to F4 b₁ o₁ γ₁ y₁) (sliceVal (b₁, o₁) m₁ ∷ [])) ∷ ‵ (flft κ₁ q₁) ∷ ‵ (MutSlice ℓ₂ κ₂ Z4 .own (to Z4 b₂ o₂ γ₂ y₂) (sliceVal (b₂, o₂) m₂ ∷ [])) ∷ ‵ (flft κ₂ q₂) ∷ ‵ (ShrSlice ℓ₃ κ₃ u64 .own (to u64 b₃ o₃ γ₃ y₃) (sliceVal (b₃, o₃) m₃ ∷ [])) ∷ ‵ (flft κ₃ q₃) ∷ ‵ (ShrSlice ℓ₄ κ₄ N2 .own (to N2 b₄ o₄ γ₄ y₄) (sliceVal (b₄, o₄) m₄ ∷ [])) ∷ ‵ (flft κ₄ q₄) ∷ ‵ (ShrSlice ℓ₅ κ₅ F2 .own (to F2 b₅ o₅ γ₅ y₅) (sliceVal (b₅, o₅) m₅ ∷ [])) ∷ ‵ (flft κ₅ q₅) ∷ ‵ (ShrSlice ℓ₆ κ₆ N2 .own (to N2 b₆ o₆ γ₆ y₆) (sliceVal (b₆, o₆) m₆ ∷ [])) ∷ ‵ (flft κ₆ q₆) ∷ ‵ (MutSlice ℓ₇ κ₇ U2 .own (to U2 b₇ o₇ γ₇ y₇) (sliceVal (b₇, o₇) m₇ ∷ [])) ∷ ‵ (flft κ₇ q₇) ∷ ‵ (MutSlice ℓ₈ κ₈ F2 .own (to F2 b₈ o₈ γ₈ y₈) (sliceVal (b₈, o₈) m₈ ∷ [])) ∷ ‵ (flft κ₈ q₈) ∷ ‵ (MutSlice ℓ₉ κ₉ u32 .own (to u32 b₉ o₉ γ₉ y₉) (sliceVal (b₉, o₉) m₉ ∷ [])) ∷ ‵ (flft κ₉ q₉) ∷ Γ) (runs C Λ E (seq (call f xs d) rest) p)
+  pub calls-query-around-for : K → (mem : Memory → SProp 𝓤) (run : Routine → Fun 𝓤) → FmC 𝓤 H (W .laws) C → Triple 𝓤 (C f) (QueryAroundFor 𝓤 H A mem run) → (ℓ₀ : Lifetime) {κ₀ : Lft} {q₀ : Share} (γ₀ : GName) (b₀ o₀ : ℕ) (y₀ : List (List ℕ)) (m₀ : ℕ) (ℓ₁ : Lifetime) {κ₁ : Lft} {q₁ : Share} (γ₁ : GName) (b₁ o₁ : ℕ) (y₁ : List (List Float)) (m₁ : ℕ) (ℓ₂ : Lifetime) {κ₂ : Lft} {q₂ : Share} (γ₂ : GName) (b₂ o₂ : ℕ) (y₂ : List (List ℤ)) (m₂ : ℕ) (ℓ₃ : Lifetime) {κ₃ : Lft} {q₃ : Share} (γ₃ : GName) (b₃ o₃ : ℕ) (y₃ : List (ℕ)) (m₃ : ℕ) (ℓ₄ : Lifetime) {κ₄ : Lft} {q₄ : Share} (γ₄ : GName) (b₄ o₄ : ℕ) (y₄ : List (List ℕ)) (m₄ : ℕ) (ℓ₅ : Lifetime) {κ₅ : Lft} {q₅ : Share} (γ₅ : GName) (b₅ o₅ : ℕ) (y₅ : List (List Float)) (m₅ : ℕ) (ℓ₆ : Lifetime) {κ₆ : Lft} {q₆ : Share} (γ₆ : GName) (b₆ o₆ : ℕ) (y₆ : List (List ℕ)) (m₆ : ℕ) (ℓ₇ : Lifetime) {κ₇ : Lft} {q₇ : Share} (γ₇ : GName) (b₇ o₇ : ℕ) (y₇ : List (List ℕ)) (m₇ : ℕ) (ℓ₈ : Lifetime) {κ₈ : Lft} {q₈ : Share} (γ₈ : GName) (b₈ o₈ : ℕ) (y₈ : List (List Float)) (m₈ : ℕ) (ℓ₉ : Lifetime) {κ₉ : Lft} {q₉ : Share} (γ₉ : GName) (b₉ o₉ : ℕ) (y₉ : List (List ℕ)) (m₉ : ℕ) (v₀ : ℕ) (v₁ : Position) (v₂ : Float)
+      → m₀ ≡ length y₀ → m₁ ≡ length y₁ → m₂ ≡ length y₂ → m₇ ≡ length y₇ → m₈ ≡ length y₈ → m₉ ≡ length y₉ → Room N4 m₀ → Room F4 m₁ → Room Z4 m₂ → Room U2 m₇ → Room F2 m₈ → Room U2 m₉ → v₀ < 2 ^ 64 → Is PT.the-row v₁ (LL.vals PT.the-type PT′.the-laws v₁) → fits binary32 v₂ ≡ true → ((i j : Item 𝓤) → Opds K W (i ∷ j ∷ Γ) E xs (vint w64 v₀ ∷ sliceVal (b₀, o₀) m₀ ∷ sliceVal (b₁, o₁) m₁ ∷ sliceVal (b₂, o₂) m₂ ∷ sliceVal (b₃, o₃) m₃ ∷ sliceVal (b₄, o₄) m₄ ∷ sliceVal (b₅, o₅) m₅ ∷ sliceVal (b₆, o₆) m₆ ∷ LL.val PT.the-type PT′.the-laws v₁ ∷ vfloat binary32 v₂ ∷ sliceVal (b₇, o₇) m₇ ∷ sliceVal (b₈, o₈) m₈ ∷ sliceVal (b₉, o₉) m₉ ∷ []))
+      → ((r : Count) (zs : (Unit {0} × (Unit {0} × (Unit {0} × (Unit {0} × (Unit {0} × (Unit {0} × (Unit {0} × (Unit {0} × (Unit {0} × (Unit {0} × (List (List ℕ) × (List (List Float) × (List (List ℕ) × Unit {0})))))))))))))) → (length (zs .1 .1 .1 .1 .1 .1 .1 .1 .1 .1 .0) ≡ length y₇) → (length (zs .1 .1 .1 .1 .1 .1 .1 .1 .1 .1 .1 .0) ≡ length y₈) → (length (zs .1 .1 .1 .1 .1 .1 .1 .1 .1 .1 .1 .1 .0) ≡ length y₉) → (findings r (outputs (zs .1 .1 .1 .1 .1 .1 .1 .1 .1 .1 .0) (zs .1 .1 .1 .1 .1 .1 .1 .1 .1 .1 .1 .0) (zs .1 .1 .1 .1 .1 .1 .1 .1 .1 .1 .1 .1 .0)) ≡ aroundFor v₀ (tables y₀ y₁ y₂ y₃ y₄ y₅ y₆) v₁ v₂ (outputs y₇ y₈ y₉)) → Is CT.the-row r (LL.vals CT.the-type CT′.the-laws r) → Seq K W (‵ (MutSlice ℓ₀ κ₀ N4 .own (to N4 b₀ o₀ γ₀ y₀) (sliceVal (b₀, o₀) m₀ ∷ [])) ∷ ‵ (flft κ₀ q₀) ∷ ‵ (MutSlice ℓ₁ κ₁ F4 .own (to F4 b₁ o₁ γ₁ y₁) (sliceVal (b₁, o₁) m₁ ∷ [])) ∷ ‵ (flft κ₁ q₁) ∷ ‵ (MutSlice ℓ₂ κ₂ Z4 .own (to Z4 b₂ o₂ γ₂ y₂) (sliceVal (b₂, o₂) m₂ ∷ [])) ∷ ‵ (flft κ₂ q₂) ∷ ‵ (ShrSlice ℓ₃ κ₃ u64 .own (to u64 b₃ o₃ γ₃ y₃) (sliceVal (b₃, o₃) m₃ ∷ [])) ∷ ‵ (flft κ₃ q₃) ∷ ‵ (ShrSlice ℓ₄ κ₄ N2 .own (to N2 b₄ o₄ γ₄ y₄) (sliceVal (b₄, o₄) m₄ ∷ [])) ∷ ‵ (flft κ₄ q₄) ∷ ‵ (ShrSlice ℓ₅ κ₅ F2 .own (to F2 b₅ o₅ γ₅ y₅) (sliceVal (b₅, o₅) m₅ ∷ [])) ∷ ‵ (flft κ₅ q₅) ∷ ‵ (ShrSlice ℓ₆ κ₆ N2 .own (to N2 b₆ o₆ γ₆ y₆) (sliceVal (b₆, o₆) m₆ ∷ [])) ∷ ‵ (flft κ₆ q₆) ∷ ‵ (MutSlice ℓ₇ κ₇ U2 .own (to U2 b₇ o₇ γ₇ (zs .1 .1 .1 .1 .1 .1 .1 .1 .1 .1 .0)) (sliceVal (b₇, o₇) m₇ ∷ [])) ∷ ‵ (flft κ₇ q₇) ∷ ‵ (MutSlice ℓ₈ κ₈ F2 .own (to F2 b₈ o₈ γ₈ (zs .1 .1 .1 .1 .1 .1 .1 .1 .1 .1 .1 .0)) (sliceVal (b₈, o₈) m₈ ∷ [])) ∷ ‵ (flft κ₈ q₈) ∷ ‵ (MutSlice ℓ₉ κ₉ U2 .own (to U2 b₉ o₉ γ₉ (zs .1 .1 .1 .1 .1 .1 .1 .1 .1 .1 .1 .1 .0)) (sliceVal (b₉, o₉) m₉ ∷ [])) ∷ ‵ (flft κ₉ q₉) ∷ Γ) (lands C Λ E d (LL.val CT.the-type CT′.the-laws r) rest p))
+      → Seq K W (‵ (MutSlice ℓ₀ κ₀ N4 .own (to N4 b₀ o₀ γ₀ y₀) (sliceVal (b₀, o₀) m₀ ∷ [])) ∷ ‵ (flft κ₀ q₀) ∷ ‵ (MutSlice ℓ₁ κ₁ F4 .own (to F4 b₁ o₁ γ₁ y₁) (sliceVal (b₁, o₁) m₁ ∷ [])) ∷ ‵ (flft κ₁ q₁) ∷ ‵ (MutSlice ℓ₂ κ₂ Z4 .own (to Z4 b₂ o₂ γ₂ y₂) (sliceVal (b₂, o₂) m₂ ∷ [])) ∷ ‵ (flft κ₂ q₂) ∷ ‵ (ShrSlice ℓ₃ κ₃ u64 .own (to u64 b₃ o₃ γ₃ y₃) (sliceVal (b₃, o₃) m₃ ∷ [])) ∷ ‵ (flft κ₃ q₃) ∷ ‵ (ShrSlice ℓ₄ κ₄ N2 .own (to N2 b₄ o₄ γ₄ y₄) (sliceVal (b₄, o₄) m₄ ∷ [])) ∷ ‵ (flft κ₄ q₄) ∷ ‵ (ShrSlice ℓ₅ κ₅ F2 .own (to F2 b₅ o₅ γ₅ y₅) (sliceVal (b₅, o₅) m₅ ∷ [])) ∷ ‵ (flft κ₅ q₅) ∷ ‵ (ShrSlice ℓ₆ κ₆ N2 .own (to N2 b₆ o₆ γ₆ y₆) (sliceVal (b₆, o₆) m₆ ∷ [])) ∷ ‵ (flft κ₆ q₆) ∷ ‵ (MutSlice ℓ₇ κ₇ U2 .own (to U2 b₇ o₇ γ₇ y₇) (sliceVal (b₇, o₇) m₇ ∷ [])) ∷ ‵ (flft κ₇ q₇) ∷ ‵ (MutSlice ℓ₈ κ₈ F2 .own (to F2 b₈ o₈ γ₈ y₈) (sliceVal (b₈, o₈) m₈ ∷ [])) ∷ ‵ (flft κ₈ q₈) ∷ ‵ (MutSlice ℓ₉ κ₉ U2 .own (to U2 b₉ o₉ γ₉ y₉) (sliceVal (b₉, o₉) m₉ ∷ [])) ∷ ‵ (flft κ₉ q₉) ∷ Γ) (runs C Λ E (seq (call f xs d) rest) p)
   calls-query-around-for t mem run fm met ℓ₀ {κ₀} {q₀} γ₀ b₀ o₀ y₀ m₀ ℓ₁ {κ₁} {q₁} γ₁ b₁ o₁ y₁ m₁ ℓ₂ {κ₂} {q₂} γ₂ b₂ o₂ y₂ m₂ ℓ₃ {κ₃} {q₃} γ₃ b₃ o₃ y₃ m₃ ℓ₄ {κ₄} {q₄} γ₄ b₄ o₄ y₄ m₄ ℓ₅ {κ₅} {q₅} γ₅ b₅ o₅ y₅ m₅ ℓ₆ {κ₆} {q₆} γ₆ b₆ o₆ y₆ m₆ ℓ₇ {κ₇} {q₇} γ₇ b₇ o₇ y₇ m₇ ℓ₈ {κ₈} {q₈} γ₈ b₈ o₈ y₈ m₈ ℓ₉ {κ₉} {q₉} γ₉ b₉ o₉ y₉ m₉ v₀ v₁ v₂ e₀ e₁ e₂ e₇ e₈ e₉ room₀ room₁ room₂ room₇ room₈ room₉ g₀ g₁ g₂ os k =
-      let ps : List (Passed 𝓤 H A) = value usize v₀ _ (uint-makes 𝓤 H A W w64 v₀ _ (refl, g₀)) ∷ shared 𝓤 H A W N4 ℓ₀ (named 0) κ₀ q₀ γ₀ b₀ o₀ y₀ m₀ e₀ room₀ ∷ shared 𝓤 H A W F4 ℓ₁ (named 1) κ₁ q₁ γ₁ b₁ o₁ y₁ m₁ e₁ room₁ ∷ shared 𝓤 H A W Z4 ℓ₂ (named 2) κ₂ q₂ γ₂ b₂ o₂ y₂ m₂ e₂ room₂ ∷ copied 𝓤 H A W u64 ℓ₃ (named 3) κ₃ q₃ γ₃ b₃ o₃ y₃ m₃ ∷ copied 𝓤 H A W N2 ℓ₄ (named 4) κ₄ q₄ γ₄ b₄ o₄ y₄ m₄ ∷ copied 𝓤 H A W F2 ℓ₅ (named 5) κ₅ q₅ γ₅ b₅ o₅ y₅ m₅ ∷ copied 𝓤 H A W N2 ℓ₆ (named 6) κ₆ q₆ γ₆ b₆ o₆ y₆ m₆ ∷ value PT.the-row v₁ _ (LL.makes PT.the-type PT′.the-plain 𝓤 H A v₁ _ g₁) ∷ value f32 v₂ _ (float-makes 𝓤 H A W binary32 v₂ _ (refl, g₂)) ∷ mutably 𝓤 H A W U2 ℓ₇ (named 7) κ₇ q₇ γ₇ b₇ o₇ y₇ m₇ e₇ room₇ ∷ mutably 𝓤 H A W F2 ℓ₈ (named 8) κ₈ q₈ γ₈ b₈ o₈ y₈ m₈ e₈ room₈ ∷ mutably 𝓤 H A W u32 ℓ₉ (named 9) κ₉ q₉ γ₉ b₉ o₉ y₉ m₉ e₉ room₉ ∷ [] in
+      let ps : List (Passed 𝓤 H A) = value usize v₀ _ (uint-makes 𝓤 H A W w64 v₀ _ (refl, g₀)) ∷ shared 𝓤 H A W N4 ℓ₀ (named 0) κ₀ q₀ γ₀ b₀ o₀ y₀ m₀ e₀ room₀ ∷ shared 𝓤 H A W F4 ℓ₁ (named 1) κ₁ q₁ γ₁ b₁ o₁ y₁ m₁ e₁ room₁ ∷ shared 𝓤 H A W Z4 ℓ₂ (named 2) κ₂ q₂ γ₂ b₂ o₂ y₂ m₂ e₂ room₂ ∷ copied 𝓤 H A W u64 ℓ₃ (named 3) κ₃ q₃ γ₃ b₃ o₃ y₃ m₃ ∷ copied 𝓤 H A W N2 ℓ₄ (named 4) κ₄ q₄ γ₄ b₄ o₄ y₄ m₄ ∷ copied 𝓤 H A W F2 ℓ₅ (named 5) κ₅ q₅ γ₅ b₅ o₅ y₅ m₅ ∷ copied 𝓤 H A W N2 ℓ₆ (named 6) κ₆ q₆ γ₆ b₆ o₆ y₆ m₆ ∷ value PT.the-row v₁ _ (LL.makes PT.the-type PT′.the-plain 𝓤 H A v₁ _ g₁) ∷ value f32 v₂ _ (float-makes 𝓤 H A W binary32 v₂ _ (refl, g₂)) ∷ mutably 𝓤 H A W U2 ℓ₇ (named 7) κ₇ q₇ γ₇ b₇ o₇ y₇ m₇ e₇ room₇ ∷ mutably 𝓤 H A W F2 ℓ₈ (named 8) κ₈ q₈ γ₈ b₈ o₈ y₈ m₈ e₈ room₈ ∷ mutably 𝓤 H A W U2 ℓ₉ (named 9) κ₉ q₉ γ₉ b₉ o₉ y₉ m₉ e₉ room₉ ∷ [] in
       calls-with W t fm (QueryAroundFor 𝓤 H A mem run) met ps (λ ls. ((lives 𝓤 H A ps ls, shares 𝓤 H A ps, tt, seens 𝓤 H A ps ls, values 𝓤 H A ps ls), tt)) CT.the-row (LL.vals CT.the-type CT′.the-laws) (LL.tells CT.the-type CT′.the-laws)
       (λ r zs. findings r (outputs (zs .1 .1 .1 .1 .1 .1 .1 .1 .1 .1 .0) (zs .1 .1 .1 .1 .1 .1 .1 .1 .1 .1 .1 .0) (zs .1 .1 .1 .1 .1 .1 .1 .1 .1 .1 .1 .1 .0)) ≡ aroundFor v₀ (tables y₀ y₁ y₂ y₃ y₄ y₅ y₆) v₁ v₂ (outputs y₇ y₈ y₉)) (λ ls. asks-nothing 𝓤 H A _) (λ ls w. id⊢ 𝓤 _) (λ ls. os) (λ r zs is e fs. k r zs (fs .1 .1 .1 .1 .1 .1 .1 .0) (fs .1 .1 .1 .1 .1 .1 .1 .1 .0) (fs .1 .1 .1 .1 .1 .1 .1 .1 .1 .0) e is)

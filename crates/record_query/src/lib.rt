@@ -21,7 +21,7 @@ pub fn query_around_for(
     radius: f32,
     found: &mut [[u32; 2]],
     places: &mut [[f32; 2]],
-    objs: &mut [u32],
+    objs: &mut [[u32; 2]],
 ) -> Count
     ensures { λ r. ⌜ Finds (λ t. aroundFor n t centre radius) r found places objs nums reals ints map pool spots cells ⌝ }
 {
@@ -47,7 +47,7 @@ pub fn query_around_for(
     )
 }
 
-// The entries strictly inside a circle. 3, 6, 7, 9 with the number found.
+// The entries strictly inside a circle, with data and tracker in each row of objs. 3, 6, 7, 9 with the number found.
 pub fn query_around(
     records: &[Record],
     nums: &mut [Row],
@@ -61,7 +61,7 @@ pub fn query_around(
     radius: f32,
     found: &mut [[u32; 2]],
     places: &mut [[f32; 2]],
-    objs: &mut [u32],
+    objs: &mut [[u32; 2]],
 ) -> Count
     ensures { λ r. ⌜ FindsIn (λ rs t. aroundOn rs t centre radius) r found places objs records nums reals ints map pool spots cells ⌝ }
 {

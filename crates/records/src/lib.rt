@@ -28,9 +28,7 @@ pub fn put_nums(nums: &mut [Row], i: usize, r: Record)
     ensures { λ _. ⌜ is nums ≡ set (was nums) i (numsOf r) ⌝ }
 {
     if i < nums.len() {
-        let s = r.state;
-        let t = point_records::tag_of(s);
-        nums[i] = [r.version, r.phase, r.obj, t];
+        nums[i] = point_records::nums_of(r);
     }
 }
 

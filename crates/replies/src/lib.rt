@@ -29,6 +29,7 @@ pub struct Nearest {
     pub handle: Handle,
     pub position: Position,
     pub obj: u32,
+    pub tracker: u32,
 }
 
 // A refusal returns zeros.

@@ -45,7 +45,7 @@ pub fn cell(
     done_both(a, b)
 }
 
-// One request. The findings of a query are in its outputs; points and boxes share that of the data, `objs`.
+// One request. The findings of a query are in its outputs; data and tracker of the points found in `objs`.
 pub fn answer(
     nums: &mut [Row],
     reals: &mut [[f32; 4]],
@@ -61,7 +61,7 @@ pub fn answer(
     handles: &mut [[u32; 2]],
     places: &mut [[f32; 2]],
     corners: &mut [[f32; 4]],
-    objs: &mut [u32],
+    objs: &mut [[u32; 2]],
     r: Request,
 ) -> Said
     requires { ⌜ InRange r ⌝ }
@@ -83,9 +83,20 @@ pub fn answer(
             bpool,
             r.n,
         ),
-        Line::PointChange(k) => {
-            change_points(nums, reals, ints, map, pool, spots, cells, k, r.h, r.p, r.n)
-        }
+        Line::PointChange(k) => change_points(
+            nums,
+            reals,
+            ints,
+            map,
+            pool,
+            spots,
+            cells,
+            k,
+            r.h,
+            r.p,
+            r.n,
+            r.k,
+        ),
         Line::PointSearch(s) => search_points(
             nums,
             reals,
@@ -103,9 +114,7 @@ pub fn answer(
             objs,
         ),
         Line::BoxChange(k) => change_boxes(bnums, breals, bmap, bpool, k, r.h, r.p, r.q, r.n),
-        Line::BoxSearch => {
-            search_boxes(bnums, breals, bmap, bpool, r.p, r.q, handles, corners, objs)
-        }
+        Line::BoxSearch => search_boxes(bnums, breals, bmap, bpool, r.p, r.q, handles, corners),
         Line::Unreadable => Said::Refused(10),
     }
 }

@@ -82,7 +82,7 @@ pub fn change_boxes(
     }
 }
 
-// The line that searches the boxes. The findings are in the outputs; the trace does not tell their data.
+// The line that searches the boxes. The findings are in the outputs; their data, which the trace does not tell, in an array that is left again.
 pub fn search_boxes(
     nums: &[Row],
     reals: &[[f32; 4]],
@@ -92,12 +92,12 @@ pub fn search_boxes(
     ur: Spot,
     handles: &mut [[u32; 2]],
     corners: &mut [[f32; 4]],
-    objs: &mut [u32],
 ) -> Said
     requires { ⌜ SpotInRange ll × SpotInRange ur ⌝ }
-    ensures { λ r. ⌜ searched r (is handles) (is corners) (is objs) ≡ boxSearchOf (before nums reals map pool) ll ur (was handles) (was corners) (was objs) ⌝ }
+    ensures { λ r. ⌜ searched r (is handles) (is corners) ≡ boxSearchOf (before nums reals map pool) ll ur (was handles) (was corners) ⌝ }
 {
     let q = trace_telling::corners(ll, ur);
-    let r = boxes::query(nums, reals, map, pool, q, handles, corners, objs);
+    let mut objs = [0u32; 64];
+    let r = boxes::query(nums, reals, map, pool, q, handles, corners, &mut objs);
     trace_telling::boxes(r.answer, r.count)
 }

@@ -33,6 +33,7 @@ pub fn unreadable() -> Request
         q: p,
         far: 0,
         n: 0,
+        k: 0,
     }
 }
 
@@ -47,25 +48,29 @@ fn whole(b: &[u8], at: usize, r: Request) -> Request
 }
 
 // What is behind the word.
-pub fn arguments(k: Asks, b: &[u8], at: usize) -> Request
+pub fn arguments(asks: Asks, b: &[u8], at: usize) -> Request
     requires { ⌜ length (now b) ≤ 128 ⌝ }
-    ensures { λ r. ⌜ r ≡ Requests·whole (argumentsOf k (fieldsFrom (was b) at)) ⌝ }
+    ensures { λ r. ⌜ r ≡ Requests·whole (argumentsOf asks (fieldsFrom (was b) at)) ⌝ }
 {
-    let line = k.line;
-    let first = handle_if(b, at, k.handle);
+    let line = asks.line;
+    let first = handle_if(b, at, asks.handle);
     let TakenHandle::At(h, second) = first else {
         return unreadable();
     };
-    let places = spots_if(b, second, k.places);
+    let places = spots_if(b, second, asks.places);
     let TakenSpots::At(p, q, third) = places else {
         return unreadable();
     };
-    let radius = count_if(b, third, k.radius);
+    let radius = count_if(b, third, asks.radius);
     let TakenCount::At(far, fourth) = radius else {
         return unreadable();
     };
-    let number = number_if(b, fourth, k.number);
-    let TakenNumber::At(n, end) = number else {
+    let number = number_if(b, fourth, asks.number);
+    let TakenNumber::At(n, fifth) = number else {
+        return unreadable();
+    };
+    let tracker = number_if(b, fifth, asks.tracker);
+    let TakenNumber::At(k, end) = tracker else {
         return unreadable();
     };
     whole(
@@ -78,6 +83,7 @@ pub fn arguments(k: Asks, b: &[u8], at: usize) -> Request
             q,
             far,
             n,
+            k,
         },
     )
 }

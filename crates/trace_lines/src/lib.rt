@@ -41,13 +41,14 @@ pub enum Line {
     Unreadable,
 }
 
-// What a word asks for: slot and version, so many places, a radius, one more number; in this order.
+// What a word asks for: slot and version, so many places, a radius, one more number, a tracker; in this order.
 pub struct Asks {
     pub line: Line,
     pub handle: bool,
     pub places: u32,
     pub radius: bool,
     pub number: bool,
+    pub tracker: bool,
 }
 
 // A place by its counts of sixteenths.
@@ -56,7 +57,7 @@ pub struct Spot {
     pub y: i32,
 }
 
-// What is not asked for is zero.
+// What is not asked for is zero. The number is n, the tracker's number k.
 pub struct Request {
     pub line: Line,
     pub h: Handle,
@@ -64,6 +65,7 @@ pub struct Request {
     pub q: Spot,
     pub far: i32,
     pub n: u32,
+    pub k: u32,
 }
 
 // What was taken from a place on, and the place of the next field.
@@ -102,8 +104,9 @@ fn row(
     places: u32,
     radius: bool,
     number: bool,
+    tracker: bool,
 ) -> Asks
-    ensures { λ r. ⌜ r ≡ rowSays (Words·row (was w) line handle places radius number) (was word) others ⌝ }
+    ensures { λ r. ⌜ r ≡ rowSays (Words·row (was w) line handle places radius number tracker) (was word) others ⌝ }
 {
     if words::same(word, w) {
         return Asks {
@@ -112,50 +115,52 @@ fn row(
             places,
             radius,
             number,
+            tracker,
         };
     }
     others
 }
 
-// The table of words, by grid and kind: slot and version, places, radius, number. The last row is looked at first.
+// The table of words, by grid and kind: slot and version, places, radius, number, tracker. The last row is looked at first.
 fn point_changes(word: &[u8], t: Asks) -> Asks
     ensures { λ r. ⌜ r ≡ foundIn pointChanges (was word) t ⌝ }
 {
     let k = Line::PointChange(PointChange::Mnt);
-    let t = row(word, t, b"mnt", k, false, 0, false, false);
+    let t = row(word, t, b"mnt", k, false, 0, false, false, false);
     let k = Line::PointChange(PointChange::Now);
-    let t = row(word, t, b"now", k, true, 0, false, false);
+    let t = row(word, t, b"now", k, true, 0, false, false, true);
     let k = Line::PointChange(PointChange::Rem);
-    let t = row(word, t, b"rem", k, true, 0, false, false);
+    let t = row(word, t, b"rem", k, true, 0, false, false, true);
     let k = Line::PointChange(PointChange::Pos);
-    let t = row(word, t, b"pos", k, true, 1, false, false);
+    let t = row(word, t, b"pos", k, true, 1, false, false, true);
     let k = Line::PointChange(PointChange::Ins);
-    row(word, t, b"ins", k, false, 1, false, true)
+    row(word, t, b"ins", k, false, 1, false, true, true)
 }
 
 fn point_searches(word: &[u8], t: Asks) -> Asks
     ensures { λ r. ⌜ r ≡ foundIn pointSearches (was word) t ⌝ }
 {
     let k = Line::PointSearch(PointSearch::Near);
-    let t = row(word, t, b"near", k, false, 1, true, false);
+    let t = row(word, t, b"near", k, false, 1, true, false, false);
     let k = Line::PointSearch(PointSearch::Cel);
-    let t = row(word, t, b"cel", k, false, 2, false, false);
+    let t = row(word, t, b"cel", k, false, 2, false, false, false);
     let k = Line::PointSearch(PointSearch::Rec);
-    let t = row(word, t, b"rec", k, false, 2, false, false);
+    let t = row(word, t, b"rec", k, false, 2, false, false, false);
     let k = Line::PointSearch(PointSearch::Cir);
-    row(word, t, b"cir", k, false, 1, true, false)
+    row(word, t, b"cir", k, false, 1, true, false, false)
 }
 
 fn box_lines(word: &[u8], t: Asks) -> Asks
     ensures { λ r. ⌜ r ≡ foundIn boxLines (was word) t ⌝ }
 {
-    let t = row(word, t, b"bqry", Line::BoxSearch, false, 2, false, false);
+    let k = Line::BoxSearch;
+    let t = row(word, t, b"bqry", k, false, 2, false, false, false);
     let k = Line::BoxChange(BoxChange::Brem);
-    let t = row(word, t, b"brem", k, true, 0, false, false);
+    let t = row(word, t, b"brem", k, true, 0, false, false, false);
     let k = Line::BoxChange(BoxChange::Bset);
-    let t = row(word, t, b"bset", k, true, 2, false, false);
+    let t = row(word, t, b"bset", k, true, 2, false, false, false);
     let k = Line::BoxChange(BoxChange::Bin);
-    row(word, t, b"bin", k, false, 2, false, true)
+    row(word, t, b"bin", k, false, 2, false, true, false)
 }
 
 // What a word asks for; any other word is unreadable and asks for nothing.
@@ -168,11 +173,12 @@ fn asked(word: &[u8]) -> Asks
         places: 0,
         radius: false,
         number: false,
+        tracker: false,
     };
     let t = box_lines(word, t);
     let t = point_searches(word, t);
     let t = point_changes(word, t);
-    row(word, t, b"cell", Line::Cell, false, 0, false, true)
+    row(word, t, b"cell", Line::Cell, false, 0, false, true, false)
 }
 
 // A record that is not too long.

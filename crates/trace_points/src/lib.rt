@@ -27,12 +27,13 @@ fn ins(
     cells: &mut [[u64; 2]],
     at: Spot,
     obj: u32,
+    tracker: u32,
 ) -> Said
     requires { ⌜ SpotInRange at ⌝ }
-    ensures { λ r. ⌜ outcome r (after nums reals ints map pool spots cells) ≡ insertedOf (before nums reals ints map pool spots cells) at obj ⌝ }
+    ensures { λ r. ⌜ outcome r (after nums reals ints map pool spots cells) ≡ insertedOf (before nums reals ints map pool spots cells) at obj tracker ⌝ }
 {
     let p = trace_telling::place(at);
-    let r = points::insert(nums, reals, ints, map, pool, spots, cells, p, obj);
+    let r = points::insert(nums, reals, ints, map, pool, spots, cells, p, obj, tracker);
     let h = r.handle;
     trace_telling::two(r.answer, h.slot, h.version)
 }
@@ -47,12 +48,13 @@ fn pos(
     cells: &mut [[u64; 2]],
     h: Handle,
     at: Spot,
+    tracker: u32,
 ) -> Said
     requires { ⌜ SpotInRange at ⌝ }
-    ensures { λ r. ⌜ outcome r (after nums reals ints map pool spots cells) ≡ movedOf (before nums reals ints map pool spots cells) h at ⌝ }
+    ensures { λ r. ⌜ outcome r (after nums reals ints map pool spots cells) ≡ movedOf (before nums reals ints map pool spots cells) h at tracker ⌝ }
 {
     let p = trace_telling::place(at);
-    let answer = points::set_position(nums, reals, ints, map, pool, spots, cells, h, p);
+    let answer = points::set_position(nums, reals, ints, map, pool, spots, cells, h, p, tracker);
     trace_telling::done(answer)
 }
 
@@ -65,10 +67,11 @@ fn rem(
     spots: &[[f32; 2]],
     cells: &mut [[u64; 2]],
     h: Handle,
+    tracker: u32,
 ) -> Said
-    ensures { λ r. ⌜ outcome r (after nums reals ints map pool spots cells) ≡ markedOf (before nums reals ints map pool spots cells) h ⌝ }
+    ensures { λ r. ⌜ outcome r (after nums reals ints map pool spots cells) ≡ markedOf (before nums reals ints map pool spots cells) h tracker ⌝ }
 {
-    let r = points::remove(nums, reals, ints, map, pool, spots, cells, h);
+    let r = points::remove(nums, reals, ints, map, pool, spots, cells, h, tracker);
     trace_telling::one(r.answer, r.obj)
 }
 
@@ -81,10 +84,11 @@ fn now(
     spots: &mut [[f32; 2]],
     cells: &mut [[u64; 2]],
     h: Handle,
+    tracker: u32,
 ) -> Said
-    ensures { λ r. ⌜ outcome r (after nums reals ints map pool spots cells) ≡ takenOf (before nums reals ints map pool spots cells) h ⌝ }
+    ensures { λ r. ⌜ outcome r (after nums reals ints map pool spots cells) ≡ takenOf (before nums reals ints map pool spots cells) h tracker ⌝ }
 {
-    let r = points::remove_maintain(nums, reals, ints, map, pool, spots, cells, h);
+    let r = points::remove_maintain(nums, reals, ints, map, pool, spots, cells, h, tracker);
     trace_telling::one(r.answer, r.obj)
 }
 
@@ -112,25 +116,31 @@ pub fn change_points(
     pool: &mut [[u64; 2]],
     spots: &mut [[f32; 2]],
     cells: &mut [[u64; 2]],
-    k: PointChange,
+    change: PointChange,
     h: Handle,
     p: Spot,
     n: u32,
+    k: u32,
 ) -> Said
     requires { ⌜ SpotInRange p ⌝ }
-    ensures { λ said. ⌜ outcome said (after nums reals ints map pool spots cells) ≡ changeOf (before nums reals ints map pool spots cells) k h p n ⌝ }
+    ensures { λ said. ⌜ outcome said (after nums reals ints map pool spots cells) ≡ changeOf (before nums reals ints map pool spots cells) change h p n k ⌝ }
 {
-    match k {
-        PointChange::Ins => ins(nums, reals, ints, map, pool, spots, cells, p, n),
-        PointChange::Pos => pos(nums, reals, ints, map, pool, spots, cells, h, p),
-        PointChange::Rem => rem(nums, reals, ints, map, pool, spots, cells, h),
-        PointChange::Now => now(nums, reals, ints, map, pool, spots, cells, h),
+    match change {
+        PointChange::Ins => ins(nums, reals, ints, map, pool, spots, cells, p, n, k),
+        PointChange::Pos => pos(nums, reals, ints, map, pool, spots, cells, h, p, k),
+        PointChange::Rem => rem(nums, reals, ints, map, pool, spots, cells, h, k),
+        PointChange::Now => now(nums, reals, ints, map, pool, spots, cells, h, k),
         PointChange::Mnt => mnt(nums, reals, ints, map, pool, spots, cells),
     }
 }
 
 // What `nearest` returned, as a search that finds at most one: the finding goes to place 0 of the outputs.
-fn near(r: Nearest, handles: &mut [[u32; 2]], places: &mut [[f32; 2]], objs: &mut [u32]) -> Count
+fn near(
+    r: Nearest,
+    handles: &mut [[u32; 2]],
+    places: &mut [[f32; 2]],
+    objs: &mut [[u32; 2]],
+) -> Count
     ensures { λ c. ⌜ findings c (outputsAfter handles places objs) ≡ nearestFinds r (outputsBefore handles places objs) ⌝ }
 {
     let answer = r.answer;
@@ -145,7 +155,7 @@ fn near(r: Nearest, handles: &mut [[u32; 2]], places: &mut [[f32; 2]], objs: &mu
     let p = r.position;
     handles[0] = [h.slot, h.version];
     places[0] = [p.x, p.y];
-    objs[0] = r.obj;
+    objs[0] = [r.obj, r.tracker];
     Count { answer, count }
 }
 
@@ -164,7 +174,7 @@ fn find(
     far: f32,
     handles: &mut [[u32; 2]],
     places: &mut [[f32; 2]],
-    objs: &mut [u32],
+    objs: &mut [[u32; 2]],
 ) -> Count
     ensures { λ r. ⌜ Finds (λ t. findingsOf t s p q far) r handles places objs nums reals ints map pool spots cells ⌝ }
 {
@@ -239,7 +249,7 @@ pub fn search_points(
     far: i32,
     handles: &mut [[u32; 2]],
     places: &mut [[f32; 2]],
-    objs: &mut [u32],
+    objs: &mut [[u32; 2]],
 ) -> Said
     requires { ⌜ (SpotInRange p × SpotInRange q) × CountInRange far ⌝ }
     ensures { λ said. ⌜ searched said (outputsAfter handles places objs) ≡ pointSearchOf (before nums reals ints map pool spots cells) s p q far (outputsBefore handles places objs) ⌝ }

@@ -1,13 +1,13 @@
 // An answer as a record of the trace: decimal numbers with commas between them, CR LF at the end.
 ghost use Rattle.basics.specs.Words.{_+_, _*_, _≤_, _++_, length};
 ghost use Rattle.basics.specs.Meaning.Lent.{was, is};
-ghost use Rattle.trace_printing.specs.Meaning.Said.{numberField, coordinateField, handleText, placeText, cornersText, pointsText, boxesText};
+ghost use Rattle.trace_printing.specs.Meaning.Said.{numberField, coordinateField, pairText, placeText, cornersText, pointsText, boxesText};
 ghost use Rattle.trace_printing.specs.Meaning.Said.{saidText, recordText, longest};
 ghost use Rattle.trace_printing.specs.Inner.Said.{longestSaid, Told};
 ghost use Rattle.trace_printing.specs.Inner.Puts.{Puts};
 ghost use Rattle.trace_decimals.specs.Meaning.Text.{decimal};
 
-// No record of an answer is longer: 256 findings with five numbers each need 14,615 bytes at most, and with one more number each 17,431.
+// No record of an answer is longer: 256 findings with six numbers each need 17,431 bytes at most.
 pub const LONGEST: usize = 18000;
 
 // What a request got: its answer, and after a 0 what there is to tell. Points and Boxes are findings, so many of them.
@@ -46,9 +46,10 @@ fn put_coordinate(out: &mut [u8], at: usize, x: f32) -> usize
     trace_decimals::put_count(out, next, k)
 }
 
-fn put_handle(out: &mut [u8], at: usize, h: [u32; 2]) -> usize
+// Slot and version, or data and tracker.
+fn put_pair(out: &mut [u8], at: usize, h: [u32; 2]) -> usize
     requires { ⌜ at + 22 ≤ length (now out) ⌝ }
-    ensures { λ r. ⌜ Puts (was out) at (is out) r (handleText h) 22 ⌝ }
+    ensures { λ r. ⌜ Puts (was out) at (is out) r (pairText h) 22 ⌝ }
 {
     let next = put_number(out, at, h[0]);
     put_number(out, next, h[1])
@@ -70,20 +71,20 @@ fn put_corners(out: &mut [u8], at: usize, b: [f32; 4]) -> usize
     put_corner(out, next, b[2], b[3])
 }
 
-fn put_point(out: &mut [u8], at: usize, h: [u32; 2], p: [f32; 2], d: u32) -> usize
-    requires { ⌜ at + 57 ≤ length (now out) ⌝ }
-    ensures { λ r. ⌜ Puts (was out) at (is out) r (handleText h ++ (placeText p ++ numberField d)) 57 ⌝ }
+fn put_point(out: &mut [u8], at: usize, h: [u32; 2], p: [f32; 2], d: [u32; 2]) -> usize
+    requires { ⌜ at + 68 ≤ length (now out) ⌝ }
+    ensures { λ r. ⌜ Puts (was out) at (is out) r (pairText h ++ (placeText p ++ pairText d)) 68 ⌝ }
 {
-    let next = put_handle(out, at, h);
+    let next = put_pair(out, at, h);
     let end = put_corner(out, next, p[0], p[1]);
-    put_number(out, end, d)
+    put_pair(out, end, d)
 }
 
 fn put_box(out: &mut [u8], at: usize, h: [u32; 2], b: [f32; 4]) -> usize
     requires { ⌜ at + 70 ≤ length (now out) ⌝ }
-    ensures { λ r. ⌜ Puts (was out) at (is out) r (handleText h ++ cornersText b) 70 ⌝ }
+    ensures { λ r. ⌜ Puts (was out) at (is out) r (pairText h ++ cornersText b) 70 ⌝ }
 {
-    let next = put_handle(out, at, h);
+    let next = put_pair(out, at, h);
     put_corners(out, next, b)
 }
 
@@ -93,11 +94,11 @@ fn put_points(
     at: usize,
     handles: &[[u32; 2]],
     places: &[[f32; 2]],
-    objs: &[u32],
+    objs: &[[u32; 2]],
     n: usize,
 ) -> usize
-    requires { ⌜ (n ≤ length (now handles)) × (n ≤ length (now places)) × (n ≤ length (now objs)) × (at + n * 57 ≤ length (now out)) ⌝ }
-    ensures { λ r. ⌜ Puts (was out) at (is out) r (pointsText (was handles) (was places) (was objs) n) (n * 57) ⌝ }
+    requires { ⌜ (n ≤ length (now handles)) × (n ≤ length (now places)) × (n ≤ length (now objs)) × (at + n * 68 ≤ length (now out)) ⌝ }
+    ensures { λ r. ⌜ Puts (was out) at (is out) r (pointsText (was handles) (was places) (was objs) n) (n * 68) ⌝ }
 {
     let mut next = at;
     let mut i = 0;
@@ -138,7 +139,7 @@ fn put_said(
     handles: &[[u32; 2]],
     places: &[[f32; 2]],
     boxes: &[[f32; 4]],
-    objs: &[u32],
+    objs: &[[u32; 2]],
 ) -> usize
     requires { ⌜ Told said (length (now handles)) (length (now places)) (length (now boxes)) (length (now objs)) × (at + longestSaid ≤ length (now out)) ⌝ }
     ensures { λ r. ⌜ Puts (was out) at (is out) r (saidText said (was handles) (was places) (was boxes) (was objs)) longestSaid ⌝ }
@@ -170,7 +171,7 @@ pub fn put_record(
     handles: &[[u32; 2]],
     places: &[[f32; 2]],
     boxes: &[[f32; 4]],
-    objs: &[u32],
+    objs: &[[u32; 2]],
 ) -> usize
     requires { ⌜ Told said (length (now handles)) (length (now places)) (length (now boxes)) (length (now objs)) × (at + longest ≤ length (now out)) ⌝ }
     ensures { λ r. ⌜ Puts (was out) at (is out) r (recordText said (was handles) (was places) (was boxes) (was objs)) longest ⌝ }

@@ -65,7 +65,7 @@ pub fn answer_record(
     let mut handles = [[0u32; 2]; 256];
     let mut places = [[0.0f32; 2]; 256];
     let mut corners = [[0.0f32; 4]; 64];
-    let mut objs = [0u32; 256];
+    let mut objs = [[0u32; 2]; 256];
     let request = trace_lines::read(line, len);
     let said = trace_answers::answer(
         nums,

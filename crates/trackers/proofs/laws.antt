@@ -3,6 +3,6 @@ pub mod BatchMergeLaws
 pub mod CommuteLaws
 pub mod MaintainMergeLaws
 pub mod MergeLaws
+pub mod OrderLaws
+pub mod OwnCallsLaws
 pub mod PendedCommuteLaws
-pub mod SharedLaws
-pub mod TurnLaws

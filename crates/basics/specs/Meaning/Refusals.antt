@@ -28,7 +28,7 @@ byTests rs done refused = pick (eqb (firstOf rs) 0) done (refused (firstOf rs))
 
 -- ---- the order of the answers, document 01's with 02's in it; 10, which comes before them all, is the program's alone
 abbrev pub order : List ℕ
-order = 3 ∷ 2 ∷ 6 ∷ 11 ∷ 12 ∷ 1 ∷ 7 ∷ 4 ∷ 8 ∷ 9 ∷ []
+order = 3 ∷ 2 ∷ 6 ∷ 13 ∷ 11 ∷ 12 ∷ 14 ∷ 1 ∷ 7 ∷ 4 ∷ 8 ∷ 9 ∷ []
 
 -- whether a number applies: one of the call's tests has it and does not pass
 abbrev pub applies : List Refusal → ℕ → Bool

@@ -25,7 +25,7 @@ use Rattle.point_batch.specs.Meaning.Batch.{even}
 use Rattle.point_maintain.specs.Meaning.Maintain.{maintainOf}
 use Rattle.point_search.specs.Meaning.Searches.{Outputs, Findings}
 use Rattle.point_query.specs.Meaning.Queries.{aroundOf}
-use Rattle.trackers.specs.Meaning.Merges.{Turn, calls, Merge, NotShared, Alike, batchFor, SameBatch}
+use Rattle.trackers.specs.Meaning.Merges.{SameOrders, Alike, batchFor, SameBatch}
 use Rattle.trackers.proofs.laws.MergeLaws.{any-merge}
 use Rattle.trackers.proofs.laws.BatchMergeLaws.{any-merge-batch}
 use Rattle.whereabouts.specs.Meaning.Report.{ReportedAt, Reports, Due}
@@ -54,16 +54,16 @@ demand-1-refused t c n = first-refused (step t c) n
 holding-three : (t : Tables) (c : PointCall) → Holds t → applies (refusals t c) 3 ≡ uneven c
 unfolding refusals uneven
 holding-three t (new size) h = rw (sized-says t .no (h .sized))
-holding-three t (insert p d) h = rw (holds-says t .no h)
-holding-three t (setPosition g p) h = rw (holds-says t .no h, handle-no-three (t .nums) g)
-holding-three t (remove g) h = rw (holds-says t .no h, handle-no-three (t .nums) g)
+holding-three t (insert p d k) h = rw (holds-says t .no h)
+holding-three t (setPosition g p k) h = rw (holds-says t .no h, handle-no-three (t .nums) g)
+holding-three t (remove g k) h = rw (holds-says t .no h, handle-no-three (t .nums) g)
 holding-three t (batch ks hs ps out) h = rw (holds-says t .no h) (go (even ks hs ps))
   where
     go : (b : Bool) → (not (b && true) || false) ≡ not b
     go true = refl
     go false = refl
 holding-three t maintain h = rw (holds-says t .no h)
-holding-three t (removeMaintain g) h = rw (holds-says t .no h, handle-no-three (t .nums) g)
+holding-three t (removeMaintain g k) h = rw (holds-says t .no h, handle-no-three (t .nums) g)
 holding-three t (clear ps os) h = rw (holds-says t .no h)
 holding-three t (get g) h = rw (holds-says t .no h, handle-no-three (t .nums) g)
 holding-three t len h = rw (holds-says t .no h)
@@ -76,47 +76,48 @@ holding-three t (nearest c r) h = rw (holds-says t .no h)
 pub never-three : (t : Tables) (c : PointCall) → Holds t → eqb (leaves t c .answer) 3 ≡ uneven c
 never-three t c h = ap (λ (a : ℕ). eqb a 3) (demand-1-answer t c) ∙ three-first (refusals t c) ∙ holding-three t c h
 
--- ---- demand 3, first half: t is the grid right after an accepted maintain; l k are the calls of tracker k, no handle used by two trackers.
--- Every two merges m and n that keep each tracker's own order give each call the same answer and data and leave the same tables.
-module _ (before : Tables) (a : maintainOf before .result .answer ≡ 0) (l : ℕ → List Call) (apart : NotShared l) where
+-- ---- demand 3, first half: on any tables, for any handles, two lists in which each tracker number has the same calls in the same order give
+-- each call the same answer and data and leave the same tables
+pub demand-3-merges : (t : Tables) (m n : List Call) → SameOrders m n → Alike t m n
+demand-3-merges = any-merge
+
+-- the same of the lists as two batches
+pub demand-3-batches : (t : Tables) (m n : List Call) → SameOrders m n → (out : List (List ℕ)) → SameBatch m n (batchFor t m out) (batchFor t n out)
+demand-3-batches t m n p out = any-merge-batch t out m n p
+
+-- ---- second half: t is the grid right after an accepted maintain. After any such list m the next maintain is accepted, and a circle that is
+-- not refused reports, once each, exactly the points live before and not removed, each at its last accepted position (or unmoved), that are
+-- strictly nearer than the radius
+module _ (before : Tables) (a : maintainOf before .result .answer ≡ 0) where
   abbrev t : Tables
   t = maintainOf before .after
 
-  pub demand-3-merges : (m n : List Turn) → Merge l m → Merge l n → Alike t m n
-  demand-3-merges m n p q = any-merge t l apart m n p q
-
-  -- the same of the merges as two batches
-  pub demand-3-batches : (m n : List Turn) → Merge l m → Merge l n → (out : List (List ℕ)) → SameBatch m n (batchFor t m out) (batchFor t n out)
-  demand-3-batches m n p q out = any-merge-batch t out l apart m n p q
-
-  -- ---- second half: after any such merge the next maintain is accepted, and a circle that is not refused reports, once each, exactly the
-  -- points live before and not removed, each at its last accepted position (or unmoved), that are strictly nearer than the radius
-  pub demand-3-maintain : (m : List Turn) → nextMaintain t (calls m) .result .answer ≡ 0
-  demand-3-maintain m = next-accepted t (maintain-settles before a) (calls m)
+  pub demand-3-maintain : (m : List Call) → nextMaintain t m .result .answer ≡ 0
+  demand-3-maintain m = next-accepted t (maintain-settles before a) m
 
   -- what the circle leaves after the calls cs and the next maintain
   abbrev reportAfter : List Call → Position → Float → Outputs → Findings
   reportAfter cs centre radius o = aroundOf (nextMaintain t cs .after) centre radius o
 
-  module _ (m : List Turn) (p : Merge l m) (centre : Position) (radius : Float) (o : Outputs) where
+  module _ (m : List Call) (centre : Position) (radius : Float) (o : Outputs) where
     abbrev report : Findings
-    report = reportAfter (calls m) centre radius o
+    report = reportAfter m centre radius o
 
     module _ (b : report .returned .answer ≡ 0) where
-      -- with its data
-      pub demand-3-exactly : (g : Handle) (at : Position) (obj : ℕ)
-          → (Reports report g at obj → Due t (calls m) centre radius g at obj) × (Due t (calls m) centre radius g at obj → Reports report g at obj)
-      demand-3-exactly = circle-reports t (maintain-settles before a) (calls m) centre radius o b
+      -- with its data and its tracker
+      pub demand-3-exactly : (g : Handle) (at : Position) (obj tracker : ℕ)
+          → (Reports report g at obj tracker → Due t m centre radius g at obj tracker) × (Due t m centre radius g at obj tracker → Reports report g at obj tracker)
+      demand-3-exactly = circle-reports t (maintain-settles before a) m centre radius o b
 
-      pub demand-3-once : (i j : ℕ) (g k : Handle) (x y : Position) (d e : ℕ) → ReportedAt report i g x d → ReportedAt report j k y e → g .slot ≡ k .slot → i ≡ j
-      demand-3-once = reports-once t (maintain-settles before a) (calls m) centre radius o b
+      pub demand-3-once : (i j : ℕ) (g h : Handle) (x y : Position) (d e k l : ℕ) → ReportedAt report i g x d k → ReportedAt report j h y e l → g .slot ≡ h .slot → i ≡ j
+      demand-3-once = reports-once t (maintain-settles before a) m centre radius o b
 
   -- ---- the historic failure: a point that an accepted set_position moved last, by any distance within the domain, and that lies strictly
-  -- inside the circle, is in the report, with its data. The calls are xs, then c, then ys, and none of ys has its handle.
+  -- inside the circle, is in the report, with its data and its tracker. The calls are xs, then c, then ys, and none of ys has its handle.
   pub no-hand-is-lost : (xs : List Call) (c : Call) (ys : List Call)
       → c .kind ≡ 0 → callOf (tablesAfter t xs) c .result .answer ≡ 0 → All (Other (c .handle)) ys
       → (centre : Position) (radius : Float) (o : Outputs) → reportAfter (xs ++ (c ∷ ys)) centre radius o .returned .answer ≡ 0
-      → inCircle (c .at) centre radius ≡ true → Reports (reportAfter (xs ++ (c ∷ ys)) centre radius o) (c .handle) (c .at) (recordOn t (c .handle .slot) .obj)
+      → inCircle (c .at) centre radius ≡ true → Reports (reportAfter (xs ++ (c ∷ ys)) centre radius o) (c .handle) (c .at) (recordOn t (c .handle .slot) .obj) (c .tracker)
   no-hand-is-lost xs c ys k e last centre radius o b n = moved-found t (maintain-settles before a) xs c ys k e last centre radius o b n
 
 -- ---- tables built and changed only by these calls always hold a grid and are never refused as not holding one: on tables of any content that
@@ -127,12 +128,12 @@ new-keeps t size h = ⊎-elim (new-holds t size) (λ n. rw (new-refused t size n
 pub keeps-a-grid : (t : Tables) (c : PointCall) → Holds t → Holds (leaves t c .after)
 unfolding leaves
 keeps-a-grid t (new size) h = new-keeps t size h
-keeps-a-grid t (insert p d) h = insert-holds t p d h
-keeps-a-grid t (setPosition g p) h = set-position-keeps t g p h
-keeps-a-grid t (remove g) h = remove-keeps t g h
+keeps-a-grid t (insert p d k) h = insert-holds t p d k h
+keeps-a-grid t (setPosition g p k) h = set-position-keeps t g p k h
+keeps-a-grid t (remove g k) h = remove-keeps t g k h
 keeps-a-grid t (batch ks hs ps out) h = batch-keeps t ks hs ps out h
 keeps-a-grid t maintain h = maintain-keeps t h
-keeps-a-grid t (removeMaintain g) h = remove-holds t g h
+keeps-a-grid t (removeMaintain g k) h = remove-holds t g k h
 keeps-a-grid t (clear ps os) h = clear-holds t ps os h
 keeps-a-grid t (get g) h = h
 keeps-a-grid t len h = h

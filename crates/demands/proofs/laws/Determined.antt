@@ -48,15 +48,15 @@ module _ (t t₁ t₂ : Tables) where
   pub new-determined : (size r₁ r₂ : ℕ) → outcome r₁ t₁ ≡ newOf t size → outcome r₂ t₂ ≡ newOf t size → (r₁ ≡ r₂) × (t₁ ≡ t₂)
   new-determined size r₁ r₂ e f = same e f
 
-  pub insert-determined : (p : Position) (d : ℕ) (r₁ r₂ : Inserted) → outcome r₁ t₁ ≡ insertOf t p d → outcome r₂ t₂ ≡ insertOf t p d → (r₁ ≡ r₂) × (t₁ ≡ t₂)
-  insert-determined p d r₁ r₂ e f = same e f
+  pub insert-determined : (p : Position) (d k : ℕ) (r₁ r₂ : Inserted) → outcome r₁ t₁ ≡ insertOf t p d k → outcome r₂ t₂ ≡ insertOf t p d k → (r₁ ≡ r₂) × (t₁ ≡ t₂)
+  insert-determined p d k r₁ r₂ e f = same e f
 
-  pub set-position-determined : (h : Handle) (p : Position) (r₁ r₂ : ℕ)
-      → outcome (reply r₁ 0) t₁ ≡ setPositionOf t h p → outcome (reply r₂ 0) t₂ ≡ setPositionOf t h p → (r₁ ≡ r₂) × (t₁ ≡ t₂)
-  set-position-determined h p r₁ r₂ e f = let g = same e f in (ap (λ (x : Reply). x .answer) (g .0), g .1)
+  pub set-position-determined : (h : Handle) (p : Position) (k r₁ r₂ : ℕ)
+      → outcome (reply r₁ 0) t₁ ≡ setPositionOf t h p k → outcome (reply r₂ 0) t₂ ≡ setPositionOf t h p k → (r₁ ≡ r₂) × (t₁ ≡ t₂)
+  set-position-determined h p k r₁ r₂ e f = let g = same e f in (ap (λ (x : Reply). x .answer) (g .0), g .1)
 
-  pub remove-determined : (h : Handle) (r₁ r₂ : Reply) → outcome r₁ t₁ ≡ removeOf t h → outcome r₂ t₂ ≡ removeOf t h → (r₁ ≡ r₂) × (t₁ ≡ t₂)
-  remove-determined h r₁ r₂ e f = same e f
+  pub remove-determined : (h : Handle) (k : ℕ) (r₁ r₂ : Reply) → outcome r₁ t₁ ≡ removeOf t h k → outcome r₂ t₂ ≡ removeOf t h k → (r₁ ≡ r₂) × (t₁ ≡ t₂)
+  remove-determined h k r₁ r₂ e f = same e f
 
   pub batch-determined : (ks : List ℕ) (hs : List (List ℕ)) (ps : List (List Float)) (out : List (List ℕ)) (r₁ r₂ : Batched)
       → outcome r₁ t₁ ≡ batchOf t ks hs ps out → outcome r₂ t₂ ≡ batchOf t ks hs ps out → (r₁ ≡ r₂) × (t₁ ≡ t₂)
@@ -65,11 +65,11 @@ module _ (t t₁ t₂ : Tables) where
   pub maintain-determined : (r₁ r₂ : Maintained) → outcome r₁ t₁ ≡ maintainOf t → outcome r₂ t₂ ≡ maintainOf t → (r₁ ≡ r₂) × (t₁ ≡ t₂)
   maintain-determined r₁ r₂ e f = same e f
 
-  pub remove-maintain-determined : (h : Handle) (r₁ r₂ : Reply)
-      → outcome r₁ t₁ ≡ removeMaintainOf t h → outcome r₂ t₂ ≡ removeMaintainOf t h → (r₁ ≡ r₂) × (t₁ ≡ t₂)
-  remove-maintain-determined h r₁ r₂ e f = same e f
+  pub remove-maintain-determined : (h : Handle) (k : ℕ) (r₁ r₂ : Reply)
+      → outcome r₁ t₁ ≡ removeMaintainOf t h k → outcome r₂ t₂ ≡ removeMaintainOf t h k → (r₁ ≡ r₂) × (t₁ ≡ t₂)
+  remove-maintain-determined h k r₁ r₂ e f = same e f
 
-  pub clear-determined : (ps : List (List Float)) (os : List ℕ) (r₁ r₂ : Written)
+  pub clear-determined : (ps : List (List Float)) (os : List (List ℕ)) (r₁ r₂ : Written)
       → outcome r₁ t₁ ≡ clearOf t ps os → outcome r₂ t₂ ≡ clearOf t ps os → (r₁ ≡ r₂) × (t₁ ≡ t₂)
   clear-determined ps os r₁ r₂ e f = same e f
 

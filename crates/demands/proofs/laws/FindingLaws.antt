@@ -1,5 +1,5 @@
 -- What a query writes of an object, or `nearest` returns, is what `get` says of it. Assumes nothing.
-use Rattle.basics.specs.Words.{ℕ, _<_, _≡_, sym, ap, _∙_, refl, subst, Bool, true, false, _&&_, List, [], _∷_, List·Memᴰ, List·Memᴰ·head, eqb, arith, eqb-true}
+use Rattle.basics.specs.Words.{ℕ, _<_, _≡_, sym, ap, _∙_, refl, subst, Bool, true, false, _&&_, List, [], _∷_, List·Memᴰ, List·Memᴰ·head, getD, eqb, arith, eqb-true}
 use lib.Ieee.{Float}
 use Rattle.basics.specs.Meaning.Refusals.{firstOf, pick}
 use Rattle.geometry.specs.declared.Position.{Position}
@@ -12,6 +12,7 @@ use Rattle.replies.specs.declared.Nearest.{Nearest}
 use Rattle.storage.specs.Meaning.Entries.{Entry}
 use Rattle.box_search.proofs.laws.StandsLaws.{all-member}
 use Rattle.point_records.specs.Meaning.Columns.{positionIn}
+use Rattle.point_records.specs.Meaning.Word.{trackerAt}
 use Rattle.point_tables.specs.Meaning.Tables.{Tables, recordOn, slotOf}
 use Rattle.point_tables.specs.Meaning.Holds.{Holds}
 use Rattle.point_tables.specs.Meaning.Decide.{holds, holds-says}
@@ -33,12 +34,12 @@ use Rattle.whereabouts.proofs.laws.ShownLaws.{entryOf, reported, Stands, shows-
 use Rattle.demands.specs.Meaning.Queries.{Query, ofCells, ofCircle, ofRectangle, queried, gotAt, placeAt}
 
 -- what place j reports of a good handle is what `get` says of it
-reported-got : (t : Tables) (f : Findings) (j : ℕ) (g : Handle) (p : Position) (d : ℕ) → holds t ≡ true → ReportedAt f j g p d → Stands t g p d → gotAt t f j ≡ placeAt f j
-reported-got t f j g p d h w s =
+reported-got : (t : Tables) (f : Findings) (j : ℕ) (g : Handle) (p : Position) (d k : ℕ) → holds t ≡ true → ReportedAt f j g p d k → Stands t g p d k → gotAt t f j ≡ placeAt f j
+reported-got t f j g p d k h w s =
     ap (λ (row : List ℕ). getOf t (handleOf row)) (w .handle)
     ∙ sym (get-0 t g h (s .good-handle))
-    ∙ (λ z. got 0 (sym (s .recorded) z) (sym (s .has-data) z))
-    ∙ sym (λ z. got 0 (positionIn (w .place z)) (w .obj z))
+    ∙ (λ z. got 0 (sym (s .recorded) z) (sym (s .has-data) z) (sym (s .has-tracker) z))
+    ∙ sym (λ z. got 0 (positionIn (w .place z)) (getD (w .obj z) 0 0) (getD (w .obj z) 1 0))
 
 -- a search whose corners the cell rule may be asked of, and which is not refused
 module _ (t : Tables) (ok : Bool) (ll ur : Position) (test : Test) (o : Outputs) (reached : ok ≡ true → Reached ll × Reached ur) where
@@ -54,11 +55,11 @@ module _ (t : Tables) (ok : Bool) (ll ur : Position) (test : Test) (o : Outputs)
       let done = search-done t ok ll ur test o a in
       let e = findingOn t (entryOf es j) in
       let w = shows-entry t es o f done j l in
-      reported-got t f j (e .handle) (e .position) (e .obj) held
-      (reported t es o f done j (e .handle) (e .position) (e .obj) w)
-      (shown-stands t es h (found-standing t h ll ur rl ru test) j (e .handle) (e .position) (e .obj) w)
+      reported-got t f j (e .handle) (e .position) (e .obj) (e .tracker) held
+      (reported t es o f done j (e .handle) (e .position) (e .obj) (e .tracker) w)
+      (shown-stands t es h (found-standing t h ll ur rl ru test) j (e .handle) (e .position) (e .obj) (e .tracker) w)
 
--- each filled place of an accepted query: `get` of its handle answers 0, with the position and the data beside it
+-- each filled place of an accepted query: `get` of its handle answers 0, with the position, the data and the tracker beside it
 pub finding-is-get : (t : Tables) (q : Query) (o : Outputs) → queried t q o .returned .answer ≡ 0 → (j : ℕ) → j < queried t q o .returned .count
     → gotAt t (queried t q o) j ≡ placeAt (queried t q o) j
 unfolding queried queryOf aroundOf aabbOf
@@ -85,13 +86,13 @@ module _ (t : Tables) where
   one-given false n q near k = absurd (omega arith)
 
   -- a point that stands in tables that hold a grid: `get` of its handle says what is returned of it
-  standing-got : Holds t → (e : Entry) → Standing t e → getOf t (findingOn t e .handle) ≡ got 0 (positionOf e) (recordOn t (slotOf e) .obj)
+  standing-got : Holds t → (e : Entry) → Standing t e → getOf t (findingOn t e .handle) ≡ got 0 (positionOf e) (recordOn t (slotOf e) .obj) (trackerAt (t .nums) (slotOf e))
   standing-got h e s =
-      sym (get-0 t (findingOn t e .handle) (holds-says t .no h) (standing-good t h e s)) ∙ (λ z. got 0 (sym (s .recorded) z) (recordOn t (slotOf e) .obj))
+      sym (get-0 t (findingOn t e .handle) (holds-says t .no h) (standing-good t h e s)) ∙ (λ z. got 0 (sym (s .recorded) z) (recordOn t (slotOf e) .obj) (trackerAt (t .nums) (slotOf e)))
 
--- what `nearest` returns with count 1, which only answer 0 has: `get` of its handle answers 0, with the position and the data beside it
+-- what `nearest` returns with count 1, which only answer 0 has: `get` of its handle answers 0, with the position, the data and the tracker beside it
 pub nearest-is-get : (t : Tables) (c : Position) (r : Float) → nearestOf t c r .count ≡ 1
-    → getOf t (nearestOf t c r .handle) ≡ got 0 (nearestOf t c r .position) (nearestOf t c r .obj)
+    → getOf t (nearestOf t c r .handle) ≡ got 0 (nearestOf t c r .position) (nearestOf t c r .obj) (nearestOf t c r .tracker)
 unfolding nearestOf
 nearest-is-get t c r k =
     let ok = positionInDomain c && radiusInDomain r in
@@ -104,4 +105,4 @@ nearest-is-get t c r k =
     let h : Holds t = holds-says t .yes held in
     let (rl, ru) = around-reached (positionInDomain c) (radiusInDomain r) c r low high refl refl refl refl fine in
     let s = all-member (Standing t) es (found-standing t h low high rl ru (Circle c r)) e (closest-member c es e m) in
-    subst (λ (n : Nearest). getOf t (n .handle) ≡ got 0 (n .position) (n .obj)) (sym q) (standing-got t h e s)
+    subst (λ (n : Nearest). getOf t (n .handle) ≡ got 0 (n .position) (n .obj) (n .tracker)) (sym q) (standing-got t h e s)

@@ -43,12 +43,12 @@ isGone t h = gone (t .nums) (h .slot) (h .version)
 onward : (t : Tables) (c : PointCall) → NotBuilding c → Onward (t .nums) (leaves t c .after .nums)
 unfolding leaves Changes.after
 onward t (new size) b = absurd (b size refl)
-onward t (insert p d) b = after-onward t (Changes.insert p d)
-onward t (setPosition g p) b = after-onward t (Changes.setPosition g p)
-onward t (remove g) b = after-onward t (Changes.remove g)
+onward t (insert p d k) b = after-onward t (Changes.insert p d k)
+onward t (setPosition g p k) b = after-onward t (Changes.setPosition g p k)
+onward t (remove g k) b = after-onward t (Changes.remove g k)
 onward t (batch ks hs ps out) b = after-onward t (Changes.batch ks hs ps out)
 onward t maintain b = after-onward t Changes.maintain
-onward t (removeMaintain g) b = after-onward t (Changes.removeMaintain g)
+onward t (removeMaintain g k) b = after-onward t (Changes.removeMaintain g k)
 onward t (clear ps os) b = after-onward t (Changes.clear ps os)
 onward t (get g) b = onward-none (t .nums)
 onward t len b = onward-none (t .nums)
@@ -61,12 +61,12 @@ onward t (nearest c r) b = onward-none (t .nums)
 unheld-stays : (t : Tables) (c : PointCall) → NotBuilding c → holds t ≡ false → leaves t c .after ≡ t
 unfolding leaves
 unheld-stays t (new size) b e = absurd (b size refl)
-unheld-stays t (insert p d) b e = unfold insertOf in rw e
-unheld-stays t (setPosition g p) b e = unfold setPositionOf in rw e
-unheld-stays t (remove g) b e = unfold removeOf in rw e
+unheld-stays t (insert p d k) b e = unfold insertOf in rw e
+unheld-stays t (setPosition g p k) b e = unfold setPositionOf in rw e
+unheld-stays t (remove g k) b e = unfold removeOf in rw e
 unheld-stays t (batch ks hs ps out) b e = unfold batchOf in by-test (even ks hs ps) (λ q. rw (q, e)) (λ q. rw q)
 unheld-stays t maintain b e = unfold maintainOf in rw e
-unheld-stays t (removeMaintain g) b e = unfold removeMaintainOf in rw e
+unheld-stays t (removeMaintain g k) b e = unfold removeMaintainOf in rw e
 unheld-stays t (clear ps os) b e = unfold clearOf in rw e
 unheld-stays t (get g) b e = refl
 unheld-stays t len b e = refl
@@ -77,13 +77,13 @@ unheld-stays t (queryAabb p q o) b e = refl
 unheld-stays t (nearest c r) b e = refl
 
 -- ---- so it leaves a gone handle gone, and a good one good or gone
-lasting : (t : Tables) (c : PointCall) → NotBuilding c → Lasting (t .nums) (leaves t c .after .nums)
+pub lasting : (t : Tables) (c : PointCall) → NotBuilding c → Lasting (t .nums) (leaves t c .after .nums)
 lasting t c b =
     by-test (holds t)
     (λ k. let h = holds-says t .yes k in onward-lasting (onward t c b) (h .slots) (keeps-a-grid t c h .slots))
     (λ k. rw (unheld-stays t c b k) (lasting-none (t .nums)))
 
-all-lasting : (t : Tables) (cs : List PointCall) → All NotBuilding cs → Lasting (t .nums) (afterCalls t cs .nums)
+pub all-lasting : (t : Tables) (cs : List PointCall) → All NotBuilding cs → Lasting (t .nums) (afterCalls t cs .nums)
 unfolding afterCalls
 all-lasting t [] bs = lasting-none (t .nums)
 all-lasting t (c ∷ cs) bs = lasting-then (lasting t c (bs .0)) (all-lasting (leaves t c .after) cs (bs .1))
@@ -93,15 +93,15 @@ pub gone-stays : (t : Tables) (c : PointCall) → NotBuilding c → (g : Handle)
 gone-stays t c b g e = lasting t c b .gone-stays (g .slot) (g .version) e
 
 -- a handle that an accepted insert returned, on any tables, is good or gone after any calls but building, so that 11 is never given for it
-module _ (t : Tables) (p : Position) (d : ℕ) (accepts : insertOf t p d .result .answer ≡ 0) (cs : List PointCall) (bs : All NotBuilding cs) where
+module _ (t : Tables) (p : Position) (d k : ℕ) (accepts : insertOf t p d k .result .answer ≡ 0) (cs : List PointCall) (bs : All NotBuilding cs) where
   abbrev issued : Handle
-  issued = insertOf t p d .result .handle
+  issued = insertOf t p d k .result .handle
 
   abbrev later : Tables
-  later = afterCalls (insertOf t p d .after) cs
+  later = afterCalls (insertOf t p d k .after) cs
 
   pub issued-gone-or-good : (isGood later issued || isGone later issued) ≡ true
-  issued-gone-or-good = all-lasting (insertOf t p d .after) cs bs .good-or-gone (issued .slot) (issued .version) (insert-good t p d accepts)
+  issued-gone-or-good = all-lasting (insertOf t p d k .after) cs bs .good-or-gone (issued .slot) (issued .version) (insert-good t p d k accepts)
 
   pub issued-never-11 : handleRefusal (later .nums) issued ≡ 11 → ⊥
   issued-never-11 = issued-no-11 (later .nums) issued issued-gone-or-good

@@ -68,21 +68,21 @@ report-accepted t (e ∷ near) = refl
 pub step : (t : Tables) (c : PointCall) → Tested (refusals t c) (refusedWith t c) (leaves t c)
 unfolding leaves refusals numberFound
 step t (new size) = unfold newOf in tested ofNumber _ (λ a. outcome a t) refl (no-nine zero-position t none) _ refl
-step t (insert p d) = unfold insertOf in tested ofInserted _ (λ a. outcome (inserted a 0 0) t) refl (no-nine zero-position t none) _ refl
-step t (setPosition h p) = unfold setPositionOf in tested ofReply _ (λ a. outcome (reply a 0) t) refl (no-nine zero-position t none) _ (handle-in-turn (3 ∷ 6 ∷ []) (1 ∷ []) refl refl (t .nums) h)
-step t (remove h) = unfold removeOf in tested ofReply _ (λ a. outcome (reply a 0) t) refl (no-nine zero-position t none) _ (handle-in-turn (3 ∷ []) [] refl refl (t .nums) h)
+step t (insert p d k) = unfold insertOf in tested ofInserted _ (λ a. outcome (inserted a 0 0) t) refl (no-nine zero-position t none) _ refl
+step t (setPosition h p k) = unfold setPositionOf in tested ofReply _ (λ a. outcome (reply a 0) t) refl (no-nine zero-position t none) _ (handle-in-turn (3 ∷ 6 ∷ 13 ∷ []) (14 ∷ 1 ∷ []) refl refl (t .nums) h)
+step t (remove h k) = unfold removeOf in tested ofReply _ (λ a. outcome (reply a 0) t) refl (no-nine zero-position t none) _ (handle-in-turn (3 ∷ 13 ∷ []) (14 ∷ []) refl refl (t .nums) h)
 step t (batch ks hs ps out) =
     unfold batchOf in
     let n = length ks in
     tested ofBatched _ (λ a. outcome (batched a (pick (eqb a 9) n 0) out) t) refl (at-nine zero-position t (outputs out [] []) n) _ refl
 step t maintain = unfold maintainOf in tested ofMaintained _ (λ a. outcome (maintainedCounts a 0 0) t) refl (no-nine zero-position t none) _ refl
-step t (removeMaintain h) =
-    unfold removeMaintainOf in tested ofReply _ (λ a. outcome (reply a 0) t) refl (no-nine zero-position t none) _ (handle-in-turn (3 ∷ []) [] refl refl (t .nums) h)
+step t (removeMaintain h k) =
+    unfold removeMaintainOf in tested ofReply _ (λ a. outcome (reply a 0) t) refl (no-nine zero-position t none) _ (handle-in-turn (3 ∷ 13 ∷ []) (14 ∷ []) refl refl (t .nums) h)
 step t (clear ps os) =
     unfold clearOf in
     let n = length (liveSlots t) in
     tested ofWritten _ (λ a. outcome (wrote (count a (pick (eqb a 9) n 0)) ps os) t) refl (at-nine zero-position t (outputs [] ps os) n) _ refl
-step t (get h) = unfold getOf in tested (ofGot t) _ (λ a. got a zero-position 0) refl (no-nine zero-position t none) _ (handle-in-turn (3 ∷ []) [] refl refl (t .nums) h)
+step t (get h) = unfold getOf in tested (ofGot t) _ (λ a. got a zero-position 0 0) refl (no-nine zero-position t none) _ (handle-in-turn (3 ∷ []) [] refl refl (t .nums) h)
 step t len = unfold lenOf in tested (ofCount t) _ (λ a. count a 0) refl (no-nine zero-position t none) _ refl
 step t (handles out) = subst (listedBy t out) (as-many t out) (listed t out)
 step t (query ll ur o) = unfold queryOf in search t (positionInDomain ll && positionInDomain ur) ll ur Any o

@@ -8,16 +8,16 @@ use Rattle.slots.proofs.laws.HandleLaws.{by-why, why-not-three}
 use Rattle.demands.specs.Meaning.Left.{Outputs, zeros, theCount, Left, left, refused}
 
 -- what a call leaves, l, is `done` if they pass, and else what `refusal` says of the first that does not
-pub record Tested {T P : Type 0} (rs : List Refusal) (refusal : ℕ → Left T P) (l : Left T P) : Type 0 where
-  pub done : Left T P
+pub record Tested {T P D : Type 0} (rs : List Refusal) (refusal : ℕ → Left T P D) (l : Left T P D) : Type 0 where
+  pub done : Left T P D
   pub accepted : done .answer ≡ 0
   pub in-turn : ordered order rs ≡ true
   pub by-tests : l ≡ byTests rs done refusal
 
-module _ {T P : Type 0} {rs : List Refusal} {refusal : ℕ → Left T P} {l : Left T P} (s : Tested rs refusal l) where
+module _ {T P D : Type 0} {rs : List Refusal} {refusal : ℕ → Left T P D} {l : Left T P D} (s : Tested rs refusal l) where
   -- the answer is the first that applies
   pub first-answer : ((n : ℕ) → refusal n .answer ≡ n) → l .answer ≡ firstThat rs
-  first-answer says = ap (λ (l : Left T P). l .answer) (s .by-tests) ∙ go (eqb (firstOf rs) 0) refl ∙ in-order rs (s .in-turn)
+  first-answer says = ap (λ (l : Left T P D). l .answer) (s .by-tests) ∙ go (eqb (firstOf rs) 0) refl ∙ in-order rs (s .in-turn)
     where
       go : (b : Bool) → eqb (firstOf rs) 0 ≡ b → pick b (s .done) (refusal (firstOf rs)) .answer ≡ firstOf rs
       go true z = s .accepted ∙ sym (eqb-true (firstOf rs) 0 z)
@@ -42,7 +42,7 @@ pub handle-no-three : (nums : List (List ℕ)) (h : Handle) → eqb (whyNotGood 
 handle-no-three nums h = ne-eqb (whyNotGood nums h) 3 (why-not-three nums h)
 
 -- ---- what a call gives, x or y by its tests, seen as what it leaves
-module _ {R T P : Type 0} {refusal : ℕ → Left T P} (view : R → Left T P) (x : R) (y : ℕ → R) where
+module _ {R T P D : Type 0} {refusal : ℕ → Left T P D} (view : R → Left T P D) (x : R) (y : ℕ → R) where
   module _ (zero : view x .answer ≡ 0) (same : (n : ℕ) → view (y n) ≡ refusal n) where
     pub tested : (rs : List Refusal) → ordered order rs ≡ true → Tested rs refusal (view (byTests rs x y))
     tested rs o = record { done = view x; accepted = zero; in-turn = o; by-tests = go (eqb (firstOf rs) 0) (firstOf rs) }
@@ -52,7 +52,7 @@ module _ {R T P : Type 0} {refusal : ℕ → Left T P} (view : R → Left T P) (
         go false n = same n
 
 -- ---- the count that a refusal returns: none, or the number found if it is 9
-module _ {T P : Type 0} (z : P) (t : T) (lent : Outputs) where
+module _ {T P D : Type 0} (z : P) (t : T) (lent : Outputs D) where
   pub no-nine : (n : ℕ) → left n (zeros z) t lent ≡ refused z 0 t lent n
   no-nine n = go (eqb n 9)
     where

@@ -36,7 +36,7 @@ pub data BoxCall : Type 0 where
   query : Aabb → List (List ℕ) → List (List Float) → List ℕ → BoxCall
 
 -- the outputs as they are lent: the boxes of `clear` and `query` are places of four numbers
-abbrev pub lentTo : BoxCall → Outputs
+abbrev pub lentTo : BoxCall → Outputs ℕ
 lentTo (new size) = none
 lentTo (insert b d) = none
 lentTo (setAabb h b) = none
@@ -50,7 +50,7 @@ lentTo (query q hs bs os) = outputs hs bs os
 
 -- ---- what is left, by the kind of what a call gives
 abbrev pub Leaves : Type 0
-Leaves = Left Tables Aabb
+Leaves = Left Tables Aabb ℕ
 
 abbrev pub ofNumber : Outcome ℕ → Leaves
 ofNumber o = left (o .result) (zeros zero-aabb) (o .after) none
@@ -66,7 +66,7 @@ ofWritten o = let w = o .result in left (w .returned .answer) (theCount zero-aab
 
 -- the calls that only read: the tables are lent to them by `&`
 abbrev pub ofGot : Tables → Got → Leaves
-ofGot t g = left (g .answer) (theObject (g .aabb) (g .obj)) t none
+ofGot t g = left (g .answer) (theObject (g .aabb) (g .obj) 0) t none
 
 abbrev pub ofCount : Tables → Count → Leaves
 ofCount t c = left (c .answer) (theCount zero-aabb (c .count)) t none

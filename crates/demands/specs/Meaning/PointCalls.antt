@@ -30,13 +30,13 @@ use Rattle.demands.specs.Meaning.Left.{left, refused}
 
 pub data PointCall : Type 0 where
   new : ℕ → PointCall
-  insert : Position → ℕ → PointCall
-  setPosition : Handle → Position → PointCall
-  remove : Handle → PointCall
+  insert : Position → ℕ → ℕ → PointCall
+  setPosition : Handle → Position → ℕ → PointCall
+  remove : Handle → ℕ → PointCall
   batch : List ℕ → List (List ℕ) → List (List Float) → List (List ℕ) → PointCall
   maintain : PointCall
-  removeMaintain : Handle → PointCall
-  clear : List (List Float) → List ℕ → PointCall
+  removeMaintain : Handle → ℕ → PointCall
+  clear : List (List Float) → List (List ℕ) → PointCall
   get : Handle → PointCall
   len : PointCall
   handles : List (List ℕ) → PointCall
@@ -46,18 +46,18 @@ pub data PointCall : Type 0 where
   nearest : Position → Float → PointCall
 
 -- the outputs of a query
-abbrev pub ofColumns : Columns → Outputs
+abbrev pub ofColumns : Columns → Outputs (List ℕ)
 ofColumns o = outputs (o .handles) (o .places) (o .objs)
 
 -- the outputs as they are lent
-abbrev pub lentTo : PointCall → Outputs
+abbrev pub lentTo : PointCall → Outputs (List ℕ)
 lentTo (new size) = none
-lentTo (insert p d) = none
-lentTo (setPosition h p) = none
-lentTo (remove h) = none
+lentTo (insert p d k) = none
+lentTo (setPosition h p k) = none
+lentTo (remove h k) = none
 lentTo (batch ks hs ps out) = outputs out [] []
 lentTo maintain = none
-lentTo (removeMaintain h) = none
+lentTo (removeMaintain h k) = none
 lentTo (clear ps os) = outputs [] ps os
 lentTo (get h) = none
 lentTo len = none
@@ -69,7 +69,7 @@ lentTo (nearest c r) = none
 
 -- ---- what is left, by the kind of what a call gives
 abbrev pub Leaves : Type 0
-Leaves = Left Tables Position
+Leaves = Left Tables Position (List ℕ)
 
 abbrev pub ofNumber : Outcome ℕ → Leaves
 ofNumber o = left (o .result) (zeros zero-position) (o .after) none
@@ -92,7 +92,7 @@ ofWritten o =
 
 -- the calls that only read: the tables are lent to them by `&`
 abbrev pub ofGot : Tables → Got → Leaves
-ofGot t g = left (g .answer) (theObject (g .position) (g .obj)) t none
+ofGot t g = left (g .answer) (theObject (g .position) (g .obj) (g .tracker)) t none
 
 abbrev pub ofCount : Tables → Count → Leaves
 ofCount t c = left (c .answer) (theCount zero-position (c .count)) t none
@@ -104,16 +104,16 @@ abbrev pub ofFindings : Tables → Findings → Leaves
 ofFindings t f = left (f .returned .answer) (theCount zero-position (f .returned .count)) t (ofColumns (f .outputs))
 
 abbrev pub ofNearest : Tables → Nearest → Leaves
-ofNearest t n = left (n .answer) (theFinding (n .count) (n .handle) (n .position) (n .obj)) t none
+ofNearest t n = left (n .answer) (theFinding (n .count) (n .handle) (n .position) (n .obj) (n .tracker)) t none
 
 unfoldable pub leaves : Tables → PointCall → Leaves
 leaves t (new size) = ofNumber (newOf t size)
-leaves t (insert p d) = ofInserted (insertOf t p d)
-leaves t (setPosition h p) = ofReply (setPositionOf t h p)
-leaves t (remove h) = ofReply (removeOf t h)
+leaves t (insert p d k) = ofInserted (insertOf t p d k)
+leaves t (setPosition h p k) = ofReply (setPositionOf t h p k)
+leaves t (remove h k) = ofReply (removeOf t h k)
 leaves t (batch ks hs ps out) = ofBatched (batchOf t ks hs ps out)
 leaves t maintain = ofMaintained (maintainOf t)
-leaves t (removeMaintain h) = ofReply (removeMaintainOf t h)
+leaves t (removeMaintain h k) = ofReply (removeMaintainOf t h k)
 leaves t (clear ps os) = ofWritten (clearOf t ps os)
 leaves t (get h) = ofGot t (getOf t h)
 leaves t len = ofCount t (lenOf t)
@@ -126,12 +126,12 @@ leaves t (nearest c r) = ofNearest t (nearestOf t c r)
 -- ---- document 01's refusals of each call: its tests, which stand beside its outcome
 unfoldable pub refusals : Tables → PointCall → List Refusal
 refusals t (new size) = newTests t size
-refusals t (insert p d) = insertTests t p
-refusals t (setPosition h p) = setPositionTests t h p
-refusals t (remove h) = removeTests t h
+refusals t (insert p d k) = insertTests t p k
+refusals t (setPosition h p k) = setPositionTests t h p k
+refusals t (remove h k) = removeTests t h k
 refusals t (batch ks hs ps out) = batchTests t ks hs ps out
 refusals t maintain = maintainTests t
-refusals t (removeMaintain h) = removeMaintainTests t h
+refusals t (removeMaintain h k) = removeMaintainTests t h k
 refusals t (clear ps os) = clearTests t ps os
 refusals t (get h) = getTests t h
 refusals t len = lenTests t
@@ -144,12 +144,12 @@ refusals t (nearest c r) = nearestTests t c r
 -- ---- the number found: the findings, for `clear` and `handles` the objects, for a batch its calls; of the others none answers 9
 unfoldable pub numberFound : Tables → PointCall → ℕ
 numberFound t (new size) = 0
-numberFound t (insert p d) = 0
-numberFound t (setPosition h p) = 0
-numberFound t (remove h) = 0
+numberFound t (insert p d k) = 0
+numberFound t (setPosition h p k) = 0
+numberFound t (remove h k) = 0
 numberFound t (batch ks hs ps out) = length ks
 numberFound t maintain = 0
-numberFound t (removeMaintain h) = 0
+numberFound t (removeMaintain h k) = 0
 numberFound t (clear ps os) = length (liveSlots t)
 numberFound t (get h) = 0
 numberFound t len = 0
@@ -166,12 +166,12 @@ refusedWith t c n = refused zero-position (numberFound t c) t (lentTo c) n
 -- ---- whether a call is a batch whose lists differ in length
 unfoldable pub uneven : PointCall → Bool
 uneven (new size) = false
-uneven (insert p d) = false
-uneven (setPosition h p) = false
-uneven (remove h) = false
+uneven (insert p d k) = false
+uneven (setPosition h p k) = false
+uneven (remove h k) = false
 uneven (batch ks hs ps out) = not (even ks hs ps)
 uneven maintain = false
-uneven (removeMaintain h) = false
+uneven (removeMaintain h k) = false
 uneven (clear ps os) = false
 uneven (get h) = false
 uneven len = false

@@ -24,6 +24,6 @@ queried t (ofRectangle a b) o = aabbOf t a b o
 abbrev pub gotAt : Tables → Findings → ℕ → Got
 gotAt t f j = getOf t (handleOf (getD (f .outputs .handles) j []))
 
--- answer 0, with the position and the data that stand beside it
+-- answer 0, with the position, the data and the tracker that stand beside it
 abbrev pub placeAt : Findings → ℕ → Got
-placeAt f j = got 0 (positionIn (getD (f .outputs .places) j [])) (getD (f .outputs .objs) j 0)
+placeAt f j = got 0 (positionIn (getD (f .outputs .places) j [])) (getD (getD (f .outputs .objs) j []) 0 0) (getD (getD (f .outputs .objs) j []) 1 0)

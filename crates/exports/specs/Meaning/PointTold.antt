@@ -20,8 +20,16 @@ toldBatched r out = batched (r .answer) (r .count) (is out)
 abbrev pub toldMaintained : Maintained → Settled.Maintained
 toldMaintained r = maintainedCounts (r .answer) (r .moved) (r .removed)
 
-abbrev pub toldWritten : Count → Lent (List (List Float)) → Lent (List ℕ) → Written
+abbrev pub toldWritten : Count → Lent (List (List Float)) → Lent (List (List ℕ)) → Written
 toldWritten r places objs = wrote (toldCount r) (is places) (is objs)
 
 abbrev pub toldNearest : Nearest → Closest.Nearest
-toldNearest r = record { answer = r .answer; count = r .count; handle = handle (r .slot) (r .version); position = position (r .x) (r .y); obj = r .obj }
+toldNearest r =
+    record {
+      answer = r .answer;
+      count = r .count;
+      handle = handle (r .slot) (r .version);
+      position = position (r .x) (r .y);
+      obj = r .obj;
+      tracker = r .tracker;
+    }

@@ -17,6 +17,7 @@ fill-spec =
     (λ c κs. search needs)
     (λ c κs. search needs)
     (λ c κs. search needs)
+    (λ c κs. search needs)
     (λ c. omega arith)
     (λ c. omega arith)
     (λ c. omega arith)

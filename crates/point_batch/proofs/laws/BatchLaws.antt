@@ -7,7 +7,7 @@ use Rattle.point_tables.specs.Meaning.Tables.{Tables}
 use Rattle.point_tables.specs.Meaning.Outcome.{Outcome, outcome}
 use Rattle.replies.specs.declared.Reply.{Reply}
 use Rattle.point_deferred.specs.Meaning.Calls.{Call}
-use Rattle.point_batch.specs.Meaning.Batch.{callsOf, handleOf, replyRows}
+use Rattle.point_batch.specs.Meaning.Batch.{callsOf, handleOf, namedIn, replyRows}
 use Rattle.point_deferred.specs.Inner.Ready.{Ready}
 use Rattle.point_deferred.specs.Inner.Held.{call, heldOf, heldAfter, heldReplies}
 use Rattle.point_deferred.proofs.laws.HeldLaws.{held-ready, SameLong, held-long}
@@ -22,7 +22,7 @@ module _ (kinds : List ℕ) (handles : List (List ℕ)) (positions : List (List 
   callsFrom i = callsOf (drop i kinds) (drop i handles) (drop i positions)
 
   abbrev pub callAt : ℕ → Call
-  callAt i = call (getD kinds i 0) (handleOf (getD handles i [])) (positionIn (getD positions i []))
+  callAt i = call (getD kinds i 0) (handleOf (getD handles i [])) (positionIn (getD positions i [])) (namedIn (getD handles i []))
 
   -- after i calls: what the rest of them makes of the tables and of the output is what all of them make of those at the start
   pub record Running (t₀ : Tables) (out₀ : List (List ℕ)) (t : Tables) (out : List (List ℕ)) (i : ℕ) : Type 0 where
@@ -38,7 +38,7 @@ module _ (kinds : List ℕ) (handles : List (List ℕ)) (positions : List (List 
   replies-long [] hs ps t = omega arith
   replies-long (k ∷ ks) [] ps t = omega arith
   replies-long (k ∷ ks) (h ∷ hs) [] t = omega arith
-  replies-long (k ∷ ks) (h ∷ hs) (p ∷ ps) t = omega (arith, replies-long ks hs ps (heldOf t (call k (handleOf h) (positionIn p)) .after))
+  replies-long (k ∷ ks) (h ∷ hs) (p ∷ ps) t = omega (arith, replies-long ks hs ps (heldOf t (call k (handleOf h) (positionIn p) (namedIn h)) .after))
 
   next-call : length handles ≡ length kinds → length positions ≡ length kinds → (i : ℕ) → i < length kinds → callsFrom i ≡ callAt i ∷ callsFrom (suc i)
   next-call of-handles of-positions i l =

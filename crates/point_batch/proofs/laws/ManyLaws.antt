@@ -14,7 +14,8 @@ use Rattle.storage.specs.Meaning.Packed.{first, second}
 use Rattle.point_records.specs.declared.State.{State}
 use Rattle.point_records.specs.declared.State.the-variants.{NewPos, Relocate, Removed}
 use Rattle.point_records.specs.declared.Record.{Record}
-use Rattle.point_records.specs.Meaning.Columns.{tagOf, tagAt}
+use Rattle.point_records.specs.Meaning.Columns.{tagOf}
+use Rattle.point_records.specs.Meaning.Word.{tagAt}
 use Rattle.point_records.specs.Inner.Decide.{d-cell}
 use Rattle.point_records.specs.Meaning.States.{aimed}
 use Rattle.point_tables.specs.Meaning.Tables.{Tables, sizeOf, usedOf, rowsOf, slotsOf, recordOn}

@@ -4,7 +4,7 @@ use Rattle.basics.specs.Words.{getD-set-other, not-suc-le-zero, arith}
 use Rattle.basics.proofs.laws.Says.{d-eq, d-lt}
 use Rattle.storage.specs.Meaning.Packed.{first, second}
 use Rattle.point_batch.specs.Inner.Marks.{Walkable, SetRow, MarkedTo}
-use Rattle.point_records.specs.Meaning.Columns.{tagAt}
+use Rattle.point_records.specs.Meaning.Word.{tagAt}
 
 -- row c is not past the row of entry j
 abbrev pub Ahead : List (List ℕ) → ℕ → List (List ℕ) → ℕ → ℕ → ℕ → Type 0

@@ -59,6 +59,7 @@ run-spec =
     (λ c κs. search needs)
     (λ c. omega (arith, c .before .before .before .before .before .before .before .before .loop-test .taken))
     (λ c. omega (arith, c .before .before .before .before .before .before .before .before .before .loop-test .taken))
+    (λ c. search needs)
     deferred-requires
     (λ c κs. search needs)
     (λ c. omega (arith, few (c .before .before .before .before .before .before .before .before .before .before .before .before .before .before .before)))

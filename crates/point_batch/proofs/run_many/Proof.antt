@@ -77,6 +77,7 @@ run-many-spec =
     (λ c κs. search needs)
     (λ c. omega (arith, c .before .before .before .before .before .before .before .loop-test .taken))
     (λ c. omega (arith, c .before .before .before .before .before .before .before .before .loop-test .taken))
+    (λ c. search needs)
     unmarked-requires
     (λ c κs. search needs)
     (λ c. omega (arith, few (c .before .before .before .before .before .before .before .before .before .before .before .before .before)))

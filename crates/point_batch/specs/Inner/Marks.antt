@@ -1,7 +1,7 @@
 -- The marks of many deferred calls, by one walk over the pool beside the cell table. Assumes nothing.
 use Rattle.basics.specs.Words.{ℕ, _<_, _≤_, _≡_, List, [], _∷_, _⊎_, length, getD}
 use Rattle.storage.specs.Meaning.Packed.{first, second, Packed}
-use Rattle.point_records.specs.Meaning.Columns.{tagAt}
+use Rattle.point_records.specs.Meaning.Word.{tagAt}
 
 -- what the walk needs of the tables
 pub record Walkable (nums pool : List (List ℕ)) (used : ℕ) (cells : List (List ℕ)) (rows : ℕ) : Type 0 where

@@ -13,15 +13,18 @@ use Rattle.point_deferred.specs.Meaning.Calls.{Call, tablesAfter, replies}
 use Rattle.point_batch.specs.declared.BatchReply.{BatchReply}
 use Rattle.point_records.specs.Meaning.Columns.{positionIn}
 
--- ---- the calls as they are lent: kinds, handles (slot, version) and positions (x, y), a place of each for a call
+-- ---- the calls as they are lent: kinds, handles (slot, version, tracker) and positions (x, y), a place of each for a call
 abbrev pub handleOf : List ℕ → Handle
 handleOf row = record { slot = getD row 0 0; version = getD row 1 0 }
+
+abbrev pub namedIn : List ℕ → ℕ
+namedIn row = getD row 2 0
 
 abbrev pub callsOf : List ℕ → List (List ℕ) → List (List Float) → List Call
 callsOf [] hs ps = []
 callsOf (k ∷ ks) [] ps = []
 callsOf (k ∷ ks) (h ∷ hs) [] = []
-callsOf (k ∷ ks) (h ∷ hs) (p ∷ ps) = record { kind = k; handle = handleOf h; at = positionIn p } ∷ callsOf ks hs ps
+callsOf (k ∷ ks) (h ∷ hs) (p ∷ ps) = record { kind = k; handle = handleOf h; at = positionIn p; tracker = namedIn h } ∷ callsOf ks hs ps
 
 -- ---- the output: a row (answer, data) for each call
 abbrev pub replyRow : Reply → List ℕ

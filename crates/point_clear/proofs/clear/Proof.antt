@@ -14,12 +14,12 @@ abbrev checked : tie.After-answer → tie.After-check
 checked a = a .before .before
 
 abbrev start : tie.After-answer → tie.Start
-start a = checked a .before .before .before .before .before
+start a = checked a .before .before .before .before
 
 answer-requires : tie.Need-answer-requires
 answer-requires c κs =
     let k = c .before in
-    let s = k .before .before .before .before .before in
+    let s = k .before .before .before .before in
     answer-asks (at-entry s) (s .args .places .now) (s .args .objs .now) (k .check .result) (k .check .ensures)
 
 returns : tie.Need-returns
@@ -37,7 +37,7 @@ put-objects-requires c κs =
 
 empty-all-requires : tie.Need-empty-all-requires
 empty-all-requires c κs =
-    let e = c .before .before .before .before .before .before .before .before .before in
+    let e = c .before .before .before .before .before .before .before .before in
     let a = e .before .before in
     let s = start a in
     grid (at-entry s) (s .args .places .now) (s .args .objs .now) (checked a .check .result) (checked a .check .ensures) (a .answer .result) (a .answer .ensures) (e .if1 .left) .sized .of-map
@@ -45,7 +45,7 @@ empty-all-requires c κs =
 returns-2 : tie.Need-returns-2
 returns-2 c =
     let m = c .before .before .before in
-    let p = m .before .before .before .before .before .before in
+    let p = m .before .before .before .before .before in
     let e = p .before .before .before .before in
     let a = e .before .before in
     let s = start a in

@@ -18,7 +18,7 @@ use Rattle.point_clear.proofs.laws.LiveLaws.{live-used}
 use Rattle.point_clear.proofs.laws.ClearKeeps.{cleared-keeps, cleared-used}
 use Rattle.replies.specs.Meaning.Replies.{count}
 
-module _ (t : Tables) (places : List (List Float)) (objs : List ℕ) where
+module _ (t : Tables) (places : List (List Float)) (objs : List (List ℕ)) where
   -- the number of objects, and the places that both outputs have
   abbrev found : ℕ
   found = length (liveSlots t)

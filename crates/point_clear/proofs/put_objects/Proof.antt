@@ -1,8 +1,8 @@
 -- `point_clear::put_objects` meets its contract: what the slots passed have stands in the first places. Assumes nothing.
-use Rattle.basics.specs.Words.{_≤_, _<_, _-_, sym, _∙_, ⊎-elim, length, take-all, arith, needs}
+use Rattle.basics.specs.Words.{ℕ, _≤_, _<_, _-_, sym, ap, _∙_, ⊎-elim, [], _∷_, length, set, take-all, arith, needs}
 use Rattle.slot_walks.specs.Meaning.Live.{liveFrom, objAt}
 use Rattle.slot_walks.proofs.laws.LiveLaws.{liveTo, live-within, live-one, live-none, live-room}
-use Rattle.point_clear.specs.Inner.{placeAt}
+use Rattle.point_clear.specs.Inner.{placeAt, objRowAt}
 use Rattle.storage.proofs.laws.PutLaws.{Rows, rows-none, rows-kept, rows-room, rows-next, rows-same}
 use Rattle.point_clear.proofs.put_objects.Statement.{statement}
 use Rattle.point_clear.proofs.put_objects.Tie as tie
@@ -10,13 +10,13 @@ use Rattle.point_clear.proofs.put_objects.Tie as tie
 abbrev Inv-loop : tie.InvT-loop
 Inv-loop nums reals places₀ objs₀ k₀ i₀ places objs k i =
     let n = length (liveFrom 0 nums) in
-    (i ≤ length nums) × Rows (placeAt reals) (liveTo i nums) n places₀ places k × Rows (objAt nums) (liveTo i nums) n objs₀ objs k
+    (i ≤ length nums) × Rows (placeAt reals) (liveTo i nums) n places₀ places k × Rows (objRowAt nums) (liveTo i nums) n objs₀ objs k
 
 abbrev μ-loop : tie.MeasureT-loop
 μ-loop nums reals places₀ objs₀ k₀ i₀ places objs k i = length nums - i
 
 abbrev start : tie.At-loop Inv-loop μ-loop → tie.Start Inv-loop μ-loop
-start l = l .before .before
+start l = l .before
 
 -- the slot at hand is live: it is one of the objects
 module _ (c : tie.Then1 Inv-loop μ-loop) where
@@ -45,7 +45,8 @@ loop-again c =
     (λ w.
     let g = sym e ∙ w .0 .taken in
     let r : l .loop .k < length (liveFrom 0 nums) = omega (arith, v .1 .count, live-room nums i h g) in
-    (omega arith, rows-next (v .1) i (p .2) r (live-one nums i h g) (w .2) (w .4), rows-next (v .2) i (p .3) r (live-one nums i h g) (w .3) (w .4)))
+    let o = w .4 ∙ ap (λ (n : ℕ). set (l .loop .objs) (l .loop .k) (objAt nums i ∷ n ∷ [])) (w .2 .ensures) in
+    (omega arith, rows-next (v .1) i (p .2) r (live-one nums i h g) (w .3) (w .5), rows-next (v .2) i (p .3) r (live-one nums i h g) o (w .5)))
     (λ w.
     let m = live-none nums i h (sym e ∙ w .0 .left) in
     (omega arith, rows-same (v .1) m (w .1) (w .3), rows-same (v .2) m (w .2) (w .3)))
@@ -74,9 +75,10 @@ put-objects-spec =
     (λ c. omega (arith, least (c .before)))
     (λ c. rows-room (head (c .before) .loop .inv .1) (start (head (c .before)) .pre .2) (room (c .before)))
     (λ c. search needs)
-    (λ c. omega (arith, least (c .before)))
-    (λ c. rows-room (head (c .before) .loop .inv .2) (start (head (c .before)) .pre .3) (room (c .before)))
-    (λ c. omega (arith, least (c .before)))
+    (λ c κs. search needs)
+    (λ c. omega (arith, least (c .before .before)))
+    (λ c. rows-room (head (c .before .before) .loop .inv .2) (start (head (c .before .before)) .pre .3) (room (c .before .before)))
+    (λ c. omega (arith, least (c .before .before)))
     (λ c. omega arith)
     (λ c. omega arith)
     loop-again

@@ -8,9 +8,10 @@ use Rattle.basics.specs.Meaning.Refusals.{orElse}
 use Rattle.geometry.specs.Meaning.Domain.{positionInDomain}
 use Rattle.geometry.specs.declared.Position.{Position}
 use Rattle.slots.specs.declared.Handle.{Handle}
-use Rattle.slots.specs.Meaning.Slot.{good, whyNotGood}
-use Rattle.slots.proofs.laws.HandleLaws.{why-some, not-refused}
+use Rattle.point_records.specs.declared.State.{State}
+use Rattle.point_records.specs.Meaning.Occupied.{InDomain}
 use Rattle.point_records.specs.Meaning.States.{isRemoved}
+use Rattle.point_records.proofs.laws.OwnLaws.{Own, ownRefusal, own-passed}
 use Rattle.point_tables.specs.Meaning.Tables.{Tables, sizeOf, recordOn}
 use Rattle.point_tables.specs.Meaning.Holds.{Holds}
 use Rattle.point_tables.specs.Meaning.Decide.{holds, holds-says}
@@ -20,7 +21,7 @@ use Rattle.point_deferred.specs.Meaning.Moves.{pended, setPositionAnswer
 use Rattle.point_deferred.specs.Meaning.Calls.{Call, callOf, tablesAfter, replies}
 use Rattle.point_deferred.specs.Inner.Ready.{Ready, Workable}
 use Rattle.point_deferred.proofs.laws.PendedLaws.{nums-long, reals-long, ints-long, cells-long, pended-ready}
-use Rattle.point_deferred.proofs.laws.MovesLaws.{named}
+use Rattle.point_deferred.proofs.laws.MovesLaws.{named, past-own, set-tests, by-zero}
 use Rattle.point_deferred.proofs.laws.MovesKeeps.{call-keeps}
 use Rattle.point_deferred.proofs.laws.Held.{withPool}
 use Rattle.point_deferred.specs.Inner.Held.{setRefusal, removeRefusal, heldAnswer, nextState, worked, heldOf, heldAfter, heldReplies}
@@ -28,21 +29,21 @@ use Rattle.replies.specs.Meaning.Replies.{reply}
 
 -- ---- the answers past the check
 module _ (t : Tables) (g : holds t ≡ true) where
-  pub set-refusal : (h : Handle) (at : Position) → setPositionAnswer t h at ≡ setRefusal (t .nums) (recordOn t (h .slot) .state) h at
+  pub set-refusal : (h : Handle) (at : Position) (k : ℕ) → setPositionAnswer t h at k ≡ setRefusal (t .nums) (recordOn t (h .slot) .state) h at k
   unfolding setPositionAnswer setRefusal
-  set-refusal h at = rw g
+  set-refusal h at k = rw g
 
-  pub remove-refusal : (h : Handle) → removeAnswer t h ≡ removeRefusal (t .nums) h
+  pub remove-refusal : (h : Handle) (k : ℕ) → removeAnswer t h k ≡ removeRefusal (t .nums) h k
   unfolding removeAnswer removeRefusal
-  remove-refusal h = rw g
+  remove-refusal h k = rw g
 
   pub call-held : (c : Call) → callOf t c ≡ heldOf t c
   unfolding callOf setPositionOf removeOf heldOf worked
   call-held c = go (eqb (c .kind) 0) refl
     where
       go : (b : Bool) → eqb (c .kind) 0 ≡ b → callOf t c ≡ heldOf t c
-      go true e = rw (e, set-refusal (c .handle) (c .at))
-      go false e = rw (e, remove-refusal (c .handle))
+      go true e = rw (e, set-refusal (c .handle) (c .at) (c .tracker))
+      go false e = rw (e, remove-refusal (c .handle) (c .tracker))
 
 -- ---- the pool does not matter
 held-pool : (t : Tables) (pool : List (List ℕ)) (spots : List (List Float)) (c : Call) → heldOf (withPool t pool spots) c ≡ outcome (heldOf t c .result) (withPool (heldOf t c .after) pool spots)
@@ -53,24 +54,28 @@ held-pool t pool spots c = go (eqb (heldAnswer t c) 0) refl
     go true e = rw e
     go false e = rw e
 
--- ---- accepted: slot s has an object, and a new position is in the domain
-three : (a b d : Bool) (n : ℕ) → (n ≡ 0 → ⊥) → orElse a 6 (orElse b n (orElse d 1 0)) ≡ 0 → (a ≡ true) × (b ≡ true)
-three true true d n z e = (refl, refl)
-three true false d n z e = absurd (z e)
-three false b d n z e = absurd (omega arith)
+-- ---- accepted: the object is the tracker's, so that its slot has one, and a new position is in the domain
+three : (a : Bool) (state : State) (n : ℕ) → orElse a 6 (past-own n state) ≡ 0 → (a ≡ true) × (n ≡ 0)
+three true state n e = (refl, by-zero (λ (m : ℕ). m ≡ 0 → n ≡ 0) n (orElse (not (isRemoved state)) 1 0) (λ z q. z) (λ z q. q) e)
+three false state n e = absurd (omega arith)
 
-pub held-accepted : (t : Tables) (c : Call) → heldAnswer t c ≡ 0 → Workable t (c .handle .slot) (c .kind) (c .at)
-unfolding setRefusal removeRefusal
-held-accepted t c e = go (eqb (c .kind) 0) refl
-  where
-    go : (b : Bool) → eqb (c .kind) 0 ≡ b → Workable t (c .handle .slot) (c .kind) (c .at)
-    go true q =
-        let f = three (positionInDomain (c .at)) (good (t .nums) (c .handle .slot) (c .handle .version)) (not (isRemoved (recordOn t (c .handle .slot) .state))) (whyNotGood (t .nums) (c .handle)) (why-some (t .nums) (c .handle)) (rw q at e) in
-        let g = named t (c .handle) (f .1) in
-        record { inside = g .inside; occupied = g .occupied; in-domain = λ k. subst T (sym (f .0)) tt }
-    go false q =
-        let g = named t (c .handle) (not-refused (t .nums) (c .handle) (rw q at e)) in
-        record { inside = g .inside; occupied = g .occupied; in-domain = λ k. absurd (eqb-false (c .kind) 0 q k) }
+module _ (t : Tables) (c : Call) (e : heldAnswer t c ≡ 0) where
+  passed : (ownRefusal (t .nums) (c .handle) (c .tracker) ≡ 0) × (c .kind ≡ 0 → InDomain (c .at))
+  unfolding setRefusal removeRefusal
+  passed = go (eqb (c .kind) 0) refl
+    where
+      go : (b : Bool) → eqb (c .kind) 0 ≡ b → (ownRefusal (t .nums) (c .handle) (c .tracker) ≡ 0) × (c .kind ≡ 0 → InDomain (c .at))
+      go true q =
+          let state = recordOn t (c .handle .slot) .state in
+          let f = three (positionInDomain (c .at)) state (ownRefusal (t .nums) (c .handle) (c .tracker)) (rw (q, set-tests (t .nums) state (c .handle) (c .at) (c .tracker)) at e) in
+          (f .1, λ k. subst T (sym (f .0)) tt)
+      go false q = (rw q at e, λ k. absurd (eqb-false (c .kind) 0 q k))
+
+  pub held-own : Own (t .nums) (c .handle) (c .tracker)
+  held-own = own-passed (t .nums) (c .handle) (c .tracker) (passed .0)
+
+  pub held-accepted : Workable t (c .handle .slot) (c .kind) (c .at)
+  held-accepted = let g = named t (c .handle) (held-own .is-good) in record { inside = g .inside; occupied = g .occupied; in-domain = passed .1 }
 
 -- ---- the outcome, refused and accepted
 module _ (t : Tables) (c : Call) where

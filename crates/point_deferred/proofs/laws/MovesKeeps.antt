@@ -1,5 +1,5 @@
 -- The deferred calls keep a grid: tables that held one hold one after any call, and after any row of calls. Assumes nothing.
-use Rattle.basics.specs.Words.{ℕ, _<_, _≤_, _≡_, refl, sym, ap, _∙_, subst, Bool, true, false, List, [], _∷_, ⊎-elim, getD, eqb, arith}
+use Rattle.basics.specs.Words.{ℕ, _<_, _≤_, _≡_, refl, sym, ap, _∙_, subst, Bool, true, false, List, [], _∷_, ⊎-elim, eqb, arith}
 use Rattle.basics.proofs.laws.Says.{d-eq, d-lt}
 use Rattle.basics.specs.Meaning.Refusals.{pick}
 use Rattle.geometry.specs.declared.Position.{Position}
@@ -9,9 +9,10 @@ use Rattle.slots.specs.Meaning.Slot.{live, phaseAt, SlotsHold}
 use Rattle.slots.proofs.laws.SlotLaws.{row-holds}
 use Rattle.storage.specs.Meaning.Packed.{first, second, Packed}
 use Rattle.point_records.specs.declared.State.{State}
-use Rattle.point_records.specs.declared.State.the-variants.{Unchanged, NewPos, Relocate, Removed}
+use Rattle.point_records.specs.declared.State.the-variants.{Removed}
 use Rattle.point_records.specs.declared.Record.{Record}
-use Rattle.point_records.specs.Meaning.Columns.{tagIn, tagOf, numsOf}
+use Rattle.point_records.specs.Meaning.Columns.{tagOf, numsOf}
+use Rattle.point_records.specs.Meaning.Word.{lastWord, wordAt}
 use Rattle.point_records.specs.Meaning.Occupied.{Agrees, Occupied}
 use Rattle.point_records.proofs.laws.OccupiedLaws.{aimed-agrees}
 use Rattle.point_records.specs.Meaning.States.{aimed, withState}
@@ -21,15 +22,9 @@ use Rattle.point_deferred.specs.Meaning.Moves.{pended, setPositionAnswer
 use Rattle.point_deferred.specs.Meaning.Calls.{Call, callOf, tablesAfter}
 use Rattle.point_deferred.specs.Inner.Ready.{Ready}
 use Rattle.point_deferred.proofs.laws.ReadyLaws.{holds-ready}
-use Rattle.point_deferred.proofs.laws.PendedLaws.{nums-long, reals-long, ints-long, record-same, record-other, kept, tag-same, tag-other, cells-long}
+use Rattle.point_deferred.proofs.laws.PendedLaws.{nums-long, reals-long, ints-long, record-same, record-other, kept, word-same, nums-other, cells-long}
 use Rattle.point_deferred.proofs.laws.PendedLaws.{key-kept, mark-set, mark-kept}
 use Rattle.point_deferred.proofs.laws.MovesLaws.{set-accepted, remove-accepted, set-refused, set-done, remove-refused, remove-done}
-
-tag-most : (s : State) → tagOf s ≤ 3
-tag-most Unchanged = omega arith
-tag-most (NewPos p) = omega arith
-tag-most (Relocate p c) = omega arith
-tag-most Removed = omega arith
 
 module _ (t : Tables) (s : ℕ) (state : State) (h : Holds t) (l : s < slotsOf t) (p : phaseAt (t .nums) s ≡ live) (a : Agrees (sizeOf t) (recordOn t s .cell) state) where
   ready : Ready t
@@ -57,13 +52,13 @@ module _ (t : Tables) (s : ℕ) (state : State) (h : Holds t) (l : s < slotsOf t
       let o = h .records s l p .occupied in
       rw (record-same t s state ready l) (record { in-domain = o .in-domain; in-cell = o .in-cell; agrees = a })
 
-  record-after : (j : ℕ) → j < slotsOf t → phaseAt (u .nums) j ≡ live → (tagIn (getD (u .nums) j []) ≤ 3) × Occupied (sizeOf t) (recordOn u j)
+  record-after : (j : ℕ) → j < slotsOf t → phaseAt (u .nums) j ≡ live → (wordAt (u .nums) j ≤ lastWord) × Occupied (sizeOf t) (recordOn u j)
   record-after j m q =
       ⊎-elim
-      (λ e. subst (λ (k : ℕ). (tagIn (getD (u .nums) k []) ≤ 3) × Occupied (sizeOf t) (recordOn u k)) (sym e) (rw (tag-same t s state ready l) (tag-most state), occupied-after))
+      (λ e. subst (λ (k : ℕ). (wordAt (u .nums) k ≤ lastWord) × Occupied (sizeOf t) (recordOn u k)) (sym e) (word-same t s state ready l, occupied-after))
       (λ n.
       let w = h .records j m (sym (phase-kept j) ∙ q) in
-      (rw (tag-other t s state ready l j n) (w .tagged), rw (record-other t s state ready l j n) (w .occupied)))
+      (rw (nums-other t s state ready l j n) (w .worded), rw (record-other t s state ready l j n) (w .occupied)))
       (d-eq j s)
 
   -- ---- the lists
@@ -133,37 +128,37 @@ module _ (t : Tables) (s : ℕ) (state : State) (h : Holds t) (l : s < slotsOf t
         };
         counted = record { size = h .counted .size; used-most = rw (nums-long t s state) (h .counted .used-most); rows-most = rw (nums-long t s state) (h .counted .rows-most) };
         slots = slots-after;
-        records = λ j m q. let w = record-after j (rw (nums-long t s state) at m) q in record { tagged = w .0; occupied = w .1 };
+        records = λ j m q. let w = record-after j (rw (nums-long t s state) at m) q in record { worded = w .0; occupied = w .1 };
         packed = packed-after;
         lists = lists-after;
         dirty = λ j m w r y k. dirty-after j (rw (nums-long t s state) at m) w r y (sym (key-kept t s state ready l p r) ∙ k ∙ ap keyOf (cell-kept j));
       }
 
 -- ---- an accepted call found a grid, and leaves one
-pub set-position-accepted : (t : Tables) (h : Handle) (at : Position) → setPositionAnswer t h at ≡ 0 → Holds (setPositionOf t h at .after)
-set-position-accepted t h at e =
-    let a = set-accepted t h at e in
-    rw (set-done t h at e) (pended-holds t (h .slot) (aimed (sizeOf t) (recordOn t (h .slot) .cell) at) (a .held) (a .names .inside) (a .names .occupied) (aimed-agrees (sizeOf t) (recordOn t (h .slot) .cell) at (a .in-domain)))
+pub set-position-accepted : (t : Tables) (h : Handle) (at : Position) (k : ℕ) → setPositionAnswer t h at k ≡ 0 → Holds (setPositionOf t h at k .after)
+set-position-accepted t h at k e =
+    let a = set-accepted t h at k e in
+    rw (set-done t h at k e) (pended-holds t (h .slot) (aimed (sizeOf t) (recordOn t (h .slot) .cell) at) (a .held) (a .names .inside) (a .names .occupied) (aimed-agrees (sizeOf t) (recordOn t (h .slot) .cell) at (a .in-domain)))
 
-pub remove-accepted-holds : (t : Tables) (h : Handle) → removeAnswer t h ≡ 0 → Holds (removeOf t h .after)
-remove-accepted-holds t h e =
-    let a = remove-accepted t h e in
-    rw (remove-done t h e) (pended-holds t (h .slot) Removed (a .held) (a .names .inside) (a .names .occupied) tt)
+pub remove-accepted-holds : (t : Tables) (h : Handle) (k : ℕ) → removeAnswer t h k ≡ 0 → Holds (removeOf t h k .after)
+remove-accepted-holds t h k e =
+    let a = remove-accepted t h k e in
+    rw (remove-done t h k e) (pended-holds t (h .slot) Removed (a .held) (a .names .inside) (a .names .occupied) tt)
 
 -- ---- whatever the answer, tables that hold a grid are followed by tables that do
-pub set-position-keeps : (t : Tables) (h : Handle) (at : Position) → Holds t → Holds (setPositionOf t h at .after)
-set-position-keeps t h at g = ⊎-elim (set-position-accepted t h at) (λ n. rw (set-refused t h at n) g) (d-eq (setPositionAnswer t h at) 0)
+pub set-position-keeps : (t : Tables) (h : Handle) (at : Position) (k : ℕ) → Holds t → Holds (setPositionOf t h at k .after)
+set-position-keeps t h at k g = ⊎-elim (set-position-accepted t h at k) (λ n. rw (set-refused t h at k n) g) (d-eq (setPositionAnswer t h at k) 0)
 
-pub remove-keeps : (t : Tables) (h : Handle) → Holds t → Holds (removeOf t h .after)
-remove-keeps t h g = ⊎-elim (remove-accepted-holds t h) (λ n. rw (remove-refused t h n) g) (d-eq (removeAnswer t h) 0)
+pub remove-keeps : (t : Tables) (h : Handle) (k : ℕ) → Holds t → Holds (removeOf t h k .after)
+remove-keeps t h k g = ⊎-elim (remove-accepted-holds t h k) (λ n. rw (remove-refused t h k n) g) (d-eq (removeAnswer t h k) 0)
 
 pub call-keeps : (t : Tables) (c : Call) → Holds t → Holds (callOf t c .after)
 unfolding callOf
 call-keeps t c g = go (eqb (c .kind) 0)
   where
-    go : (b : Bool) → Holds (pick b (setPositionOf t (c .handle) (c .at)) (removeOf t (c .handle)) .after)
-    go true = set-position-keeps t (c .handle) (c .at) g
-    go false = remove-keeps t (c .handle) g
+    go : (b : Bool) → Holds (pick b (setPositionOf t (c .handle) (c .at) (c .tracker)) (removeOf t (c .handle) (c .tracker)) .after)
+    go true = set-position-keeps t (c .handle) (c .at) (c .tracker) g
+    go false = remove-keeps t (c .handle) (c .tracker) g
 
 pub calls-keep : (t : Tables) (cs : List Call) → Holds t → Holds (tablesAfter t cs)
 unfolding tablesAfter

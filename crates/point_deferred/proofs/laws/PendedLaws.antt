@@ -1,14 +1,15 @@
 -- What a pending state changes in the tables: the state of one record and the mark of its cell, and nothing else. Assumes nothing.
-use Rattle.basics.specs.Words.{ℕ, _<_, _≡_, refl, sym, ap, _∙_, subst, List, [], _∷_, ⊎-elim, length, getD, set, length-set, getD-set-same, getD-set-other}
+use Rattle.basics.specs.Words.{ℕ, _<_, _≤_, _≡_, refl, sym, ap, _∙_, subst, List, [], _∷_, ⊎-elim, length, getD, set, length-set, getD-set-same, getD-set-other}
 use Rattle.basics.specs.Words.{arith}
 use Rattle.basics.proofs.laws.Says.{d-eq}
 use Rattle.cells.specs.Meaning.Key.{keyOf}
-use Rattle.slots.specs.Meaning.Slot.{live, phaseAt}
+use Rattle.slots.specs.Meaning.Slot.{live, phaseAt, good, gone}
 use Rattle.storage.specs.Meaning.Packed.{first, second}
 use Rattle.point_records.specs.declared.State.{State}
 use Rattle.point_records.specs.declared.Record.{Record}
-use Rattle.point_records.specs.Meaning.Columns.{tagIn, numsOf, tagOf}
-use Rattle.point_records.proofs.laws.ColumnLaws.{stored-same, stored-other}
+use Rattle.point_records.specs.Meaning.Columns.{numsOf}
+use Rattle.point_records.specs.Meaning.Word.{lastWord, wordAt}
+use Rattle.point_records.proofs.laws.ColumnLaws.{word-of-row, stored-same, stored-other}
 use Rattle.point_records.specs.Meaning.States.{withState}
 use Rattle.point_tables.specs.Meaning.Tables.{Tables, slotsOf, recordOn}
 use Rattle.point_deferred.specs.Meaning.Moves.{pended}
@@ -51,13 +52,26 @@ module _ (t : Tables) (s : ℕ) (state : State) where
         (λ n. ap f (record-other j n))
         (d-eq j s)
 
-    pub tag-same : tagIn (getD (pended t s state .nums) s []) ≡ tagOf state
-    unfolding pended
-    tag-same = rw (getD-set-same (t .nums) s (numsOf (withState (recordOn t s) state)) [] l)
+    -- no version and no phase, so no handle: what is good stays good, and what is gone stays gone
+    pub good-kept : (j v : ℕ) → good (pended t s state .nums) j v ≡ good (t .nums) j v
+    unfolding good
+    good-kept j v = rw (nums-long, kept (λ (r : Record). r .phase) refl j, kept (λ (r : Record). r .version) refl j)
 
-    pub tag-other : (j : ℕ) → (j ≡ s → ⊥) → tagIn (getD (pended t s state .nums) j []) ≡ tagIn (getD (t .nums) j [])
+    pub gone-kept : (j v : ℕ) → gone (pended t s state .nums) j v ≡ gone (t .nums) j v
+    unfolding gone
+    gone-kept j v = rw (nums-long, kept (λ (r : Record). r .phase) refl j, kept (λ (r : Record). r .version) refl j)
+
+    -- ---- the rows of numbers
+    nums-same : getD (pended t s state .nums) s [] ≡ numsOf (withState (recordOn t s) state)
     unfolding pended
-    tag-other j n = rw (getD-set-other (t .nums) s j (numsOf (withState (recordOn t s) state)) [] n)
+    nums-same = getD-set-same (t .nums) s (numsOf (withState (recordOn t s) state)) [] l
+
+    pub nums-other : (j : ℕ) → (j ≡ s → ⊥) → getD (pended t s state .nums) j [] ≡ getD (t .nums) j []
+    unfolding pended
+    nums-other j n = getD-set-other (t .nums) s j (numsOf (withState (recordOn t s) state)) [] n
+
+    pub word-same : wordAt (pended t s state .nums) s ≤ lastWord
+    word-same = rw nums-same (word-of-row (withState (recordOn t s) state))
 
     -- ---- the rows of the cells: that of the object's cell is marked
     module _ (p : phaseAt (t .nums) s ≡ live) where

@@ -26,7 +26,7 @@ returns : tie.Need-returns
 returns c =
     let k = c .before in
     let s = start k in
-    set-no-grid (at-entry s) (s .args .h) (s .args .at) (sym (k .check .ensures) ∙ not-true _ (c .if1 .taken))
+    set-no-grid (at-entry s) (s .args .h) (s .args .at) (s .args .tracker) (sym (k .check .ensures) ∙ not-true _ (c .if1 .taken))
 
 deferred-requires : tie.Need-deferred-requires
 deferred-requires c κs =
@@ -39,7 +39,7 @@ returns-2 c =
     let d = c .before .before .before .before in
     let e = d .before .before .before .before .before in
     let s = start (e .before) in
-    set-held (seen s) _ (s .args .pool .now) (s .args .spots .now) (s .args .h) (s .args .at) _ (held e) (d .deferred .ensures)
+    set-held (seen s) _ (s .args .pool .now) (s .args .spots .now) (s .args .h) (s .args .at) (s .args .tracker) _ (held e) (d .deferred .ensures)
 
 pub set-position-spec : {M : Type 1} → statement M
 set-position-spec =

@@ -43,18 +43,19 @@ columnsBefore nums reals ints size = poolless (was nums) (was reals) (was ints) 
 abbrev pub columnsAfter : Lent (List (List ℕ)) → Lent (List (List Float)) → Lent (List (List ℤ)) → ℕ → Tables
 columnsAfter nums reals ints size = poolless (is nums) (is reals) (is ints) (size ∷ []) []
 
-abbrev pub call : ℕ → Handle → Position → Call
-call k h p = record { kind = k; handle = h; at = p }
+abbrev pub call : ℕ → Handle → Position → ℕ → Call
+call kind h p k = record { kind = kind; handle = h; at = p; tracker = k }
 
 -- ---- the refusals past the check, for an object of that state
-unfoldable pub setRefusal : List (List ℕ) → State → Handle → Position → ℕ
-setRefusal nums state h at = firstOf (setHeldTests nums state h at)
+unfoldable pub setRefusal : List (List ℕ) → State → Handle → Position → ℕ → ℕ
+setRefusal nums state h at k = firstOf (setHeldTests nums state h at k)
 
-unfoldable pub removeRefusal : List (List ℕ) → Handle → ℕ
-removeRefusal nums h = firstOf (removeHeldTests nums h)
+unfoldable pub removeRefusal : List (List ℕ) → Handle → ℕ → ℕ
+removeRefusal nums h k = firstOf (removeHeldTests nums h k)
 
 abbrev pub refusalOf : List (List ℕ) → State → Call → ℕ
-refusalOf nums state c = pick (eqb (c .kind) 0) (setRefusal nums state (c .handle) (c .at)) (removeRefusal nums (c .handle))
+refusalOf nums state c =
+    pick (eqb (c .kind) 0) (setRefusal nums state (c .handle) (c .at) (c .tracker)) (removeRefusal nums (c .handle) (c .tracker))
 
 abbrev pub heldAnswer : Tables → Call → ℕ
 heldAnswer t c = refusalOf (t .nums) (recordOn t (c .handle .slot) .state) c

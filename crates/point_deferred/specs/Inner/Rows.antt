@@ -12,9 +12,6 @@ use Rattle.point_deferred.specs.Inner.Held.{stateFor}
 abbrev pub cellIn : List ℤ → Cell
 cellIn z = record { x = getD z 0 (pos 0); y = getD z 1 (pos 0) }
 
-abbrev pub withTag : List ℕ → ℕ → List ℕ
-withTag n tag = getD n 0 0 ∷ getD n 1 0 ∷ getD n 2 0 ∷ tag ∷ []
-
 abbrev pub withPending : List Float → Position → List Float
 withPending q at = getD q 0 nan ∷ getD q 1 nan ∷ at .x ∷ at .y ∷ []
 

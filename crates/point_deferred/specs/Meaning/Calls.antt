@@ -1,4 +1,4 @@
--- Deferred calls one after the other: kind 0 is `set_position`, any other `remove`. Assumes nothing.
+-- Deferred calls one after the other, each of which names its tracker: kind 0 is `set_position`, any other `remove`. Assumes nothing.
 use Rattle.basics.specs.Words.{ℕ, List, [], _∷_, eqb}
 use Rattle.basics.specs.Meaning.Refusals.{pick}
 use Rattle.geometry.specs.declared.Position.{Position}
@@ -12,10 +12,11 @@ pub record Call : Type 0 where
   pub kind : ℕ
   pub handle : Handle
   pub at : Position
+  pub tracker : ℕ
 
 -- one call, and calls one after the other
 unfoldable pub callOf : Tables → Call → Outcome Reply
-callOf t c = pick (eqb (c .kind) 0) (setPositionOf t (c .handle) (c .at)) (removeOf t (c .handle))
+callOf t c = pick (eqb (c .kind) 0) (setPositionOf t (c .handle) (c .at) (c .tracker)) (removeOf t (c .handle) (c .tracker))
 
 unfoldable pub tablesAfter : Tables → List Call → Tables
 unfolding callOf

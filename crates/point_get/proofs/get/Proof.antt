@@ -3,6 +3,7 @@ use Rattle.basics.specs.Words.{ℕ, _<_, _≡_, sym, ap, _∙_, subst, true, le
 use lib.Ieee.{ofBits}
 use Rattle.slots.specs.Meaning.Slot.{good}
 use Rattle.slots.proofs.laws.HandleLaws.{not-refused}
+use Rattle.point_records.specs.Meaning.Word.{trackerAt}
 use Rattle.point_tables.specs.Meaning.Tables.{Tables, tables, recordOn}
 use Rattle.point_tables.specs.Meaning.Decide.{holds, holds-says}
 use Rattle.point_get.specs.declared.Got.{Got}
@@ -53,14 +54,15 @@ in-reals c =
 
 -- what is read at place s of the columns
 read : Tables → ℕ → Got
-read t s = got 0 (recordOn t s .position) (recordOn t s .obj)
+read t s = got 0 (recordOn t s .position) (recordOn t s .obj) (trackerAt (t .nums) s)
 
 returns-3 : tie.Need-returns-3
 unfolding read
 returns-3 c =
-    let e = c .before .before .before in
+    let r = c .before .before .before in
+    let e = r .before in
     let s = start (checked e) in
-    ap (read (lent s)) (c .before .before .wide .ensures) ∙ get-0 (lent s) (s .args .h) (held (e .before .before)) (is-good e)
+    ap (got 0 _ _) (c .tracker-in .ensures) ∙ ap (read (lent s)) (r .wide .ensures) ∙ get-0 (lent s) (s .args .h) (held (e .before .before)) (is-good e)
 
 pub get-spec : {M : Type 1} → statement M
 get-spec =
@@ -78,4 +80,5 @@ get-spec =
     (λ c. search needs)
     (λ c. search needs)
     (λ c. search needs)
+    (λ c κs. search needs)
     returns-3)

@@ -5,6 +5,7 @@ use Rattle.basics.proofs.laws.Says.{both-true}
 use Rattle.slots.specs.declared.Handle.{Handle}
 use Rattle.slots.specs.Meaning.Slot.{live, good, handleRefusal, phaseAt, versionAt}
 use Rattle.storage.specs.Meaning.Keyed.{written}
+use Rattle.point_records.specs.Meaning.Word.{trackerAt}
 use Rattle.point_tables.specs.Meaning.Tables.{Tables, slotsOf, recordOn}
 use Rattle.point_tables.specs.Meaning.Decide.{holds}
 use Rattle.basics.specs.Meaning.Refusals.{unless, byTests}
@@ -19,15 +20,17 @@ unfolding good
 good-inside t h e = ltb-true _ _ (both-true (ltb (h .slot) (slotsOf t)) (eqb (phaseAt (t .nums) (h .slot)) live && eqb (versionAt (t .nums) (h .slot)) (h .version)) e .0)
 
 module _ (t : Tables) (h : Handle) where
-  pub get-3 : holds t ≡ false → got 3 zero-position 0 ≡ getOf t h
+  pub get-3 : holds t ≡ false → got 3 zero-position 0 0 ≡ getOf t h
   unfolding getOf
   get-3 e = simp e
 
-  pub get-refused : holds t ≡ true → (a : ℕ) → a ≡ handleRefusal (t .nums) h → (a ≡ 0 → ⊥) → got a zero-position 0 ≡ getOf t h
+  pub get-refused : holds t ≡ true → (a : ℕ) → a ≡ handleRefusal (t .nums) h → (a ≡ 0 → ⊥) → got a zero-position 0 0 ≡ getOf t h
   unfolding getOf
   get-refused e a q n = rw (e, ← q, ne-eqb a 0 n)
 
-  pub get-0 : holds t ≡ true → good (t .nums) (h .slot) (h .version) ≡ true → got 0 (recordOn t (h .slot) .position) (recordOn t (h .slot) .obj) ≡ getOf t h
+  pub get-0 :
+      holds t ≡ true → good (t .nums) (h .slot) (h .version) ≡ true
+      → got 0 (recordOn t (h .slot) .position) (recordOn t (h .slot) .obj) (trackerAt (t .nums) (h .slot)) ≡ getOf t h
   unfolding getOf
   get-0 e f = simp (e, f)
 

@@ -13,24 +13,24 @@ use Rattle.point_remove.specs.Meaning.RemoveMaintain.{removeMaintainOf}
 use Rattle.point_clear.specs.Meaning.Clear.{clearOf}
 use Rattle.point_maintain.specs.Meaning.Maintain.{maintainOf}
 
--- a call with all that it is handed besides the tables
+-- a call with all that it is handed besides the tables, its tracker last
 pub data Op : Type 0 where
-  insert : Position → ℕ → Op
-  setPosition : Handle → Position → Op
-  remove : Handle → Op
+  insert : Position → ℕ → ℕ → Op
+  setPosition : Handle → Position → ℕ → Op
+  remove : Handle → ℕ → Op
   batch : List ℕ → List (List ℕ) → List (List Float) → List (List ℕ) → Op
   maintain : Op
-  removeMaintain : Handle → Op
-  clear : List (List Float) → List ℕ → Op
+  removeMaintain : Handle → ℕ → Op
+  clear : List (List Float) → List (List ℕ) → Op
 
 -- the tables after a call, and after a history
 unfoldable pub after : Tables → Op → Tables
-after t (insert p d) = insertOf t p d .after
-after t (setPosition h p) = setPositionOf t h p .after
-after t (remove h) = removeOf t h .after
+after t (insert p d k) = insertOf t p d k .after
+after t (setPosition h p k) = setPositionOf t h p k .after
+after t (remove h k) = removeOf t h k .after
 after t (batch kinds handles positions out) = batchOf t kinds handles positions out .after
 after t maintain = maintainOf t .after
-after t (removeMaintain h) = removeMaintainOf t h .after
+after t (removeMaintain h k) = removeMaintainOf t h k .after
 after t (clear places objs) = clearOf t places objs .after
 
 unfoldable pub afterAll : Tables → List Op → Tables
@@ -44,21 +44,21 @@ accepted answer n = pick (eqb answer 0) n 0
 
 -- ---- objects put in by an accepted insert, and objects taken out, by maintain, remove_maintain and clear, as the calls report them
 unfoldable pub putIn : Tables → Op → ℕ
-putIn t (insert p d) = accepted (insertOf t p d .result .answer) 1
-putIn t (setPosition h p) = 0
-putIn t (remove h) = 0
+putIn t (insert p d k) = accepted (insertOf t p d k .result .answer) 1
+putIn t (setPosition h p k) = 0
+putIn t (remove h k) = 0
 putIn t (batch kinds handles positions out) = 0
 putIn t maintain = 0
-putIn t (removeMaintain h) = 0
+putIn t (removeMaintain h k) = 0
 putIn t (clear places objs) = 0
 
 unfoldable pub objectsTakenOut : Tables → Op → ℕ
-objectsTakenOut t (insert p d) = 0
-objectsTakenOut t (setPosition h p) = 0
-objectsTakenOut t (remove h) = 0
+objectsTakenOut t (insert p d k) = 0
+objectsTakenOut t (setPosition h p k) = 0
+objectsTakenOut t (remove h k) = 0
 objectsTakenOut t (batch kinds handles positions out) = 0
 objectsTakenOut t maintain = maintainOf t .result .removed
-objectsTakenOut t (removeMaintain h) = accepted (removeMaintainOf t h .result .answer) 1
+objectsTakenOut t (removeMaintain h k) = accepted (removeMaintainOf t h k .result .answer) 1
 objectsTakenOut t (clear places objs) = accepted (clearOf t places objs .result .returned .answer) (clearOf t places objs .result .returned .count)
 
 unfoldable pub allIn : Tables → List Op → ℕ

@@ -23,8 +23,8 @@ use Rattle.point_insert.proofs.laws.EnterLaws.{packed-append, rows-leas
 use Rattle.point_tables.proofs.laws.ListedLaws.{rows-in}
 use Rattle.point_tables.proofs.laws.RoomLaws.{room}
 
--- ---- a free slot s of tables that hold a grid takes an object at p
-module _ (t : Tables) (h : Holds t) (s : ℕ) (inside : s < slotsOf t) (is-free : phaseAt (t .nums) s ≡ free) (p : Position) (d : ℕ) where
+-- ---- a free slot s of tables that hold a grid takes an object at p, of tracker k
+module _ (t : Tables) (h : Holds t) (s : ℕ) (inside : s < slotsOf t) (is-free : phaseAt (t .nums) s ≡ free) (p : Position) (d k : ℕ) where
   not-live : phaseAt (t .nums) s ≡ live → ⊥
   not-live e = omega arith
 
@@ -39,43 +39,43 @@ module _ (t : Tables) (h : Holds t) (s : ℕ) (inside : s < slotsOf t) (is-free 
 
   -- ---- the counts
   pub more : length (entriesWith t s p) ≡ usedOf t + 1
-  more = length-append1 entryKey (entriesIn t) (newEntry t s p) ∙ ap (λ (k : ℕ). k + 1) (entries-length t h)
+  more = length-append1 entryKey (entriesIn t) (newEntry t s p) ∙ ap (λ (n : ℕ). n + 1) (entries-length t h)
 
   pub fits : length (entriesWith t s p) ≤ slotsOf t
   fits = omega (arith, more, room t h s inside not-live)
 
-  pub put-used : usedOf (put t s p d) ≡ length (entriesWith t s p)
+  pub put-used : usedOf (put t s p d k) ≡ length (entriesWith t s p)
   unfolding put
   put-used = counted-used (taken (t .map) s) _ _ heads
 
-  pub put-rows : rowsOf (put t s p d) ≡ length (rowsWith t p)
+  pub put-rows : rowsOf (put t s p d k) ≡ length (rowsWith t p)
   unfolding put
   put-rows = counted-rows (taken (t .map) s) _ _ heads
 
-  pub put-size : sizeOf (put t s p d) ≡ sizeOf t
+  pub put-size : sizeOf (put t s p d k) ≡ sizeOf t
   unfolding put
   put-size = counted-size (taken (t .map) s) _ _ heads ∙ taken-head (t .map) s 0 (omega arith)
 
   -- ---- the slots and the records
-  pub put-slots : SlotsHold (put t s p d .nums) (put t s p d .map)
+  pub put-slots : SlotsHold (put t s p d k .nums) (put t s p d k .map)
   unfolding put
   put-slots =
-      counted-slots (taken (t .map) s) _ _ heads (set (t .nums) s (numsOf (newRecord t s p d)))
-      (taken-holds (t .nums) (t .map) (h .slots) s inside (h .sized .of-map) is-free (numsOf (newRecord t s p d)) refl refl)
+      counted-slots (taken (t .map) s) _ _ heads (set (t .nums) s (numsOf (newRecord t s p d k)))
+      (taken-holds (t .nums) (t .map) (h .slots) s inside (h .sized .of-map) is-free (numsOf (newRecord t s p d k)) refl refl)
 
-  pub put-same : recordOn (put t s p d) s ≡ newRecord t s p d
+  pub put-same : recordOn (put t s p d k) s ≡ newRecord t s p d k
   unfolding put
-  put-same = stored-same (t .nums) (t .reals) (t .ints) s (newRecord t s p d) inside in-reals in-ints
+  put-same = stored-same (t .nums) (t .reals) (t .ints) s (newRecord t s p d k) inside in-reals in-ints
 
-  pub put-other : (i : ℕ) → (i ≡ s → ⊥) → recordOn (put t s p d) i ≡ recordOn t i
+  pub put-other : (i : ℕ) → (i ≡ s → ⊥) → recordOn (put t s p d k) i ≡ recordOn t i
   unfolding put
-  put-other i n = stored-other (t .nums) (t .reals) (t .ints) s (newRecord t s p d) i n
+  put-other i n = stored-other (t .nums) (t .reals) (t .ints) s (newRecord t s p d k) i n
 
   -- ---- the entries and the rows
-  pub put-entries : entriesIn (put t s p d) ≡ entriesWith t s p
-  put-entries = ap (entriesOf (put t s p d .pool) (put t s p d .spots)) put-used ∙ as-written
+  pub put-entries : entriesIn (put t s p d k) ≡ entriesWith t s p
+  put-entries = ap (entriesOf (put t s p d k .pool) (put t s p d k .spots)) put-used ∙ as-written
     where
-      as-written : entriesOf (put t s p d .pool) (put t s p d .spots) (length (entriesWith t s p)) ≡ entriesWith t s p
+      as-written : entriesOf (put t s p d k .pool) (put t s p d k .spots) (length (entriesWith t s p)) ≡ entriesWith t s p
       as-written = unfold put in written-entries (entriesWith t s p) (t .pool) (t .spots)
 
   old-rows : PackedRows (map rowOf (entriesIn t)) (cellRows t)
@@ -84,23 +84,23 @@ module _ (t : Tables) (h : Holds t) (s : ℕ) (inside : s < slotsOf t) (is-free 
   new-rows : PackedRows (map rowOf (entriesWith t s p)) (rowsWith t p)
   new-rows = rw (rows-append1 (entriesIn t) (newEntry t s p)) (packed-append (map rowOf (entriesIn t)) (cellRows t) old-rows (rowOf (newEntry t s p)))
 
-  as-written : Packed (length (entriesWith t s p)) (length (rowsWith t p)) (put t s p d .pool) (put t s p d .cells)
+  as-written : Packed (length (entriesWith t s p)) (length (rowsWith t p)) (put t s p d k .pool) (put t s p d k .cells)
   unfolding put
   as-written =
-      subst (λ (n : ℕ). Packed n (length (rowsWith t p)) (put t s p d .pool) (put t s p d .cells)) (length-map (entriesWith t s p) rowOf)
+      subst (λ (n : ℕ). Packed n (length (rowsWith t p)) (put t s p d k .pool) (put t s p d k .cells)) (length-map (entriesWith t s p) rowOf)
       (from-rows (map rowOf (entriesWith t s p)) (rowsWith t p) (t .pool) (t .cells) new-rows)
 
-  pub put-packed : Packed (usedOf (put t s p d)) (rowsOf (put t s p d)) (put t s p d .pool) (put t s p d .cells)
+  pub put-packed : Packed (usedOf (put t s p d k)) (rowsOf (put t s p d k)) (put t s p d k .pool) (put t s p d k .cells)
   put-packed = rw (put-used, put-rows) as-written
 
   -- ---- the lengths and the counts
   rows-fit : length (rowsWith t p) ≤ slotsOf t
   rows-fit = omega (arith, fits, rows-least _ _ _ _ as-written)
 
-  pub put-sized : Sized (put t s p d)
+  pub put-sized : Sized (put t s p d k)
   unfolding put
   put-sized =
-      rw (length-set (t .nums) s (numsOf (newRecord t s p d)))
+      rw (length-set (t .nums) s (numsOf (newRecord t s p d k)))
       (record {
         some = h .sized .some;
         most = h .sized .most;
@@ -112,9 +112,9 @@ module _ (t : Tables) (h : Holds t) (s : ℕ) (inside : s < slotsOf t) (is-free 
         of-cells = length-written (rowsWith t p) (t .cells) (omega (arith, rows-fit, h .sized .of-cells)) ∙ h .sized .of-cells;
       })
 
-  pub put-length : slotsOf (put t s p d) ≡ slotsOf t
+  pub put-length : slotsOf (put t s p d k) ≡ slotsOf t
   unfolding put
   put-length = length-set (t .nums) s _
 
-  pub put-counted : Counted (put t s p d)
+  pub put-counted : Counted (put t s p d k)
   put-counted = record { size = rw put-size (h .counted .size); used-most = rw (put-used, put-length) fits; rows-most = rw (put-rows, put-length) rows-fit }

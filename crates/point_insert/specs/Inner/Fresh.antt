@@ -11,6 +11,7 @@ use Rattle.slots.specs.Meaning.Slot.{free, live, phaseAt}
 use Rattle.point_records.specs.declared.State.the-variants.{Unchanged}
 use Rattle.point_records.specs.declared.Record.{Record}
 use Rattle.point_records.specs.Meaning.Columns.{numsOf, realsOf, intsOf}
+use Rattle.point_records.specs.Meaning.Trackers.{trackerOf}
 use Rattle.point_records.specs.Meaning.Occupied.{InDomain}
 use Rattle.point_tables.specs.Meaning.Tables.{Tables, slotsOf}
 use Rattle.point_tables.specs.Meaning.Holds.{Holds}
@@ -24,12 +25,12 @@ pub record Fresh (t : Tables) (s : ℕ) (p : Position) : Type 0 where
   pub is-free : phaseAt (t .nums) s ≡ free
 
 -- what is chosen, by the map m of n slots: the answer a, and where it is 0 the lowest usable slot s
-abbrev pub Chosen : Bool → Position → List ℕ → ℕ → ℕ → ℕ → Type 0
-Chosen held p m n a s = (a ≡ answerBy held (positionInDomain p) (lowestUsable m n)) × (a ≡ 0 → lowestUsable m n ≡ At s)
+abbrev pub Chosen : Bool → Position → ℕ → List ℕ → ℕ → ℕ → ℕ → Type 0
+Chosen held p k m n a s = (a ≡ answerBy held (positionInDomain p) k (lowestUsable m n)) × (a ≡ 0 → lowestUsable m n ≡ At s)
 
 -- an object at p, in its cell, with nothing pending
-abbrev pub freshRecord : ℕ → Position → Cell → ℕ → Record
-freshRecord version p c d = record { version = version; phase = live; obj = d; position = p; cell = c; state = Unchanged }
+abbrev pub freshRecord : ℕ → Position → Cell → ℕ → ℕ → Record
+freshRecord version p c d k = record { version = version; phase = live; obj = d; position = p; cell = c; state = Unchanged; tracker = trackerOf k }
 
 -- lent columns have the record r for slot s after the call, and else what they had before
 abbrev pub Stored : Lent (List (List ℕ)) → Lent (List (List Float)) → Lent (List (List ℤ)) → ℕ → Record → Type 0

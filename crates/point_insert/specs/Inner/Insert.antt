@@ -5,5 +5,5 @@ use Rattle.basics.specs.Meaning.Refusals.{firstOf}
 use Rattle.slots.specs.declared.Usable.{Usable}
 use Rattle.point_insert.specs.Meaning.Insert.{insertTestsBy}
 
-abbrev pub answerBy : Bool → Bool → Usable → ℕ
-answerBy held inside u = firstOf (insertTestsBy held inside u)
+abbrev pub answerBy : Bool → Bool → ℕ → Usable → ℕ
+answerBy held inside k u = firstOf (insertTestsBy held inside k u)

@@ -12,7 +12,8 @@ use Rattle.storage.proofs.laws.KeepsLaws.{packed-written}
 use Rattle.storage.proofs.laws.FilterLaws.{all-map, all-any, all-at, all-over}
 use Rattle.point_records.specs.declared.State.the-variants.{Unchanged}
 use Rattle.point_records.specs.declared.Record.{Record}
-use Rattle.point_records.specs.Meaning.Columns.{tagOf, tagAt}
+use Rattle.point_records.specs.Meaning.Columns.{tagOf}
+use Rattle.point_records.specs.Meaning.Word.{lastWord, wordAt, trackerAt}
 use Rattle.point_tables.specs.Meaning.Tables.{Tables, sizeOf, usedOf, rowsOf, slotsOf, recordOn, entriesIn, Sized, slotOf}
 use Rattle.point_tables.specs.Meaning.Holds.{Counted, RecordHolds, Pending, ListsHold, Holds}
 use Rattle.point_tables.specs.Inner.Count.{isLive}
@@ -21,7 +22,7 @@ use Rattle.point_maintain.proofs.laws.Totals.{times}
 use Rattle.point_maintain.specs.Inner.Settle.{settledAll}
 use Rattle.point_maintain.specs.Inner.Closed.{settledEntries, settledTables}
 use Rattle.point_maintain.proofs.laws.SettledForm.{maintained-is}
-use Rattle.point_maintain.proofs.laws.RecordsAfterLaws.{all-slots, all-shaped, all-size, slots-hold, occupied-after, calm-after, tag-after}
+use Rattle.point_maintain.proofs.laws.RecordsAfterLaws.{all-slots, all-shaped, all-size, slots-hold, occupied-after, calm-after, word-after, all-tracker}
 use Rattle.point_maintain.proofs.laws.ListsAfterLaws.{after-tally}
 use Rattle.point_maintain.proofs.laws.SpaceLaws.{after-most, after-rows-most, after-tabled}
 use Rattle.point_maintain.proofs.laws.TallyLaws.{Tally, from-tally}
@@ -118,6 +119,10 @@ module _ (t : Tables) (h : Holds t) where
   unfolding settledTables
   after-record i = refl
 
+  pub after-tracker : (i : ℕ) → trackerAt (settledTables t .nums) i ≡ trackerAt (t .nums) i
+  unfolding settledTables
+  after-tracker i = all-tracker t h i
+
   live-was : (i : ℕ) → phaseAt (settledTables t .nums) i ≡ live → isLive (settledAll t) i ≡ true
   live-was i p = eq-eqb _ _ (ap (λ (r : Record). r .phase) (sym (after-record i)) ∙ p)
 
@@ -127,12 +132,12 @@ module _ (t : Tables) (h : Holds t) where
   after-records : (i : ℕ) → i < slotsOf (settledTables t) → phaseAt (settledTables t .nums) i ≡ live → RecordHolds (settledTables t) i
   after-records i l p =
       record {
-        tagged = tag;
+        worded = word;
         occupied = rw (after-record i, after-size) (occupied-after t h i (was i l) (live-was i p));
       }
     where
-      tag : tagAt (settledTables t .nums) i ≤ 3
-      tag = unfold settledTables in tag-after t h i (was i l) (live-was i p)
+      word : wordAt (settledTables t .nums) i ≤ lastWord
+      word = unfold settledTables in word-after t h i (was i l) (live-was i p)
 
   not-pending : (i : ℕ) → i < slotsOf (settledTables t) → Pending (settledTables t) i → ⊥
   not-pending i l q = q .changed (ap tagOf (after-calm i l (q .occupied)))

@@ -1,7 +1,8 @@
 -- The outcome of `maintain`: its counts, and that tables that hold a grid are followed by tables that do. Assumes nothing.
-use Rattle.basics.specs.Words.{_+_, _≡_, sym, _∙_, ap, arith}
+use Rattle.basics.specs.Words.{ℕ, _+_, _≡_, sym, _∙_, ap, arith}
 use Rattle.basics.proofs.laws.Says.{apart}
 use Rattle.storage.proofs.laws.FilterLaws.{by-test}
+use Rattle.point_records.specs.Meaning.Word.{trackerAt}
 use Rattle.point_records.specs.Meaning.States.{isRemoved}
 use Rattle.point_tables.specs.Meaning.Tables.{Tables, usedOf, slotsOf}
 use Rattle.point_tables.specs.Meaning.Holds.{Holds}
@@ -12,6 +13,7 @@ use Rattle.point_maintain.specs.Meaning.Maintain.{countRecords, countSta
 use Rattle.point_maintain.specs.Meaning.Moved.{hasMoved}
 use Rattle.point_maintain.proofs.laws.MaintainKeeps.{maintained-keeps}
 use Rattle.point_maintain.proofs.laws.CountsLaws.{maintained-count}
+use Rattle.point_maintain.proofs.laws.MaintainedLaws.{maintained-tracker}
 
 module _ (t : Tables) where
   -- on tables that hold a grid: done, with the counts of the records before
@@ -32,6 +34,13 @@ module _ (t : Tables) where
 
   pub maintain-keeps : Holds t → Holds (maintainOf t .after)
   maintain-keeps h = rw (maintain-done h) (maintained-keeps t h)
+
+  -- every slot has the tracker that it had, and so has an object that is still there
+  pub maintain-tracker : (s : ℕ) → trackerAt (maintainOf t .after .nums) s ≡ trackerAt (t .nums) s
+  maintain-tracker s = by-test (holds t) (λ e. done (holds-says t .yes e)) (λ e. rw (maintain-refused (λ h. apart (sym e ∙ holds-says t .no h))))
+    where
+      done : Holds t → trackerAt (maintainOf t .after .nums) s ≡ trackerAt (t .nums) s
+      done h = rw (maintain-done h) (maintained-tracker t h s)
 
   -- the objects after and those that it says it removed are the objects before
   pub maintain-length : Holds t → usedOf (maintainOf t .after) + maintainOf t .result .removed ≡ usedOf t

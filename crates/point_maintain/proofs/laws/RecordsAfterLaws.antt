@@ -1,21 +1,22 @@
 -- The records once every live slot is settled: each slot's record after, in terms of its record before. Assumes nothing.
-use Rattle.basics.specs.Words.{ℕ, zero, suc, _≤_, _<_, _≡_, refl, sym, _∙_, ap, subst, Bool, true, false, not, eqb, arith, eqb-true}
+use Rattle.basics.specs.Words.{ℕ, zero, suc, _≤_, _<_, _≡_, refl, sym, _∙_, ap, subst, Bool, true, false, not, ⊎-elim, eqb, arith, eqb-true}
 use Rattle.basics.specs.Meaning.Refusals.{pick}
-use Rattle.basics.proofs.laws.Says.{apart, untrue}
+use Rattle.basics.proofs.laws.Says.{apart, untrue, d-lt}
 use Rattle.slots.specs.Meaning.Slot.{live, lastVersion, phaseAt, SlotsHold}
 use Rattle.slots.proofs.laws.SlotLaws.{row-holds, emptied-holds}
 use Rattle.storage.proofs.laws.FilterLaws.{by-test}
 use Rattle.point_records.specs.declared.State.{State}
 use Rattle.point_records.specs.declared.State.the-variants.{Unchanged, NewPos, Relocate, Removed}
 use Rattle.point_records.specs.declared.Record.{Record}
-use Rattle.point_records.specs.Meaning.Columns.{numsOf, tagAt, tagIn}
+use Rattle.point_records.specs.Meaning.Columns.{numsOf}
+use Rattle.point_records.specs.Meaning.Word.{lastWord, wordIn, trackerIn, wordAt, trackerAt}
 use Rattle.point_records.specs.Meaning.Occupied.{Agrees, Occupied}
 use Rattle.point_records.specs.Meaning.States.{isRemoved}
 use Rattle.point_tables.specs.Meaning.Tables.{Tables, sizeOf, slotsOf, recordOn}
 use Rattle.point_tables.specs.Meaning.Holds.{RecordHolds, Holds}
 use Rattle.point_tables.specs.Inner.Count.{isLive}
 use Rattle.point_maintain.specs.Meaning.Walk.{recordTaking, settledBy, settled}
-use Rattle.point_maintain.proofs.laws.SettleForm.{Rows, rowsAt, recordIn, rowsBy, rowsAfter, settledAs, settledRecord, rows-record}
+use Rattle.point_maintain.proofs.laws.SettleForm.{Rows, rowsAt, recordIn, rowsAfter, settledAs, settledRecord, rows-record, rows-worded, rows-tracker}
 use Rattle.point_maintain.specs.Inner.Settle.{Shaped}
 use Rattle.point_maintain.proofs.laws.SettleLaws.{sized-shaped}
 use Rattle.point_maintain.specs.Inner.Settle.{settledIn, settledAll}
@@ -40,16 +41,6 @@ settled-occupied size r n o = go (r .state) refl n (o .agrees)
     go (NewPos p) e n a = (record { in-domain = a .0; in-cell = a .1; agrees = tt }, refl)
     go (Relocate p c) e n a = (record { in-domain = a .0; in-cell = a .1; agrees = tt }, refl)
     go Removed e n a = absurd (apart (sym n))
-
-rows-tag : (w : Rows) → isRemoved (recordIn w .state) ≡ false → tagIn (w .nums) ≤ 3 → tagIn (rowsAfter w .nums) ≤ 3
-unfolding rowsAfter
-rows-tag w n l = go (recordIn w .state) n
-  where
-    go : (st : State) → isRemoved st ≡ false → tagIn (rowsBy w st .nums) ≤ 3
-    go Unchanged n = l
-    go (NewPos p) n = omega arith
-    go (Relocate p c) n = omega arith
-    go Removed n = absurd (apart (sym n))
 
 -- ---- the slots hold
 settled-holds : (t : Tables) (s : ℕ) → Shaped t → SlotsHold (t .nums) (t .map) → s < slotsOf t → phaseAt (t .nums) s ≡ live → SlotsHold (settled t s .nums) (settled t s .map)
@@ -133,7 +124,17 @@ module _ (t : Tables) (h : Holds t) where
       pub calm-after : recordOn (settledAll t) i .state ≡ Unchanged
       calm-after = ap (λ (r : Record). r .state) record-after ∙ settled-occupied (sizeOf t) (recordOn t i) not-removed (held .occupied) .1
 
-      pub tag-after : tagAt (settledAll t .nums) i ≤ 3
-      tag-after =
+      pub word-after : wordAt (settledAll t .nums) i ≤ lastWord
+      word-after =
           let e : rowsAt (settledAll t) i ≡ rowsAfter (rowsAt t i) = all-rows ∙ rw was-live in
-          subst (λ (w : Rows). tagIn (w .nums) ≤ 3) (sym e) (rows-tag (rowsAt t i) not-removed (held .tagged))
+          subst (λ (w : Rows). wordIn (w .nums) ≤ lastWord) (sym e) (rows-worded (rowsAt t i) (held .worded))
+
+  -- every slot has the tracker that it had
+  pub all-tracker : (i : ℕ) → trackerAt (settledAll t .nums) i ≡ trackerAt (t .nums) i
+  all-tracker i = ⊎-elim inside outside (d-lt i (slotsOf t))
+    where
+      inside : i < slotsOf t → trackerAt (settledAll t .nums) i ≡ trackerAt (t .nums) i
+      inside l = ap (λ (w : Rows). trackerIn (w .nums)) (all-rows i l) ∙ by-test (isLive t i) (λ e. rw e (rows-tracker (rowsAt t i))) (λ e. rw e)
+
+      outside : (i < slotsOf t → ⊥) → trackerAt (settledAll t .nums) i ≡ trackerAt (t .nums) i
+      outside l = unfold settledAll in ap (λ (w : Rows). trackerIn (w .nums)) (in-rows-past (isLive t) t (slotsOf t) i (omega (arith, l)))

@@ -1,5 +1,5 @@
 -- A slot settled, row by row: what comes of each row depends on the rows of that slot alone. Assumes nothing.
-use Rattle.basics.specs.Words.{ℕ, _≡_, refl, sym, Bool, false, not, List, [], getD, set, set-getD, getD-drop, eqb, ℤ}
+use Rattle.basics.specs.Words.{ℕ, _≤_, _≡_, refl, sym, _∙_, Bool, false, not, List, [], getD, set, set-getD, getD-drop, eqb, ℤ}
 use lib.Ieee.{Float}
 use Rattle.basics.specs.Meaning.Refusals.{pick}
 use Rattle.slots.specs.Meaning.Map.{givenBack}
@@ -9,6 +9,9 @@ use Rattle.point_records.specs.declared.State.{State}
 use Rattle.point_records.specs.declared.State.the-variants.{Unchanged, NewPos, Relocate, Removed}
 use Rattle.point_records.specs.declared.Record.{Record}
 use Rattle.point_records.specs.Meaning.Columns.{recordOf, numsOf, realsOf, intsOf}
+use Rattle.point_records.specs.Meaning.Word.{trackerIn, wordIn, lastWord}
+use Rattle.point_records.proofs.laws.WordLaws.{number-in}
+use Rattle.point_records.proofs.laws.ColumnLaws.{number-of-row, word-of-row, record-back}
 use Rattle.point_tables.specs.Meaning.Tables.{Tables, tables, recordOn}
 use Rattle.point_maintain.specs.Meaning.Walk.{recordTaking, settledBy, settled}
 
@@ -19,7 +22,7 @@ settledAs r Unchanged = r
 settledAs r (NewPos p) = recordTaking r p (r .cell)
 settledAs r (Relocate p c) = recordTaking r p c
 settledAs r Removed =
-    record { version = nextVersion (r .version); phase = nextPhase (r .version); obj = r .obj; position = r .position; cell = r .cell; state = r .state }
+    record { version = nextVersion (r .version); phase = nextPhase (r .version); obj = r .obj; position = r .position; cell = r .cell; state = r .state; tracker = r .tracker }
 
 abbrev pub settledRecord : Record → Record
 settledRecord r = settledAs r (r .state)
@@ -88,6 +91,28 @@ rows-record w = go (recordIn w .state)
   where
     go : (st : State) → recordIn (rowsBy w st) ≡ settledAs (recordIn w) st
     go Unchanged = refl
-    go (NewPos p) = refl
-    go (Relocate p c) = refl
+    go (NewPos p) = record-back (recordTaking (recordIn w) p (recordIn w .cell))
+    go (Relocate p c) = record-back (recordTaking (recordIn w) p c)
     go Removed = rw (getD-drop 2 (w .nums) 0 0, getD-drop 2 (w .nums) 1 0)
+
+-- the word of a row: settling makes a word that fits, or leaves it
+pub rows-worded : (w : Rows) → wordIn (w .nums) ≤ lastWord → wordIn (rowsAfter w .nums) ≤ lastWord
+unfolding rowsAfter
+rows-worded w l = go (recordIn w .state)
+  where
+    go : (st : State) → wordIn (rowsBy w st .nums) ≤ lastWord
+    go Unchanged = l
+    go (NewPos p) = word-of-row (recordTaking (recordIn w) p (recordIn w .cell))
+    go (Relocate p c) = word-of-row (recordTaking (recordIn w) p c)
+    go Removed = rw (getD-drop 2 (w .nums) 1 0) l
+
+-- and the tracker stays, also in the row of a slot that is emptied
+pub rows-tracker : (w : Rows) → trackerIn (rowsAfter w .nums) ≡ trackerIn (w .nums)
+unfolding rowsAfter
+rows-tracker w = go (recordIn w .state)
+  where
+    go : (st : State) → trackerIn (rowsBy w st .nums) ≡ trackerIn (w .nums)
+    go Unchanged = refl
+    go (NewPos p) = number-of-row (recordTaking (recordIn w) p (recordIn w .cell)) ∙ number-in (w .nums)
+    go (Relocate p c) = number-of-row (recordTaking (recordIn w) p c) ∙ number-in (w .nums)
+    go Removed = rw (getD-drop 2 (w .nums) 1 0)

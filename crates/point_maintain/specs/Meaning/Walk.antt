@@ -24,7 +24,7 @@ entryFor size s p = entry (keyOf (cellAt size p) ∷ s ∷ []) (p .x ∷ p .y �
 
 -- ---- the record of an object once what is pending is done
 abbrev pub recordTaking : Record → Position → Cell → Record
-recordTaking r p c = record { version = r .version; phase = r .phase; obj = r .obj; position = p; cell = c; state = Unchanged }
+recordTaking r p c = record { version = r .version; phase = r .phase; obj = r .obj; position = p; cell = c; state = Unchanged; tracker = r .tracker }
 
 abbrev pub emptied : Tables → ℕ → Tables
 emptied t s = tables (emptiedNums (t .nums) s) (t .reals) (t .ints) (emptiedMap (t .nums) (t .map) s) (t .pool) (t .spots) (t .cells)

@@ -4,7 +4,7 @@ use Rattle.basics.specs.Words.{ℕ, List, [], _∷_, getD, eqb}
 use lib.Ieee.{Float, nan}
 use Rattle.basics.specs.Meaning.Refusals.{pick}
 use Rattle.storage.specs.Meaning.Entries.{Entry, entry}
-use Rattle.point_records.specs.Meaning.Columns.{tagIn}
+use Rattle.point_records.specs.Meaning.Word.{tagIn}
 use Rattle.point_tables.specs.Meaning.Tables.{slotOf}
 use Rattle.point_maintain.specs.Meaning.Walk.{Fate, stays, leaves}
 

@@ -8,7 +8,8 @@ use Rattle.slots.specs.Meaning.Slot.{live, phaseAt}
 use Rattle.point_records.specs.declared.State.{State}
 use Rattle.point_records.specs.declared.State.the-variants.{Unchanged, NewPos, Relocate, Removed}
 use Rattle.point_records.specs.declared.Record.{Record}
-use Rattle.point_records.specs.Meaning.Columns.{tagIn, pickState, stateOf, positionIn, recordOf}
+use Rattle.point_records.specs.Meaning.Columns.{pickState, stateOf, positionIn, recordOf}
+use Rattle.point_records.specs.Meaning.Word.{tagIn}
 use Rattle.point_records.specs.Meaning.States.{isRemoved}
 use Rattle.point_tables.specs.Meaning.Tables.{Tables, recordOn}
 use Rattle.point_maintain.specs.Meaning.Moved.{movesFrom, hasMoved}

@@ -32,10 +32,10 @@ closestFrom c so-far (e ∷ es) = closestFrom c (closerOf c so-far e) es
 
 -- ---- what is returned: a finding with count 1; else zeros
 abbrev pub nearestReply : ℕ → ℕ → Finding → Nearest
-nearestReply answer count f = record { answer = answer; count = count; handle = f .handle; position = f .position; obj = f .obj }
+nearestReply answer count f = record { answer = answer; count = count; handle = f .handle; position = f .position; obj = f .obj; tracker = f .tracker }
 
 abbrev pub noFinding : Finding
-noFinding = record { handle = record { slot = 0; version = 0 }; position = zero-position; obj = 0 }
+noFinding = record { handle = record { slot = 0; version = 0 }; position = zero-position; obj = 0; tracker = 0 }
 
 abbrev pub nearestReport : Tables → List Entry → Nearest
 nearestReport t [] = nearestReply 0 0 noFinding

@@ -1,10 +1,12 @@
 -- `point_pool::entry_ok` meets its contract: each test says one part of what is asked. Assumes nothing.
-use Rattle.basics.specs.Words.{ℕ, _≤_, _≡_, sym, _∙_, subst, [], getD, arith, not-true, not-false, needs}
+use Rattle.basics.specs.Words.{ℕ, _≤_, _≡_, sym, ap, _∙_, subst, [], getD, arith, le-leb, leb-true, not-true, not-false, needs}
 use Rattle.basics.specs.Meaning.Says.{Says}
 use Rattle.basics.proofs.laws.Says.{says-yes, says-no, apart}
 use Rattle.cells.specs.declared.Cell.{Cell}
 use Rattle.cells.specs.Inner.Span.{Spans}
-use Rattle.point_records.specs.Meaning.Columns.{recordAt, pendingIn, tagAt}
+use Rattle.point_records.specs.Meaning.Columns.{recordAt, pendingIn}
+use Rattle.point_records.specs.declared.Parts.{Parts}
+use Rattle.point_records.specs.Meaning.Word.{lastWord, wordAt, tagAt}
 use Rattle.point_records.specs.Meaning.Occupied.{Agrees}
 use Rattle.point_records.specs.Inner.Occupied.{InCell}
 use Rattle.point_records.proofs.laws.OccupiedLaws.{to-occupied, of-occupied}
@@ -41,7 +43,7 @@ returns-5 : tie.Need-returns-5
 returns-5 c = let s = c .before .before .before .before .before .before .before .before .before .before .before in (says-no (λ h. apart (sym (not-true _ (c .if5 .taken)) ∙ c .before .in-cell .ensures .no (parts s h .0))), s .pre .5)
 
 -- past the tests of the slot, what is left is what is pending
-built : (c : tie.Else5) → let a = start c .args in let t = tagAt (a .nums .now) (a .e .slot) in t ≤ 3 → ((t ≡ 0 → ⊥) → a .mark ≡ 1) → Agreeing (start c) t → Rightly (start c)
+built : (c : tie.Else5) → let a = start c .args in let t = tagAt (a .nums .now) (a .e .slot) in wordAt (a .nums .now) (a .e .slot) ≤ lastWord → ((t ≡ 0 → ⊥) → a .mark ≡ 1) → Agreeing (start c) t → Rightly (start c)
 built c l m g =
     let a = start c .args in
     let d = c .before .before .before in
@@ -55,21 +57,34 @@ built c l m g =
       at = v .0;
       number-x = v .1;
       number-y = v .2;
-      whole = record { versioned = e .if3 .left; tagged = l; occupied = to-occupied (a .size) (a .c) (getD (a .nums .now) (a .e .slot) []) (getD (a .reals .now) (a .e .slot) []) (getD (a .ints .now) (a .e .slot) []) o g };
+      whole = record { versioned = e .if3 .left; worded = l; occupied = to-occupied (a .size) (a .c) (getD (a .nums .now) (a .e .slot) []) (getD (a .reals .now) (a .e .slot) []) (getD (a .ints .now) (a .e .slot) []) o g };
       marked = m;
     }
 
+-- the word, taken apart
+tag-is : (c : tie.After-parts-in) → let a = start (c .before .before) .args in c .parts-in .result .tag ≡ tagAt (a .nums .now) (a .e .slot)
+tag-is c = ap (λ (p : Parts). p .tag) (c .parts-in .ensures)
+
 returns-6 : tie.Need-returns-6
 returns-6 c =
-    let d = c .before .before .before in
-    let s = start d in
-    let t : tagAt (s .args .nums .now) (s .args .e .slot) ≡ 0 = sym (c .before .tag-in .ensures) ∙ c .if6 .taken in
-    (says-yes (built d (omega (arith, t)) (λ n. absurd (n t)) (subst (Agreeing s) (sym t) tt)), s .pre .5)
+    let s = start (c .before .before .before .before) in
+    (says-no (λ h. apart (sym (not-true _ (c .if6 .taken)) ∙ ap (λ (p : Parts). p .fits) (c .before .before .parts-in .ensures) ∙ le-leb (wordAt (s .args .nums .now) (s .args .e .slot)) lastWord (h .whole .worded))), s .pre .5)
+
+fits : (c : tie.Else6) → let a = start (c .before .before .before .before) .args in wordAt (a .nums .now) (a .e .slot) ≤ lastWord
+fits c = leb-true _ lastWord (sym (ap (λ (p : Parts). p .fits) (c .before .before .parts-in .ensures)) ∙ not-false _ (c .if6 .left))
 
 returns-7 : tie.Need-returns-7
 returns-7 c =
-    let k = c .before .before in
-    (says-no (λ h. c .if7 .taken (h .marked (λ z. c .before .if6 .left (k .tag-in .ensures ∙ z)))), start (k .before .before) .pre .5)
+    let k = c .before .before .before in
+    let d = k .before .before in
+    let s = start d in
+    let t : tagAt (s .args .nums .now) (s .args .e .slot) ≡ 0 = sym (tag-is k) ∙ c .if7 .taken in
+    (says-yes (built d (fits (c .before)) (λ n. absurd (n t)) (subst (Agreeing s) (sym t) tt)), s .pre .5)
+
+returns-8 : tie.Need-returns-8
+returns-8 c =
+    let k = c .before .before .before .before in
+    (says-no (λ h. c .if8 .taken (h .marked (λ z. c .before .if7 .left (tag-is k ∙ z)))), start (k .before .before) .pre .5)
 
 -- the cell of the slot's rows is that of the list, once it is asked
 same : (c : tie.Else5) → let a = start c .args in recordAt (a .nums .now) (a .reals .now) (a .ints .now) (a .e .slot) .cell ≡ a .c
@@ -78,23 +93,25 @@ same c = c .before .in-cell .ensures .yes (not-false _ (c .if5 .left)) .is-cell
 pending-ok-requires : tie.Need-pending-ok-requires
 pending-ok-requires c κs =
     let d = c .before .before .before in
-    let o = d .before .before .before in
+    let o = d .before .before .before .before .before in
     let s = start o in
     let a = s .args in
     let p = s .pre in
-    (p .2, subst (λ (k : Cell). Spans (a .size) (k .x) (a .x .lo) (a .x .hi)) (sym (same o)) (p .3), subst (λ (k : Cell). Spans (a .size) (k .y) (a .y .lo) (a .y .hi)) (sym (same o)) (p .4), d .if6 .left, p .5)
+    (p .2, subst (λ (k : Cell). Spans (a .size) (k .x) (a .x .lo) (a .x .hi)) (sym (same o)) (p .3), subst (λ (k : Cell). Spans (a .size) (k .y) (a .y .lo) (a .y .hi)) (sym (same o)) (p .4), d .if7 .left, p .5)
 
-returns-8 : tie.Need-returns-8
-returns-8 c =
+returns-9 : tie.Need-returns-9
+returns-9 c =
     let m = c .before .before .before in
-    let k = m .before .before in
+    let f = m .before .before in
+    let k = f .before .before in
     let d = k .before .before in
     let a = start d .args in
     let t = tagAt (a .nums .now) (a .e .slot) in
-    let u = k .tag-in .result in
-    let v : Says (c .pending-ok .result) ((u ≤ 3) × Agreeing (start d) u) = subst (λ (k : Cell). Says (c .pending-ok .result) ((u ≤ 3) × Agrees (a .size) k (pendingIn u (getD (a .reals .now) (a .e .slot) []) (getD (a .ints .now) (a .e .slot) [])))) (same d) (c .pending-ok .ensures .0) in
-    let w : Says (c .pending-ok .result) ((t ≤ 3) × Agreeing (start d) t) = subst (λ (n : ℕ). Says (c .pending-ok .result) ((n ≤ 3) × Agreeing (start d) n)) (k .tag-in .ensures) v in
-    (record { yes = λ e. let v = w .yes e in built d (v .0) (λ n. m .if7 .left) (v .1); no = λ h. w .no (h .whole .tagged, parts (start d) h .1) }, c .pending-ok .ensures .1)
+    let u = k .parts-in .result .tag in
+    let b = c .pending-ok .result in
+    let v : Says b (Agreeing (start d) u) = subst (λ (k : Cell). Says b (Agrees (a .size) k (pendingIn u (getD (a .reals .now) (a .e .slot) []) (getD (a .ints .now) (a .e .slot) [])))) (same d) (c .pending-ok .ensures .0) in
+    let w : Says b (Agreeing (start d) t) = subst (λ (n : ℕ). Says b (Agreeing (start d) n)) (tag-is k) v in
+    (record { yes = λ e. built d (fits f) (λ n. m .if8 .left) (w .yes e); no = λ h. w .no (parts (start d) h .1) }, c .pending-ok .ensures .1)
 
 pub entry-ok-spec : {M : Type 1} → statement M
 entry-ok-spec =
@@ -122,5 +139,6 @@ entry-ok-spec =
     (λ c κs. search needs)
     returns-6
     returns-7
+    returns-8
     pending-ok-requires
-    returns-8)
+    returns-9)

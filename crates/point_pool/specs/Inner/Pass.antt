@@ -10,7 +10,8 @@ use Rattle.cells.specs.Meaning.Key.{keyOf}
 use Rattle.slots.specs.Meaning.Slot.{live, versionAt, phaseAt}
 use Rattle.storage.specs.Meaning.Packed.{first, second, Packed}
 use Rattle.point_records.specs.declared.Entry.{Entry}
-use Rattle.point_records.specs.Meaning.Columns.{recordAt, tagAt}
+use Rattle.point_records.specs.Meaning.Columns.{recordAt}
+use Rattle.point_records.specs.Meaning.Word.{lastWord, wordAt, tagAt}
 use Rattle.point_records.specs.Inner.Listed.{listedAt}
 use Rattle.point_records.specs.Meaning.Occupied.{Occupied}
 
@@ -28,10 +29,11 @@ abbrev pub Marked : List (List ℕ) → List (List ℕ) → ℕ → ℕ → Type
 Marked nums cells s r = (tagAt nums s ≡ 0 → ⊥) → second cells r ≡ 1
 
 module _ (nums : List (List ℕ)) (reals : List (List Float)) (ints : List (List ℤ)) where
-  -- the record of an occupied slot holds: its version is not 0, its tag is one of four, its cell is that of its position, and what is pending agrees
+  -- the record of an occupied slot holds: its version is not 0, its word is that of a tracker and a tag, its cell is that of its position, and
+  -- what is pending agrees
   pub record Whole (size s : ℕ) : Type 0 where
     pub versioned : versionAt nums s ≡ 0 → ⊥
-    pub tagged : tagAt nums s ≤ 3
+    pub worded : wordAt nums s ≤ lastWord
     pub occupied : Occupied size (recordAt nums reals ints s)
 
   -- an entry is that of its slot, which is occupied by an object of cell c; and the mark is set if something is pending for it

@@ -12,14 +12,14 @@ lent s = tables (s .args .nums .now) (s .args .reals .now) (s .args .ints .now) 
 search-requires : tie.Need-search-requires
 search-requires c κs =
     let d = c .before .before .before in
-    let s = d .before .before .before .before in
+    let s = d .before .before .before in
     query-reached _ _ (s .args .ll) (s .args .ur) (d .before .position-in-domain .ensures) (d .position-in-domain2 .ensures)
 
 returns : tie.Need-returns
 returns c =
-    let r = c .before .before .before .before in
+    let r = c .before .before .before in
     let d = r .before .before .before .before in
-    let s = d .before .before .before .before in
+    let s = d .before .before .before in
     let a = s .args in
     query-is (d .before .position-in-domain .result) (d .position-in-domain2 .result) (lent s) (outputs (a .found .now) (a .places .now) (a .objs .now)) _ (a .ll) (a .ur) (d .before .position-in-domain .ensures) (d .position-in-domain2 .ensures) (r .search .ensures)
 

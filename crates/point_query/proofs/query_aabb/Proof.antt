@@ -14,16 +14,16 @@ search-requires c κs =
     let u = c .before .before .before in
     let l = u .before in
     let d = l .before in
-    let s = d .before .before .before .before in
+    let s = d .before .before .before in
     aabb-reached _ _ (s .args .a) (s .args .b) _ _ (l .lower-corner .ensures) (u .upper-corner .ensures) (d .before .position-in-domain .ensures) (d .position-in-domain2 .ensures)
 
 returns : tie.Need-returns
 returns c =
-    let r = c .before .before .before .before in
+    let r = c .before .before .before in
     let u = r .before .before .before .before in
     let l = u .before in
     let d = l .before in
-    let s = d .before .before .before .before in
+    let s = d .before .before .before in
     let a = s .args in
     aabb-is (d .before .position-in-domain .result) (d .position-in-domain2 .result) (lent s) (outputs (a .found .now) (a .places .now) (a .objs .now)) _ (a .a) (a .b) (l .lower-corner .result) (u .upper-corner .result)
     (l .lower-corner .ensures) (u .upper-corner .ensures) (d .before .position-in-domain .ensures) (d .position-in-domain2 .ensures) (r .search .ensures)

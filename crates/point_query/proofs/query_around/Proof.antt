@@ -14,16 +14,16 @@ search-requires c κs =
     let u = c .before .before .before in
     let l = u .before in
     let d = l .before in
-    let s = d .before .before .before .before in
+    let s = d .before .before .before in
     around-reached _ _ (s .args .centre) (s .args .radius) _ _ (l .corner-below .ensures) (u .corner-above .ensures) (d .before .position-in-domain .ensures) (d .radius-in-domain .ensures)
 
 returns : tie.Need-returns
 returns c =
-    let r = c .before .before .before .before in
+    let r = c .before .before .before in
     let u = r .before .before .before .before in
     let l = u .before in
     let d = l .before in
-    let s = d .before .before .before .before in
+    let s = d .before .before .before in
     let a = s .args in
     around-is (d .before .position-in-domain .result) (d .radius-in-domain .result) (lent s) (outputs (a .found .now) (a .places .now) (a .objs .now)) _ (a .centre) (a .radius) (l .corner-below .result) (u .corner-above .result)
     (l .corner-below .ensures) (u .corner-above .ensures) (d .before .position-in-domain .ensures) (d .radius-in-domain .ensures) (r .search .ensures)

@@ -7,7 +7,8 @@ use Rattle.geometry.specs.declared.Position.{Position}
 use Rattle.cells.specs.declared.Cell.{Cell}
 use Rattle.cells.specs.Meaning.CellRule.{cellAt}
 use Rattle.point_records.specs.declared.State.the-variants.{NewPos, Relocate}
-use Rattle.point_records.specs.Meaning.Columns.{tagIn, pendingIn, recordOf}
+use Rattle.point_records.specs.Meaning.Columns.{pendingIn, recordOf}
+use Rattle.point_records.specs.Meaning.Word.{tagIn}
 use Rattle.point_records.specs.Meaning.Occupied.{InDomain, Agrees, Occupied}
 use Rattle.point_records.specs.Inner.Occupied.{InCell}
 use Rattle.point_records.specs.Inner.Decide.{d-cell}

@@ -1,5 +1,5 @@
 -- `point_records::pending_ok` meets its contract. Assumes nothing.
-use Rattle.basics.specs.Words.{ℕ, _+_, _≤_, _≡_, sym, subst, List, [], getD, ℤ, pos, needs}
+use Rattle.basics.specs.Words.{ℕ, _+_, _≡_, sym, subst, List, [], getD, ℤ, pos, needs}
 use lib.Ieee.{nan}
 use mir.Syntax.{w32}
 use mir.Val.{toZ, ofZ}
@@ -39,8 +39,8 @@ returns c =
     let a = e .before .before .args in
     let b = c .agrees .result in
     let p : Position = record { x = getD (a .t5) 2 nan; y = getD (a .t5) 3 nan } in (
-      subst (λ (k : Cell). Says b ((a .tag ≤ 3) × Agrees (a .size) k (pendingIn (a .tag) (a .t5) (a .t6)))) (own e)
-          (subst (λ (to : Cell). Says b ((a .tag ≤ 3) × Agrees (a .size) (read (a .t6) 0) (stateOf (a .tag) p to))) (target d) (c .agrees .ensures .0)),
+      subst (λ (k : Cell). Says b (Agrees (a .size) k (pendingIn (a .tag) (a .t5) (a .t6)))) (own e)
+          (subst (λ (to : Cell). Says b (Agrees (a .size) (read (a .t6) 0) (stateOf (a .tag) p to))) (target d) (c .agrees .ensures .0)),
       c .agrees .ensures .1,
     )
 

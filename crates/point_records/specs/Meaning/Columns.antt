@@ -1,5 +1,5 @@
 -- A record out of the three columns, and the row that a record takes in each.
--- nums: version, phase, obj (the data), tag. reals: x, y, pending x, pending y. ints: cell x, cell y, target x, target y.
+-- nums: version, phase, obj (the data), word (tracker and tag). reals: x, y, pending x, pending y. ints: cell x, cell y, target x, target y.
 -- The tag: 0 Unchanged, 1 NewPos, 2 Relocate, any other Removed. Where nothing is pending the row repeats the position and the cell.
 use Rattle.basics.specs.Words.{ℕ, Bool, true, false, List, [], _∷_, getD, eqb, ℤ, pos}
 use lib.Ieee.{Float, nan}
@@ -8,18 +8,12 @@ use Rattle.cells.specs.declared.Cell.{Cell}
 use Rattle.point_records.specs.declared.State.{State}
 use Rattle.point_records.specs.declared.State.the-variants.{Unchanged, NewPos, Relocate, Removed}
 use Rattle.point_records.specs.declared.Record.{Record}
+use Rattle.point_records.specs.Meaning.Word.{wordOf, tagIn, trackerIn}
+use Rattle.point_records.specs.Meaning.Trackers.{trackerNumber, trackerOf}
 
 abbrev pub pickState : Bool → State → State → State
 pickState true a b = a
 pickState false a b = b
-
--- the tag of the state: the fourth number of a slot's row
-abbrev pub tagIn : List ℕ → ℕ
-tagIn n = getD n 3 0
-
--- that of slot s
-abbrev pub tagAt : List (List ℕ) → ℕ → ℕ
-tagAt nums s = tagIn (getD nums s [])
 
 -- the state that a tag says, with the pending position and cell
 abbrev pub stateOf : ℕ → Position → Cell → State
@@ -43,6 +37,7 @@ recordOf n q z =
       position = positionIn q;
       cell = record { x = getD z 0 (pos 0); y = getD z 1 (pos 0) };
       state = pendingIn (tagIn n) q z;
+      tracker = trackerOf (trackerIn n);
     }
 
 -- the record at index i of the columns
@@ -70,7 +65,7 @@ targetOf Removed c = c
 
 -- the row of a record in each column
 abbrev pub numsOf : Record → List ℕ
-numsOf r = r .version ∷ r .phase ∷ r .obj ∷ tagOf (r .state) ∷ []
+numsOf r = r .version ∷ r .phase ∷ r .obj ∷ wordOf (trackerNumber (r .tracker)) (tagOf (r .state)) ∷ []
 
 abbrev pub realsOf : Record → List Float
 realsOf r = r .position .x ∷ r .position .y ∷ pendingOf (r .state) (r .position) .x ∷ pendingOf (r .state) (r .position) .y ∷ []

@@ -21,4 +21,4 @@ unfoldable pub aimed : ℕ → Cell → Position → State
 aimed size c p = pick (said (d-cell (cellAt size p) c)) (NewPos p) (Relocate p (cellAt size p))
 
 abbrev pub withState : Record → State → Record
-withState r s = record { version = r .version; phase = r .phase; obj = r .obj; position = r .position; cell = r .cell; state = s }
+withState r s = record { version = r .version; phase = r .phase; obj = r .obj; position = r .position; cell = r .cell; state = s; tracker = r .tracker }

@@ -44,7 +44,7 @@ module _ (t : Tables) (h : Holds t) (s : ℕ) (inside : s < slotsOf t) (is-live 
   keeps-records i l e =
       let n = another i e in
       let r = h .records i (old-slot i l) (sym (old-phase i n) ∙ e) in
-      record { tagged = rw (taken-other t h s inside is-live i n) (r .tagged); occupied = rw (is-old i n, taken-size t h s inside is-live) (r .occupied) }
+      record { worded = rw (taken-other t h s inside is-live i n) (r .worded); occupied = rw (is-old i n, taken-size t h s inside is-live) (r .occupied) }
 
   -- ---- the lists
   abbrev test : Entry → Bool

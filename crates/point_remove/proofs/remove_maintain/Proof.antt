@@ -20,14 +20,14 @@ returns : tie.Need-returns
 returns c =
     let a = c .before in
     let s = start a in
-    refused (at-entry s) (s .args .h) (a .answer .result) (checked a .check .result) (checked a .check .ensures) (a .answer .ensures) (c .if1 .taken)
+    refused (at-entry s) (s .args .h) (s .args .tracker) (a .answer .result) (checked a .check .result) (checked a .check .ensures) (a .answer .ensures) (c .if1 .taken)
 
 take-out-requires : tie.Need-take-out-requires
 take-out-requires c κs =
     let w = c .before .before .before .before .before in
     let a = w .before .before in
     let s = start a in
-    object (at-entry s) (s .args .h) (a .answer .result) (checked a .check .result) (checked a .check .ensures) (a .answer .ensures) (w .wide .result) (w .wide .ensures) (w .before .if1 .left)
+    object (at-entry s) (s .args .h) (s .args .tracker) (a .answer .result) (checked a .check .result) (checked a .check .ensures) (a .answer .ensures) (w .wide .result) (w .wide .ensures) (w .before .if1 .left)
 
 returns-2 : tie.Need-returns-2
 returns-2 c =
@@ -35,7 +35,7 @@ returns-2 c =
     let w = o .before .before .before .before .before .before in
     let a = w .before .before in
     let s = start a in
-    done (at-entry s) (s .args .h) (a .answer .result) (checked a .check .result) (checked a .check .ensures) (a .answer .ensures) (w .wide .result) (w .wide .ensures) (w .before .if1 .left) _ _ (o .take-out .ensures)
+    done (at-entry s) (s .args .h) (s .args .tracker) (a .answer .result) (checked a .check .result) (checked a .check .ensures) (a .answer .ensures) (w .wide .result) (w .wide .ensures) (w .before .if1 .left) _ _ (o .take-out .ensures)
 
 pub remove-maintain-spec : {M : Type 1} → statement M
 remove-maintain-spec =

@@ -3,10 +3,11 @@ use Rattle.basics.specs.Words.{ℕ, Bool, true, false, List, [], _∷_, map, le
 use Rattle.basics.specs.Meaning.Refusals.{Refusal, unless, pick, byTests}
 use Rattle.cells.specs.Meaning.Key.{keyOf}
 use Rattle.slots.specs.declared.Handle.{Handle}
-use Rattle.slots.specs.Meaning.Slot.{handleTest, emptiedNums, emptiedMap}
+use Rattle.slots.specs.Meaning.Slot.{emptiedNums, emptiedMap}
 use Rattle.storage.specs.Meaning.Keyed.{under, onList, takeOut, written}
 use Rattle.storage.specs.Meaning.Entries.{Entry, rowOf, spotOf, entryKey, isItem}
 use Rattle.storage.specs.Meaning.CellTable.{dropped}
+use Rattle.point_records.specs.Meaning.Trackers.{ownTests}
 use Rattle.point_tables.specs.Meaning.Tables.{Tables, tables, counting, recordOn, entriesIn, cellRows}
 use Rattle.point_tables.specs.Meaning.Decide.{holds}
 use Rattle.point_tables.specs.Meaning.Outcome.{Outcome, outcome}
@@ -34,10 +35,11 @@ takenOut t s =
     (written (map spotOf (entriesWithout t s)) (t .spots))
     (written (rowsWithout t s) (t .cells))
 
-abbrev pub removeMaintainTests : Tables → Handle → List Refusal
-removeMaintainTests t h = unless (holds t) 3 ∷ handleTest (t .nums) h ∷ []
+-- by tracker k
+abbrev pub removeMaintainTests : Tables → Handle → ℕ → List Refusal
+removeMaintainTests t h k = unless (holds t) 3 ∷ ownTests (t .nums) h k
 
-unfoldable pub removeMaintainOf : Tables → Handle → Outcome Reply
+unfoldable pub removeMaintainOf : Tables → Handle → ℕ → Outcome Reply
 unfolding takenOut
-removeMaintainOf t h =
-    byTests (removeMaintainTests t h) (outcome (reply 0 (recordOn t (h .slot) .obj)) (takenOut t (h .slot))) (λ a. outcome (reply a 0) t)
+removeMaintainOf t h k =
+    byTests (removeMaintainTests t h k) (outcome (reply 0 (recordOn t (h .slot) .obj)) (takenOut t (h .slot))) (λ a. outcome (reply a 0) t)

@@ -16,7 +16,7 @@ use Rattle.point_tables.specs.Meaning.Holds.{Holds}
 use Rattle.point_tables.specs.Meaning.Decide.{holds, holds-says}
 use Rattle.point_search.specs.declared.Finding.{Finding}
 use Rattle.point_search.specs.declared.Test.{Test}
-use Rattle.point_search.specs.Meaning.Searches.{found, findingOn, handleRow, placeRow, Outputs, outputs, room, filling, Findings, findings, reportOf}
+use Rattle.point_search.specs.Meaning.Searches.{found, findingOn, handleRow, placeRow, objRow, Outputs, outputs, room, filling, Findings, findings, reportOf}
 use Rattle.point_search.specs.Meaning.Searches.{searchOf}
 use Rattle.point_search.specs.Inner.Places.{wantedAt, placesOf}
 use Rattle.point_search.proofs.laws.PlacesLaws.{places-inside}
@@ -49,7 +49,7 @@ reported-map report g l o =
     (outputs
     (written (map-map (λ b. handleRow (report b)) g l z) (o .handles))
     (written (map-map (λ b. placeRow (report b)) g l z) (o .places))
-    (written (map-map (λ b. report b .obj) g l z) (o .objs)))
+    (written (map-map (λ b. objRow (report b)) g l z) (o .objs)))
 
 module _ (t : Tables) (h : Holds t) where
   pub stocked : Stocked (t .pool) (t .spots) (usedOf t)

@@ -26,7 +26,7 @@ given s = outputs (s .args .handles .now) (s .args .places .now) (s .args .objs 
 
 -- the start, and the range, of a search whose range is not refused
 abbrev start : tie.Else1 → tie.Start
-start e = e .before .before .before .before .before
+start e = e .before .before .before .before
 
 range : (e : tie.Else1) → let s = start e in Ranged (lent s) (s .args .ok) (s .args .ll) (s .args .ur) (e .before .before .range-of .result)
 range e = e .before .before .range-of .ensures
@@ -43,7 +43,7 @@ reached e = start e .pre (passed e .1)
 returns : tie.Need-returns
 returns c =
     let d = c .before .before in
-    let s = d .before .before .before .before in
+    let s = d .before .before .before in
     let a = s .args in
     ap (λ (k : Count). findings k (given s)) (c .refused .ensures)
     ∙ range-refused (lent s) (a .ok) (a .ll) (a .ur) (a .test) (given s) _ (d .before .range-of .ensures .answer) (c .before .if1 .taken)
@@ -64,7 +64,7 @@ fill-requires c κs =
 
 returns-2 : tie.Need-returns-2
 returns-2 c =
-    let f = c .before .before .before .before in
+    let f = c .before .before .before in
     let i = f .before .before .before .before .before .before in
     let e = i .before .before in
     let s = start e in

@@ -14,7 +14,7 @@ use Rattle.point_search.specs.declared.Part.{Part}
 use Rattle.point_search.specs.declared.Test.{Test}
 use Rattle.point_search.specs.Meaning.Searches.{Outputs, filling, Findings, rangeTests}
 use Rattle.point_search.specs.Inner.Places.{placesOf, stretchPlaces}
-use Rattle.point_search.specs.Inner.Fill.{findingAt, handleRowAt, placeRowAt, findingObjAt, filled, Stocked, Findable}
+use Rattle.point_search.specs.Inner.Fill.{findingAt, handleRowAt, placeRowAt, objRowAt, filled, Stocked, Findable}
 use Rattle.point_search.specs.Inner.Begun.{Begun}
 
 -- the answer to a range, and where it is 0 the cells of its corners
@@ -65,7 +65,7 @@ StretchReported test nums pool spots from to n o r o′ =
     (r ≡ n + length (stretchPlaces test spots from to))
     × (o′ .handles ≡ written (take n (o .handles) ++ map (handleRowAt nums pool spots) (stretchPlaces test spots from to)) (o .handles))
     × (o′ .places ≡ written (take n (o .places) ++ map (placeRowAt nums pool spots) (stretchPlaces test spots from to)) (o .places))
-    × (o′ .objs ≡ written (take n (o .objs) ++ map (findingObjAt nums pool spots) (stretchPlaces test spots from to)) (o .objs))
+    × (o′ .objs ≡ written (take n (o .objs) ++ map (objRowAt nums pool spots) (stretchPlaces test spots from to)) (o .objs))
 
 -- every output has n places
 abbrev pub RoomFor : ℕ → Outputs → Type 0

@@ -8,16 +8,17 @@ use Rattle.storage.specs.Inner.Keyed.{Sorted}
 use Rattle.storage.specs.Meaning.Entries.{rowKey}
 use Rattle.storage.specs.Meaning.Packed.{second}
 use Rattle.point_records.specs.declared.Entry.{Entry}
+use Rattle.point_records.specs.Meaning.Word.{trackerIn}
 use Rattle.point_records.specs.Inner.Listed.{listedAt}
 use Rattle.point_search.specs.declared.Finding.{Finding}
-use Rattle.point_search.specs.Meaning.Searches.{handleRow, placeRow, Outputs, room, Findings, findings, reportOf}
+use Rattle.point_search.specs.Meaning.Searches.{handleRow, placeRow, objRow, Outputs, room, Findings, findings, reportOf}
 use Rattle.replies.specs.Meaning.Replies.{count}
 
--- what is reported of an entry: version and data are the first and the third number of its slot's row
+-- what is reported of an entry: version and data are the first and the third number of its slot's row, the tracker stands in the fourth
 abbrev pub findingOf : List (List ℕ) → Entry → Finding
 findingOf nums e =
     let row = getD nums (e .slot) [] in
-    record { handle = record { slot = e .slot; version = getD row 0 0 }; position = e .position; obj = getD row 2 0 }
+    record { handle = record { slot = e .slot; version = getD row 0 0 }; position = e .position; obj = getD row 2 0; tracker = trackerIn row }
 
 -- the same of the entry at a place
 abbrev pub findingAt : List (List ℕ) → List (List ℕ) → List (List Float) → ℕ → Finding
@@ -29,8 +30,8 @@ handleRowAt nums pool spots j = handleRow (findingAt nums pool spots j)
 abbrev pub placeRowAt : List (List ℕ) → List (List ℕ) → List (List Float) → ℕ → List Float
 placeRowAt nums pool spots j = placeRow (findingAt nums pool spots j)
 
-abbrev pub findingObjAt : List (List ℕ) → List (List ℕ) → List (List Float) → ℕ → ℕ
-findingObjAt nums pool spots j = findingAt nums pool spots j .obj
+abbrev pub objRowAt : List (List ℕ) → List (List ℕ) → List (List Float) → ℕ → List ℕ
+objRowAt nums pool spots j = objRow (findingAt nums pool spots j)
 
 unfoldable pub filled : List (List ℕ) → List (List ℕ) → List (List Float) → List ℕ → Outputs → Findings
 filled nums pool spots js o =

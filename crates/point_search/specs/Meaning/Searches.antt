@@ -1,5 +1,5 @@
 -- The search that the three queries of a point grid are: the entries of a range that pass a test, in range order and then in list order; a
--- finding is handle, position and data. Assumes nothing.
+-- finding is handle, position, data and tracker. Assumes nothing.
 use Rattle.basics.specs.Words.{ℕ, min, Bool, true, List, [], _∷_, _++_, map, length, eqb, leb}
 use lib.Ieee.{Float}
 use Rattle.basics.specs.Meaning.Limits.{mostCells}
@@ -14,6 +14,7 @@ use Rattle.storage.specs.Meaning.Keyed.{filter, written}
 use Rattle.storage.specs.Meaning.Entries.{Entry, entryKey}
 use Rattle.storage.specs.Meaning.Walk.{walked}
 use Rattle.point_records.specs.Meaning.Columns.{positionIn}
+use Rattle.point_records.specs.Meaning.Word.{trackerAt}
 use Rattle.point_tables.specs.Meaning.Tables.{Tables, sizeOf, recordOn, entriesIn, slotOf}
 use Rattle.point_tables.specs.Meaning.Decide.{holds}
 use Rattle.point_search.specs.declared.Finding.{Finding}
@@ -34,26 +35,34 @@ positionOf e = positionIn (e .spot)
 unfoldable pub found : Tables → Position → Position → Test → List Entry
 found t ll ur test = filter (λ e. passes test (positionOf e)) (walked entryKey (cellAt (sizeOf t) ll) (cellAt (sizeOf t) ur) (entriesIn t))
 
--- ---- a finding: the handle of a slot, a position, and the slot's data
+-- ---- a finding: the handle of a slot, a position, and the slot's data and tracker
 abbrev pub findingOn : Tables → Entry → Finding
 findingOn t e =
     let s = slotOf e in
-    record { handle = record { slot = s; version = versionAt (t .nums) s }; position = positionOf e; obj = recordOn t s .obj }
+    record {
+      handle = record { slot = s; version = versionAt (t .nums) s };
+      position = positionOf e;
+      obj = recordOn t s .obj;
+      tracker = trackerAt (t .nums) s;
+    }
 
--- its rows: (slot, version) and (x, y); its data is a number
+-- its rows: (slot, version), (x, y) and (data, tracker)
 abbrev pub handleRow : Finding → List ℕ
 handleRow f = f .handle .slot ∷ f .handle .version ∷ []
 
 abbrev pub placeRow : Finding → List Float
 placeRow f = f .position .x ∷ f .position .y ∷ []
 
+abbrev pub objRow : Finding → List ℕ
+objRow f = f .obj ∷ f .tracker ∷ []
+
 -- ---- the outputs of a query: a column for each part of a finding
 pub record Outputs : Type 0 where
   pub handles : List (List ℕ)
   pub places : List (List Float)
-  pub objs : List ℕ
+  pub objs : List (List ℕ)
 
-abbrev pub outputs : List (List ℕ) → List (List Float) → List ℕ → Outputs
+abbrev pub outputs : List (List ℕ) → List (List Float) → List (List ℕ) → Outputs
 outputs h p o = record { handles = h; places = p; objs = o }
 
 -- the places that every column has
@@ -66,7 +75,7 @@ filling report l o =
     outputs
     (written (map (λ a. handleRow (report a)) l) (o .handles))
     (written (map (λ a. placeRow (report a)) l) (o .places))
-    (written (map (λ a. report a .obj) l) (o .objs))
+    (written (map (λ a. objRow (report a)) l) (o .objs))
 
 -- ---- what a query returns, and its outputs after it
 pub record Findings : Type 0 where

@@ -10,7 +10,8 @@ use Rattle.basics.proofs.laws.Counting.{named-count}
 use Rattle.slots.specs.Meaning.Slot.{live, versionAt, phaseAt}
 use Rattle.storage.specs.Meaning.Packed.{first, second}
 use Rattle.point_records.specs.declared.State.the-variants.{Unchanged, NewPos, Relocate, Removed}
-use Rattle.point_records.specs.Meaning.Columns.{tagOf, stateOf, pickState, tagAt}
+use Rattle.point_records.specs.Meaning.Columns.{tagOf, stateOf, pickState}
+use Rattle.point_records.specs.Meaning.Word.{tagAt}
 use Rattle.point_pool.specs.Inner.Pass
 use Rattle.point_records.specs.Inner.Listed.{listedAt}
 use Rattle.point_pool.specs.Inner.Pass.{Fits, Passes, Named}
@@ -92,7 +93,7 @@ module _ (t : Tables) where
           records = λ k h l.
               let i = lists-hold .every k h l in
               let v = p .whole (i .0) (i .1) in
-              subst (RecordHolds t) (i .2) (record { tagged = v .tagged; occupied = v .occupied });
+              subst (RecordHolds t) (i .2) (record { worded = v .worded; occupied = v .occupied });
           packed = p .packed;
           lists = lists-hold;
           dirty = dirty-hold;
@@ -120,7 +121,7 @@ module _ (t : Tables) where
     passes-of =
         record {
           each = fits-of;
-          whole = λ j l. let e = h .lists .each j l in let r = h .records (second (t .pool) j) (e .inside) (e .occupied) in record { versioned = h .slots .each (second (t .pool) j) (e .inside) .versioned; tagged = r .tagged; occupied = r .occupied };
+          whole = λ j l. let e = h .lists .each j l in let r = h .records (second (t .pool) j) (e .inside) (e .occupied) in record { versioned = h .slots .each (second (t .pool) j) (e .inside) .versioned; worded = r .worded; occupied = r .occupied };
           once = h .lists .once;
           packed = h .packed;
           marked = λ j l r m e z.

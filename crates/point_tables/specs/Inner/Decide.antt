@@ -39,7 +39,7 @@ module _ (t : Tables) where
 
   d-record : (s : ℕ) → Decided (RecordHolds t s)
   d-record s =
-      d-via (λ x. record { tagged = x .0; occupied = x .1 }) (λ h. (h .tagged, h .occupied)) (d-and (d-le _ _) (d-occupied (sizeOf t) (recordOn t s)))
+      d-via (λ x. record { worded = x .0; occupied = x .1 }) (λ h. (h .worded, h .occupied)) (d-and (d-le _ _) (d-occupied (sizeOf t) (recordOn t s)))
 
   d-entry : (j : ℕ) → Decided (EntryHolds t j)
   d-entry j =

@@ -6,7 +6,8 @@ use Rattle.cells.specs.Meaning.Size.{SizeInDomain}
 use Rattle.cells.specs.Meaning.Key.{keyOf}
 use Rattle.slots.specs.Meaning.Slot.{live, phaseAt, SlotsHold}
 use Rattle.storage.specs.Meaning.Packed.{first, second, Packed}
-use Rattle.point_records.specs.Meaning.Columns.{tagOf, tagAt}
+use Rattle.point_records.specs.Meaning.Columns.{tagOf}
+use Rattle.point_records.specs.Meaning.Word.{lastWord, wordAt}
 use Rattle.point_records.specs.Meaning.Occupied.{Occupied}
 use Rattle.point_tables.specs.Meaning.Tables.{Tables, sizeOf, usedOf, rowsOf, slotsOf, recordOn, Sized}
 
@@ -16,9 +17,10 @@ pub record Counted (t : Tables) : Type 0 where
   pub used-most : usedOf t ≤ slotsOf t
   pub rows-most : rowsOf t ≤ slotsOf t
 
--- an occupied slot: its tag is one of four, its numbers are in the domain, its cell is that of its position, and what is pending agrees
+-- an occupied slot: its word is at most 31, a tracker of 0 to 7 and a tag of 0 to 3, its numbers are in the domain, its cell is that of its
+-- position, and what is pending agrees
 pub record RecordHolds (t : Tables) (s : ℕ) : Type 0 where
-  pub tagged : tagAt (t .nums) s ≤ 3
+  pub worded : wordAt (t .nums) s ≤ lastWord
   pub occupied : Occupied (sizeOf t) (recordOn t s)
 
 -- entry j names an occupied slot, under the key of its cell, with its recorded position: equal as data, so by bits

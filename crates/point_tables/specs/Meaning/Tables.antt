@@ -7,7 +7,7 @@ use Rattle.point_records.specs.Meaning.Columns.{recordAt}
 use Rattle.slots.specs.Meaning.Map.{head, wordsFor}
 use Rattle.storage.specs.Meaning.Entries.{Entry, entriesOf, rowItem}
 
--- nums: version, phase, obj, state tag; reals: recorded x, y, pending x, y; ints: recorded cell x, y, target cell x, y: a row for each slot.
+-- nums: version, phase, obj, word (tracker and state); reals: recorded x, y, pending x, y; ints: recorded cell x, y, target cell x, y: a row for each slot.
 -- map: cell size, entries in use, cells in use, then the usable bits. pool: cell key, slot, and spots: x, y: a row for each list entry.
 -- cells: cell key, dirty mark: a row for each cell in use.
 pub record Tables : Type 0 where

@@ -20,7 +20,7 @@ use types.Run.{pass1, pass0, free1, free0}
 use sound.WpLaws.{fmOf, WpFn-mono}
 use denote.RattleType.{owns}
 use denote.Laws.{Is}
-use denote.Plain.{uint-makes}
+use denote.Plain.{uint-vals, uint-tells, uint-makes}
 use denote.Builtin.{u32, u64, i32, f32, ArrayOf}
 use denote.Ref.{RefT}
 use denote.Slice.{ShrSlice, MutSlice, Room, slice-vals, shr-slice-tells, mut-slice-tells}
@@ -68,14 +68,14 @@ use Rattle.record_deferred.proofs.set_position.Statement as stated
 use Rattle.record_deferred.proofs.set_position.Code as code
 
 abbrev stayed : Stays (set-position.ended .signature .params) (set-position.ended .kept)
-stayed = (stay-slice (0 ∷ []) tt (plain (λ _. R)), (stay-slice (1 ∷ []) tt (ArrayOf (plain (λ _. u32)) (λ _. tt) 4), (stay-slice (2 ∷ []) tt (ArrayOf (plain (λ _. f32)) (λ _. tt) 4), (stay-slice (3 ∷ []) tt (ArrayOf (plain (λ _. i32)) (λ _. tt) 4), (stay-none-slice (4 ∷ []) tt (plain (λ _. u64)) yes, (stay-none-slice (5 ∷ []) tt (ArrayOf (plain (λ _. u64)) (λ _. tt) 2) yes, (stay-none-slice (6 ∷ []) tt (ArrayOf (plain (λ _. f32)) (λ _. tt) 2) yes, (stay-slice (7 ∷ []) tt (ArrayOf (plain (λ _. u64)) (λ _. tt) 2), (stay-none (λ _. HT.the-row) yes, (stay-none (λ _. PT.the-row) yes, tt))))))))))
+stayed = (stay-slice (0 ∷ []) tt (plain (λ _. R)), (stay-slice (1 ∷ []) tt (ArrayOf (plain (λ _. u32)) (λ _. tt) 4), (stay-slice (2 ∷ []) tt (ArrayOf (plain (λ _. f32)) (λ _. tt) 4), (stay-slice (3 ∷ []) tt (ArrayOf (plain (λ _. i32)) (λ _. tt) 4), (stay-none-slice (4 ∷ []) tt (plain (λ _. u64)) yes, (stay-none-slice (5 ∷ []) tt (ArrayOf (plain (λ _. u64)) (λ _. tt) 2) yes, (stay-none-slice (6 ∷ []) tt (ArrayOf (plain (λ _. f32)) (λ _. tt) 2) yes, (stay-slice (7 ∷ []) tt (ArrayOf (plain (λ _. u64)) (λ _. tt) 2), (stay-none (λ _. HT.the-row) yes, (stay-none (λ _. PT.the-row) yes, (stay-none (λ _. u32) yes, tt)))))))))))
 
-module _ {M : Type 1} (𝓤 : URA M) (H : Heap 𝓤) (A : Atoms 𝓤) (W : Given 𝓤 H A) (mem : Memory → SProp 𝓤) (run : Routine → Fun 𝓤) (κ₀ κ₁ κ₂ κ₃ κ₄ κ₅ κ₆ κ₇ : Lft) (q₀ q₁ q₂ q₃ q₄ q₅ q₆ q₇ : Share) (b₀ o₀ : ℕ) (γ₀ : GName) (y₀ : List (Record)) (room₀ : Room R (length y₀)) (b₁ o₁ : ℕ) (γ₁ : GName) (y₁ : List (List ℕ)) (room₁ : Room N4 (length y₁)) (b₂ o₂ : ℕ) (γ₂ : GName) (y₂ : List (List Float)) (room₂ : Room F4 (length y₂)) (b₃ o₃ : ℕ) (γ₃ : GName) (y₃ : List (List ℤ)) (room₃ : Room Z4 (length y₃)) (b₄ o₄ : ℕ) (γ₄ : GName) (y₄ : List (ℕ)) (room₄ : Room u64 (length y₄)) (b₅ o₅ : ℕ) (γ₅ : GName) (y₅ : List (List ℕ)) (room₅ : Room N2 (length y₅)) (b₆ o₆ : ℕ) (γ₆ : GName) (y₆ : List (List Float)) (room₆ : Room F2 (length y₆)) (b₇ o₇ : ℕ) (γ₇ : GName) (y₇ : List (List ℕ)) (room₇ : Room N2 (length y₇)) (v₀ : Handle) (g₀ : Is HT.the-row v₀ (LL.vals HT.the-type HT′.the-laws v₀)) (v₁ : Position) (g₁ : Is PT.the-row v₁ (LL.vals PT.the-type PT′.the-laws v₁)) where
-  abbrev x : (RefT (List (Record)) × (RefT (List (List ℕ)) × (RefT (List (List Float)) × (RefT (List (List ℤ)) × (RefT (List (ℕ)) × (RefT (List (List ℕ)) × (RefT (List (List Float)) × (RefT (List (List ℕ)) × (Handle × (Position × Unit {0}))))))))))
-  x = (to R b₀ o₀ γ₀ y₀, (to N4 b₁ o₁ γ₁ y₁, (to F4 b₂ o₂ γ₂ y₂, (to Z4 b₃ o₃ γ₃ y₃, (to u64 b₄ o₄ γ₄ y₄, (to N2 b₅ o₅ γ₅ y₅, (to F2 b₆ o₆ γ₆ y₆, (to N2 b₇ o₇ γ₇ y₇, (v₀, (v₁, tt))))))))))
+module _ {M : Type 1} (𝓤 : URA M) (H : Heap 𝓤) (A : Atoms 𝓤) (W : Given 𝓤 H A) (mem : Memory → SProp 𝓤) (run : Routine → Fun 𝓤) (κ₀ κ₁ κ₂ κ₃ κ₄ κ₅ κ₆ κ₇ : Lft) (q₀ q₁ q₂ q₃ q₄ q₅ q₆ q₇ : Share) (b₀ o₀ : ℕ) (γ₀ : GName) (y₀ : List (Record)) (room₀ : Room R (length y₀)) (b₁ o₁ : ℕ) (γ₁ : GName) (y₁ : List (List ℕ)) (room₁ : Room N4 (length y₁)) (b₂ o₂ : ℕ) (γ₂ : GName) (y₂ : List (List Float)) (room₂ : Room F4 (length y₂)) (b₃ o₃ : ℕ) (γ₃ : GName) (y₃ : List (List ℤ)) (room₃ : Room Z4 (length y₃)) (b₄ o₄ : ℕ) (γ₄ : GName) (y₄ : List (ℕ)) (room₄ : Room u64 (length y₄)) (b₅ o₅ : ℕ) (γ₅ : GName) (y₅ : List (List ℕ)) (room₅ : Room N2 (length y₅)) (b₆ o₆ : ℕ) (γ₆ : GName) (y₆ : List (List Float)) (room₆ : Room F2 (length y₆)) (b₇ o₇ : ℕ) (γ₇ : GName) (y₇ : List (List ℕ)) (room₇ : Room N2 (length y₇)) (v₀ : Handle) (g₀ : Is HT.the-row v₀ (LL.vals HT.the-type HT′.the-laws v₀)) (v₁ : Position) (g₁ : Is PT.the-row v₁ (LL.vals PT.the-type PT′.the-laws v₁)) (v₂ : ℕ) (g₂ : v₂ < 2 ^ 32) where
+  abbrev x : (RefT (List (Record)) × (RefT (List (List ℕ)) × (RefT (List (List Float)) × (RefT (List (List ℤ)) × (RefT (List (ℕ)) × (RefT (List (List ℕ)) × (RefT (List (List Float)) × (RefT (List (List ℕ)) × (Handle × (Position × (ℕ × Unit {0})))))))))))
+  x = (to R b₀ o₀ γ₀ y₀, (to N4 b₁ o₁ γ₁ y₁, (to F4 b₂ o₂ γ₂ y₂, (to Z4 b₃ o₃ γ₃ y₃, (to u64 b₄ o₄ γ₄ y₄, (to N2 b₅ o₅ γ₅ y₅, (to F2 b₆ o₆ γ₆ y₆, (to N2 b₇ o₇ γ₇ y₇, (v₀, (v₁, (v₂, tt)))))))))))
 
-  abbrev at : (List Val × (List Val × (List Val × (List Val × (List Val × (List Val × (List Val × (List Val × (List Val × (List Val × Unit {0}))))))))))
-  at = ((pointer b₀ o₀ y₀) ∷ [], ((pointer b₁ o₁ y₁) ∷ [], ((pointer b₂ o₂ y₂) ∷ [], ((pointer b₃ o₃ y₃) ∷ [], ((pointer b₄ o₄ y₄) ∷ [], ((pointer b₅ o₅ y₅) ∷ [], ((pointer b₆ o₆ y₆) ∷ [], ((pointer b₇ o₇ y₇) ∷ [], ((LL.vals HT.the-type HT′.the-laws v₀), ((LL.vals PT.the-type PT′.the-laws v₁), tt))))))))))
+  abbrev at : (List Val × (List Val × (List Val × (List Val × (List Val × (List Val × (List Val × (List Val × (List Val × (List Val × (List Val × Unit {0})))))))))))
+  at = ((pointer b₀ o₀ y₀) ∷ [], ((pointer b₁ o₁ y₁) ∷ [], ((pointer b₂ o₂ y₂) ∷ [], ((pointer b₃ o₃ y₃) ∷ [], ((pointer b₄ o₄ y₄) ∷ [], ((pointer b₅ o₅ y₅) ∷ [], ((pointer b₆ o₆ y₆) ∷ [], ((pointer b₇ o₇ y₇) ∷ [], ((LL.vals HT.the-type HT′.the-laws v₀), ((LL.vals PT.the-type PT′.the-laws v₁), ((vint w32 v₂ ∷ []), tt)))))))))))
 
   abbrev bound : walkOf 𝓤 H A set-position.ended stayed (set-position.clauses 𝓤 H A mem run) .Ghost
   bound = (((κ₀, (κ₁, (κ₂, (κ₃, (κ₄, (κ₅, (κ₆, (κ₇, tt)))))))), (q₀, (q₁, (q₂, (q₃, (q₄, (q₅, (q₆, (q₇, tt)))))))), tt, x, at), tt)
@@ -83,65 +83,65 @@ module _ {M : Type 1} (𝓤 : URA M) (H : Heap 𝓤) (A : Atoms 𝓤) (W : Given
   abbrev Post : Val → SProp 𝓤
   Post = walkOf 𝓤 H A set-position.ended stayed (set-position.clauses 𝓤 H A mem run) .post bound
 
-  abbrev left : (r : ℕ) (zs : (Unit {0} × (List (List ℕ) × (List (List Float) × (List (List ℤ) × (Unit {0} × (Unit {0} × (Unit {0} × (List (List ℕ) × (Unit {0} × (Unit {0} × Unit {0}))))))))))) → List (Item 𝓤)
-  left r zs = ‵ (MutSlice (named 0) κ₀ R .own (to R b₀ o₀ γ₀ (gathered (zs .1 .0) (zs .1 .1 .0) (zs .1 .1 .1 .0) y₀)) ((pointer b₀ o₀ y₀) ∷ [])) ∷ ‵ (flft κ₀ q₀) ∷ ‵ (MutSlice (named 1) κ₁ N4 .own (to N4 b₁ o₁ γ₁ (zs .1 .0)) ((pointer b₁ o₁ y₁) ∷ [])) ∷ ‵ (flft κ₁ q₁) ∷ ‵ (MutSlice (named 2) κ₂ F4 .own (to F4 b₂ o₂ γ₂ (zs .1 .1 .0)) ((pointer b₂ o₂ y₂) ∷ [])) ∷ ‵ (flft κ₂ q₂) ∷ ‵ (MutSlice (named 3) κ₃ Z4 .own (to Z4 b₃ o₃ γ₃ (zs .1 .1 .1 .0)) ((pointer b₃ o₃ y₃) ∷ [])) ∷ ‵ (flft κ₃ q₃) ∷ ‵ (ShrSlice (named 4) κ₄ u64 .own (to u64 b₄ o₄ γ₄ (y₄)) ((pointer b₄ o₄ y₄) ∷ [])) ∷ ‵ (flft κ₄ q₄) ∷ ‵ (ShrSlice (named 5) κ₅ N2 .own (to N2 b₅ o₅ γ₅ (y₅)) ((pointer b₅ o₅ y₅) ∷ [])) ∷ ‵ (flft κ₅ q₅) ∷ ‵ (ShrSlice (named 6) κ₆ F2 .own (to F2 b₆ o₆ γ₆ (y₆)) ((pointer b₆ o₆ y₆) ∷ [])) ∷ ‵ (flft κ₆ q₆) ∷ ‵ (MutSlice (named 7) κ₇ N2 .own (to N2 b₇ o₇ γ₇ (zs .1 .1 .1 .1 .1 .1 .1 .0)) ((pointer b₇ o₇ y₇) ∷ [])) ∷ ‵ (flft κ₇ q₇) ∷ ‵ (HT.the-row .own v₀ (LL.vals HT.the-type HT′.the-laws v₀)) ∷ ‵ (PT.the-row .own v₁ (LL.vals PT.the-type PT′.the-laws v₁)) ∷ []
+  abbrev left : (r : ℕ) (zs : (Unit {0} × (List (List ℕ) × (List (List Float) × (List (List ℤ) × (Unit {0} × (Unit {0} × (Unit {0} × (List (List ℕ) × (Unit {0} × (Unit {0} × (Unit {0} × Unit {0})))))))))))) → List (Item 𝓤)
+  left r zs = ‵ (MutSlice (named 0) κ₀ R .own (to R b₀ o₀ γ₀ (gathered (zs .1 .0) (zs .1 .1 .0) (zs .1 .1 .1 .0) y₀)) ((pointer b₀ o₀ y₀) ∷ [])) ∷ ‵ (flft κ₀ q₀) ∷ ‵ (MutSlice (named 1) κ₁ N4 .own (to N4 b₁ o₁ γ₁ (zs .1 .0)) ((pointer b₁ o₁ y₁) ∷ [])) ∷ ‵ (flft κ₁ q₁) ∷ ‵ (MutSlice (named 2) κ₂ F4 .own (to F4 b₂ o₂ γ₂ (zs .1 .1 .0)) ((pointer b₂ o₂ y₂) ∷ [])) ∷ ‵ (flft κ₂ q₂) ∷ ‵ (MutSlice (named 3) κ₃ Z4 .own (to Z4 b₃ o₃ γ₃ (zs .1 .1 .1 .0)) ((pointer b₃ o₃ y₃) ∷ [])) ∷ ‵ (flft κ₃ q₃) ∷ ‵ (ShrSlice (named 4) κ₄ u64 .own (to u64 b₄ o₄ γ₄ (y₄)) ((pointer b₄ o₄ y₄) ∷ [])) ∷ ‵ (flft κ₄ q₄) ∷ ‵ (ShrSlice (named 5) κ₅ N2 .own (to N2 b₅ o₅ γ₅ (y₅)) ((pointer b₅ o₅ y₅) ∷ [])) ∷ ‵ (flft κ₅ q₅) ∷ ‵ (ShrSlice (named 6) κ₆ F2 .own (to F2 b₆ o₆ γ₆ (y₆)) ((pointer b₆ o₆ y₆) ∷ [])) ∷ ‵ (flft κ₆ q₆) ∷ ‵ (MutSlice (named 7) κ₇ N2 .own (to N2 b₇ o₇ γ₇ (zs .1 .1 .1 .1 .1 .1 .1 .0)) ((pointer b₇ o₇ y₇) ∷ [])) ∷ ‵ (flft κ₇ q₇) ∷ ‵ (HT.the-row .own v₀ (LL.vals HT.the-type HT′.the-laws v₀)) ∷ ‵ (PT.the-row .own v₁ (LL.vals PT.the-type PT′.the-laws v₁)) ∷ ‵ (u32 .own v₂ (vint w32 v₂ ∷ [])) ∷ []
 
-  exits : (r : ℕ) (zs : (Unit {0} × (List (List ℕ) × (List (List Float) × (List (List ℤ) × (Unit {0} × (Unit {0} × (Unit {0} × (List (List ℕ) × (Unit {0} × (Unit {0} × Unit {0}))))))))))) → length (zs .1 .0) ≡ length (laid numsOf y₀ y₁) → length (zs .1 .1 .0) ≡ length (laid realsOf y₀ y₂) → length (zs .1 .1 .1 .0) ≡ length (laid intsOf y₀ y₃) → length (zs .1 .1 .1 .1 .1 .1 .1 .0) ≡ length (y₇) → (outcome (reply r 0) (tabled (zs .1 .0) (zs .1 .1 .0) (zs .1 .1 .1 .0) (y₄) (y₅) (y₆) (zs .1 .1 .1 .1 .1 .1 .1 .0)) ≡ setPositionFor (length y₀) (tabled (laid numsOf y₀ y₁) (laid realsOf y₀ y₂) (laid intsOf y₀ y₃) (y₄) (y₅) (y₆) (y₇)) v₀ v₁) → r < 2 ^ 32 → ent 𝓤 (⋆ 𝓤 H A (left r zs)) (Post (vint w32 r))
+  exits : (r : ℕ) (zs : (Unit {0} × (List (List ℕ) × (List (List Float) × (List (List ℤ) × (Unit {0} × (Unit {0} × (Unit {0} × (List (List ℕ) × (Unit {0} × (Unit {0} × (Unit {0} × Unit {0})))))))))))) → length (zs .1 .0) ≡ length (laid numsOf y₀ y₁) → length (zs .1 .1 .0) ≡ length (laid realsOf y₀ y₂) → length (zs .1 .1 .1 .0) ≡ length (laid intsOf y₀ y₃) → length (zs .1 .1 .1 .1 .1 .1 .1 .0) ≡ length (y₇) → (outcome (reply r 0) (tabled (zs .1 .0) (zs .1 .1 .0) (zs .1 .1 .1 .0) (y₄) (y₅) (y₆) (zs .1 .1 .1 .1 .1 .1 .1 .0)) ≡ setPositionFor (length y₀) (tabled (laid numsOf y₀ y₁) (laid realsOf y₀ y₂) (laid intsOf y₀ y₃) (y₄) (y₅) (y₆) (y₇)) v₀ v₁ v₂) → r < 2 ^ 32 → ent 𝓤 (⋆ 𝓤 H A (left r zs)) (Post (vint w32 r))
   exits r zs n₁ n₂ n₃ n₇ eq gr =
-      qed W (left r zs) ∵ suffices ! _ (ends-at 𝓤 H A set-position.ended stayed (set-position.clauses 𝓤 H A mem run) W bound (vint w32 r) (r) ((gathered (zs .1 .0) (zs .1 .1 .0) (zs .1 .1 .1 .0) y₀), ((zs .1 .0), ((zs .1 .1 .0), ((zs .1 .1 .1 .0), (tt, (tt, (tt, ((zs .1 .1 .1 .1 .1 .1 .1 .0), (tt, (tt, tt)))))))))) (gathered-length (zs .1 .0) (zs .1 .1 .0) (zs .1 .1 .1 .0) y₀, ((n₁ ∙ laid-length numsOf y₀ y₁), ((n₂ ∙ laid-length realsOf y₀ y₂), ((n₃ ∙ laid-length intsOf y₀ y₃), (tt, (tt, (tt, (n₇, (tt, (tt, tt))))))))))) $ says ! (ap (back y₀) eq) $
-      nothing ! $ move ! (16 ∷ 0 ∷ []) $ join ! $ move ! (14 ∷ 0 ∷ []) $ join ! $ move ! (12 ∷ 0 ∷ []) $ join ! $ move ! (10 ∷ 0 ∷ []) $ join ! $ move ! (8 ∷ 0 ∷ []) $ join ! $ move ! (6 ∷ 0 ∷ []) $ join ! $ move ! (4 ∷ 0 ∷ []) $ join ! $ move ! (2 ∷ 0 ∷ []) $ join ! $ frame ! $ nothing ! $ move ! (10 ∷ 0 ∷ []) $ fjoin ! $ move ! (9 ∷ 0 ∷ []) $ fjoin ! $ move ! (8 ∷ 0 ∷ []) $ fjoin ! $ move ! (7 ∷ 0 ∷ []) $ fjoin ! $ move ! (6 ∷ 0 ∷ []) $ fjoin ! $ move ! (5 ∷ 0 ∷ []) $ fjoin ! $ move ! (4 ∷ 0 ∷ []) $ fjoin ! $ move ! (3 ∷ 0 ∷ []) $ fjoin ! $ move ! (2 ∷ 0 ∷ []) $ fjoin ! $ move ! (1 ∷ 0 ∷ []) $ fjoin ! $ frame ! $ owned ! u32 (Is u32) (uint-makes 𝓤 H A W w32) r _ (refl, gr) $ done !
+      qed W (left r zs) ∵ suffices ! _ (ends-at 𝓤 H A set-position.ended stayed (set-position.clauses 𝓤 H A mem run) W bound (vint w32 r) (r) ((gathered (zs .1 .0) (zs .1 .1 .0) (zs .1 .1 .1 .0) y₀), ((zs .1 .0), ((zs .1 .1 .0), ((zs .1 .1 .1 .0), (tt, (tt, (tt, ((zs .1 .1 .1 .1 .1 .1 .1 .0), (tt, (tt, (tt, tt))))))))))) (gathered-length (zs .1 .0) (zs .1 .1 .0) (zs .1 .1 .1 .0) y₀, ((n₁ ∙ laid-length numsOf y₀ y₁), ((n₂ ∙ laid-length realsOf y₀ y₂), ((n₃ ∙ laid-length intsOf y₀ y₃), (tt, (tt, (tt, (n₇, (tt, (tt, (tt, tt)))))))))))) $ says ! (ap (back y₀) eq) $
+      nothing ! $ move ! (16 ∷ 0 ∷ []) $ join ! $ move ! (14 ∷ 0 ∷ []) $ join ! $ move ! (12 ∷ 0 ∷ []) $ join ! $ move ! (10 ∷ 0 ∷ []) $ join ! $ move ! (8 ∷ 0 ∷ []) $ join ! $ move ! (6 ∷ 0 ∷ []) $ join ! $ move ! (4 ∷ 0 ∷ []) $ join ! $ move ! (2 ∷ 0 ∷ []) $ join ! $ frame ! $ nothing ! $ move ! (11 ∷ 0 ∷ []) $ fjoin ! $ move ! (10 ∷ 0 ∷ []) $ fjoin ! $ move ! (9 ∷ 0 ∷ []) $ fjoin ! $ move ! (8 ∷ 0 ∷ []) $ fjoin ! $ move ! (7 ∷ 0 ∷ []) $ fjoin ! $ move ! (6 ∷ 0 ∷ []) $ fjoin ! $ move ! (5 ∷ 0 ∷ []) $ fjoin ! $ move ! (4 ∷ 0 ∷ []) $ fjoin ! $ move ! (3 ∷ 0 ∷ []) $ fjoin ! $ move ! (2 ∷ 0 ∷ []) $ fjoin ! $ move ! (1 ∷ 0 ∷ []) $ fjoin ! $ frame ! $ owned ! u32 (Is u32) (uint-makes 𝓤 H A W w32) r _ (refl, gr) $ done !
 
   module _ (𝓣 : Tables 𝓤 H) (m-spread : Triple 𝓤 (𝓣 .C #records·spread) (Spread 𝓤 H A mem run)) (m-set-position-for : Triple 𝓤 (𝓣 .C #record-deferred·set-position-for) (SetPositionFor 𝓤 H A mem run)) (m-gather : Triple 𝓤 (𝓣 .C #records·gather) (Gather 𝓤 H A mem run)) where
-    walk : ent 𝓤 (onEntry 𝓤 H A set-position.signature (κ₀, (κ₁, (κ₂, (κ₃, (κ₄, (κ₅, (κ₆, (κ₇, tt)))))))) (q₀, (q₁, (q₂, (q₃, (q₄, (q₅, (q₆, (q₇, tt)))))))) x at) (WpFn 𝓤 H (𝓣 .C) (𝓣 .Λ) code.function ((pointer b₀ o₀ y₀) ∷ (pointer b₁ o₁ y₁) ∷ (pointer b₂ o₂ y₂) ∷ (pointer b₃ o₃ y₃) ∷ (pointer b₄ o₄ y₄) ∷ (pointer b₅ o₅ y₅) ∷ (pointer b₆ o₆ y₆) ∷ (pointer b₇ o₇ y₇) ∷ LL.val HT.the-type HT′.the-laws v₀ ∷ LL.val PT.the-type PT′.the-laws v₁ ∷ []) Post)
+    walk : ent 𝓤 (onEntry 𝓤 H A set-position.signature (κ₀, (κ₁, (κ₂, (κ₃, (κ₄, (κ₅, (κ₆, (κ₇, tt)))))))) (q₀, (q₁, (q₂, (q₃, (q₄, (q₅, (q₆, (q₇, tt)))))))) x at) (WpFn 𝓤 H (𝓣 .C) (𝓣 .Λ) code.function ((pointer b₀ o₀ y₀) ∷ (pointer b₁ o₁ y₁) ∷ (pointer b₂ o₂ y₂) ∷ (pointer b₃ o₃ y₃) ∷ (pointer b₄ o₄ y₄) ∷ (pointer b₅ o₅ y₅) ∷ (pointer b₆ o₆ y₆) ∷ (pointer b₇ o₇ y₇) ∷ LL.val HT.the-type HT′.the-laws v₀ ∷ LL.val PT.the-type PT′.the-laws v₁ ∷ vint w32 v₂ ∷ []) Post)
     walk =
-        qed W ((‵ (flft κ₀ q₀) ⊛ ‵ (flft κ₁ q₁) ⊛ ‵ (flft κ₂ q₂) ⊛ ‵ (flft κ₃ q₃) ⊛ ‵ (flft κ₄ q₄) ⊛ ‵ (flft κ₅ q₅) ⊛ ‵ (flft κ₆ q₆) ⊛ ‵ (flft κ₇ q₇) ⊛ ‵ ftrue) ∷ ‵ (owns (MutSlice (named 0) κ₀ R ∷ MutSlice (named 1) κ₁ N4 ∷ MutSlice (named 2) κ₂ F4 ∷ MutSlice (named 3) κ₃ Z4 ∷ ShrSlice (named 4) κ₄ u64 ∷ ShrSlice (named 5) κ₅ N2 ∷ ShrSlice (named 6) κ₆ F2 ∷ MutSlice (named 7) κ₇ N2 ∷ HT.the-row ∷ PT.the-row ∷ []) x at) ∷ []) ∵ enter ! (𝓣 .C) (𝓣 .Λ) code.function ((pointer b₀ o₀ y₀) ∷ (pointer b₁ o₁ y₁) ∷ (pointer b₂ o₂ y₂) ∷ (pointer b₃ o₃ y₃) ∷ (pointer b₄ o₄ y₄) ∷ (pointer b₅ o₅ y₅) ∷ (pointer b₆ o₆ y₆) ∷ (pointer b₇ o₇ y₇) ∷ LL.val HT.the-type HT′.the-laws v₀ ∷ LL.val PT.the-type PT′.the-laws v₁ ∷ []) _ $
-        alloc1 ! (λ l₀. alloc1 ! (λ l₁. alloc1 ! (λ l₂. alloc1 ! (λ l₃. alloc1 ! (λ l₄. alloc1 ! (λ l₅. alloc1 ! (λ l₆. alloc1 ! (λ l₇. alloc1 ! (λ l₈. alloc1 ! (λ l₉. alloc1 ! (λ l₁₀. alloc1 ! (λ l₁₁. alloc1 ! (λ l₁₂. alloc1 ! (λ l₁₃. alloc1 ! (λ l₁₄. alloc1 ! (λ l₁₅. alloc1 ! (λ l₁₆. alloc1 ! (λ l₁₇. alloc1 ! (λ l₁₈. alloc1 ! (λ l₁₉. alloc1 ! (λ l₂₀. alloc1 ! (λ l₂₁. alloc1 ! (λ l₂₂. alloc1 ! (λ l₂₃. alloc1 ! (λ l₂₄. alloc1 ! (λ l₂₅. alloc1 ! (λ l₂₆. alloc1 ! (λ l₂₇. alloc1 ! (λ l₂₈. alloc1 ! (λ l₂₉. alloc1 ! (λ l₃₀. alloc1 ! (λ l₃₁. alloc1 ! (λ l₃₂. alloc1 ! (λ l₃₃. alloc1 ! (λ l₃₄. alloc1 ! (λ l₃₅. alloc1 ! (λ l₃₆. alloc1 ! (λ l₃₇. alloc0 ! $ params1 ! $
-        pass1 ! (init ! 72 refl (tt, (tt, (record { fits = room₀ .0 }, tt)))) $ pass1 ! (init ! 70 refl (tt, (tt, (record { fits = room₁ .0 }, tt)))) $ pass1 ! (init ! 68 refl (tt, (tt, (record { fits = room₂ .0 }, tt)))) $ pass1 ! (init ! 66 refl (tt, (tt, (record { fits = room₃ .0 }, tt)))) $ pass1 ! (init ! 64 refl (tt, (tt, (record { fits = room₄ .0 }, tt)))) $ pass1 ! (init ! 62 refl (tt, (tt, (record { fits = room₅ .0 }, tt)))) $ pass1 ! (init ! 60 refl (tt, (tt, (record { fits = room₆ .0 }, tt)))) $ pass1 ! (init ! 58 refl (tt, (tt, (record { fits = room₇ .0 }, tt)))) $ pass1 ! (init ! 56 refl (LL.lawful HT.the-type HT′.the-laws 𝓤 H A W .typed v₀ _ g₀ .0)) $ pass1 ! (init ! 54 refl (LL.lawful PT.the-type PT′.the-laws 𝓤 H A W .typed v₁ _ g₁ .0)) $ pass0 ! $
-        move ! (77 ∷ []) $ fsplit ! $ move ! (1 ∷ []) $ fsplit ! $ move ! (1 ∷ []) $ fsplit ! $ move ! (1 ∷ []) $ fsplit ! $ move ! (1 ∷ []) $ fsplit ! $ move ! (1 ∷ []) $ fsplit ! $ move ! (1 ∷ []) $ fsplit ! $ move ! (1 ∷ []) $ fsplit ! $ move ! (1 ∷ []) $ fsplit ! $ move ! (1 ∷ []) $ fsplit ! $ move ! (87 ∷ []) $ split ! $ move ! (1 ∷ []) $ split ! $ move ! (1 ∷ []) $ split ! $ move ! (1 ∷ []) $ split ! $ move ! (1 ∷ []) $ split ! $ move ! (1 ∷ []) $ split ! $ move ! (1 ∷ []) $ split ! $ move ! (1 ∷ []) $ split ! $ keep ! (19 ∷ 8 ∷ 18 ∷ 7 ∷ 17 ∷ 6 ∷ 16 ∷ 5 ∷ 15 ∷ 4 ∷ 14 ∷ 3 ∷ 13 ∷ 2 ∷ 12 ∷ 0 ∷ 11 ∷ 9 ∷ 20 ∷ 21 ∷ 22 ∷ 23 ∷ 24 ∷ 25 ∷ 26 ∷ 27 ∷ 28 ∷ 29 ∷ 30 ∷ 31 ∷ 32 ∷ 33 ∷ 34 ∷ 35 ∷ 36 ∷ 37 ∷ 38 ∷ 39 ∷ 40 ∷ 41 ∷ 42 ∷ 43 ∷ 44 ∷ 45 ∷ 46 ∷ 47 ∷ 48 ∷ 49 ∷ 50 ∷ 51 ∷ 52 ∷ 53 ∷ 54 ∷ 55 ∷ 56 ∷ 57 ∷ 58 ∷ 59 ∷ 60 ∷ 61 ∷ 62 ∷ 63 ∷ 64 ∷ 65 ∷ 66 ∷ 67 ∷ 68 ∷ 69 ∷ 70 ∷ 71 ∷ 72 ∷ 73 ∷ 74 ∷ 75 ∷ 76 ∷ 77 ∷ 78 ∷ 79 ∷ 80 ∷ 81 ∷ 82 ∷ 83 ∷ 84 ∷ 85 ∷ 86 ∷ 87 ∷ 88 ∷ 89 ∷ 90 ∷ 91 ∷ 92 ∷ 93 ∷ 94 ∷ 95 ∷ []) $
-        assigns ! (addr ! (from ! (fld ! refl (hop ! (look-in ! 90 (sub ! 0 refl (whole !))) (stop !))))) (from ! (stop !)) (init ! 64 refl (tt, tt)) $
-        assigns ! (agg ! (and-then ! (load ! (from ! (stop !)) (look ! 64 refl)) (and-then ! (load ! (from ! (fld ! refl (stop !))) (look-in ! 90 (sub ! 1 refl (whole !)))) (no-more !)))) (from ! (stop !)) (init ! 62 refl (tt, (tt, (record { fits = room₀ .0 }, tt)))) $
-        assigns ! (addr ! (from ! (fld ! refl (hop ! (look-in ! 88 (sub ! 0 refl (whole !))) (stop !))))) (from ! (stop !)) (init ! 60 refl (tt, tt)) $
-        assigns ! (agg ! (and-then ! (load ! (from ! (stop !)) (look ! 60 refl)) (and-then ! (load ! (from ! (fld ! refl (stop !))) (look-in ! 88 (sub ! 1 refl (whole !)))) (no-more !)))) (from ! (stop !)) (init ! 58 refl (tt, (tt, (record { fits = room₁ .0 }, tt)))) $
-        assigns ! (addr ! (from ! (fld ! refl (hop ! (look-in ! 86 (sub ! 0 refl (whole !))) (stop !))))) (from ! (stop !)) (init ! 56 refl (tt, tt)) $
-        assigns ! (agg ! (and-then ! (load ! (from ! (stop !)) (look ! 56 refl)) (and-then ! (load ! (from ! (fld ! refl (stop !))) (look-in ! 86 (sub ! 1 refl (whole !)))) (no-more !)))) (from ! (stop !)) (init ! 54 refl (tt, (tt, (record { fits = room₂ .0 }, tt)))) $
-        assigns ! (addr ! (from ! (fld ! refl (hop ! (look-in ! 84 (sub ! 0 refl (whole !))) (stop !))))) (from ! (stop !)) (init ! 52 refl (tt, tt)) $
-        assigns ! (agg ! (and-then ! (load ! (from ! (stop !)) (look ! 52 refl)) (and-then ! (load ! (from ! (fld ! refl (stop !))) (look-in ! 84 (sub ! 1 refl (whole !)))) (no-more !)))) (from ! (stop !)) (init ! 50 refl (tt, (tt, (record { fits = room₃ .0 }, tt)))) $
-        calls-spread ! mem run (fmOf 𝓤 H (W .laws) 𝓣) m-spread (named 0) γ₀ b₀ o₀ (y₀) (length y₀) (named 1) γ₁ b₁ o₁ (y₁) (length y₁) (named 2) γ₂ b₂ o₂ (y₂) (length y₂) (named 3) γ₃ b₃ o₃ (y₃) (length y₃) (refl) (refl) (refl) (refl) room₀ room₁ room₂ room₃ (λ i j. (and-then ! (load ! (from ! (stop !)) (look ! 56 refl)) (and-then ! (load ! (from ! (stop !)) (look ! 52 refl)) (and-then ! (load ! (from ! (stop !)) (look ! 48 refl)) (and-then ! (load ! (from ! (stop !)) (look ! 44 refl)) (no-more !)))))) (
-        land ! (from ! (stop !)) (init ! 66 refl (tt, tt)) $
-        assigns ! (of-opd ! (load ! (from ! (fld ! refl (stop !))) (look-in ! 90 (sub ! 1 refl (whole !))))) (from ! (stop !)) (init ! 70 refl (tt, record { fits = room₀ .0 })) $
-        assigns ! (addr ! (from ! (fld ! refl (hop ! (look-in ! 88 (sub ! 0 refl (whole !))) (stop !))))) (from ! (stop !)) (init ! 48 refl (tt, tt)) $
-        assigns ! (agg ! (and-then ! (load ! (from ! (stop !)) (look ! 48 refl)) (and-then ! (load ! (from ! (fld ! refl (stop !))) (look-in ! 88 (sub ! 1 refl (whole !)))) (no-more !)))) (from ! (stop !)) (init ! 46 refl (tt, (tt, (record { fits = room₁ .0 }, tt)))) $
-        assigns ! (addr ! (from ! (fld ! refl (hop ! (look-in ! 86 (sub ! 0 refl (whole !))) (stop !))))) (from ! (stop !)) (init ! 44 refl (tt, tt)) $
-        assigns ! (agg ! (and-then ! (load ! (from ! (stop !)) (look ! 44 refl)) (and-then ! (load ! (from ! (fld ! refl (stop !))) (look-in ! 86 (sub ! 1 refl (whole !)))) (no-more !)))) (from ! (stop !)) (init ! 42 refl (tt, (tt, (record { fits = room₂ .0 }, tt)))) $
-        assigns ! (addr ! (from ! (fld ! refl (hop ! (look-in ! 84 (sub ! 0 refl (whole !))) (stop !))))) (from ! (stop !)) (init ! 40 refl (tt, tt)) $
-        assigns ! (agg ! (and-then ! (load ! (from ! (stop !)) (look ! 40 refl)) (and-then ! (load ! (from ! (fld ! refl (stop !))) (look-in ! 84 (sub ! 1 refl (whole !)))) (no-more !)))) (from ! (stop !)) (init ! 38 refl (tt, (tt, (record { fits = room₃ .0 }, tt)))) $
-        assigns ! (addr ! (from ! (fld ! refl (hop ! (look-in ! 76 (sub ! 0 refl (whole !))) (stop !))))) (from ! (stop !)) (init ! 36 refl (tt, tt)) $
-        assigns ! (agg ! (and-then ! (load ! (from ! (stop !)) (look ! 36 refl)) (and-then ! (load ! (from ! (fld ! refl (stop !))) (look-in ! 76 (sub ! 1 refl (whole !)))) (no-more !)))) (from ! (stop !)) (init ! 34 refl (tt, (tt, (record { fits = room₇ .0 }, tt)))) $
-        move ! (2 ∷ 3 ∷ 4 ∷ 5 ∷ 6 ∷ 7 ∷ 8 ∷ 9 ∷ 10 ∷ 11 ∷ 12 ∷ 13 ∷ 14 ∷ 15 ∷ []) $ calls-set-position-for ! mem run (fmOf 𝓤 H (W .laws) 𝓣) m-set-position-for (named 1) γ₁ b₁ o₁ (laid numsOf y₀ y₁) (length y₁) (named 2) γ₂ b₂ o₂ (laid realsOf y₀ y₂) (length y₂) (named 3) γ₃ b₃ o₃ (laid intsOf y₀ y₃) (length y₃) (named 4) γ₄ b₄ o₄ (y₄) (length y₄) (named 5) γ₅ b₅ o₅ (y₅) (length y₅) (named 6) γ₆ b₆ o₆ (y₆) (length y₆) (named 7) γ₇ b₇ o₇ (y₇) (length y₇) (length y₀) (v₀) (v₁) (sym (laid-length numsOf y₀ y₁)) (sym (laid-length realsOf y₀ y₂)) (sym (laid-length intsOf y₀ y₃)) (refl) room₁ room₂ room₃ room₇ (room₀ .0) (g₀) (g₁) (λ i j. (and-then ! (load ! (from ! (stop !)) (look ! 58 refl)) (and-then ! (load ! (from ! (stop !)) (look ! 34 refl)) (and-then ! (load ! (from ! (stop !)) (look ! 30 refl)) (and-then ! (load ! (from ! (stop !)) (look ! 26 refl)) (and-then ! (load ! (from ! (stop !)) (look ! 70 refl)) (and-then ! (load ! (from ! (stop !)) (look ! 68 refl)) (and-then ! (load ! (from ! (stop !)) (look ! 66 refl)) (and-then ! (load ! (from ! (stop !)) (look ! 22 refl)) (and-then ! (load ! (from ! (stop !)) (look ! 62 refl)) (and-then ! (load ! (from ! (stop !)) (look ! 60 refl)) (no-more !)))))))))))) (λ r zs n₁ n₂ n₃ n₇ eq gr.
-        land ! (from ! (stop !)) (init ! 68 refl (tt, record { fits = gr })) $
-        assigns ! (addr ! (from ! (fld ! refl (hop ! (look-in ! 90 (sub ! 0 refl (whole !))) (stop !))))) (from ! (stop !)) (init ! 32 refl (tt, tt)) $
-        assigns ! (agg ! (and-then ! (load ! (from ! (stop !)) (look ! 32 refl)) (and-then ! (load ! (from ! (fld ! refl (stop !))) (look-in ! 90 (sub ! 1 refl (whole !)))) (no-more !)))) (from ! (stop !)) (init ! 30 refl (tt, (tt, (record { fits = room₀ .0 }, tt)))) $
-        assigns ! (addr ! (from ! (fld ! refl (hop ! (look-in ! 88 (sub ! 0 refl (whole !))) (stop !))))) (from ! (stop !)) (init ! 28 refl (tt, tt)) $
-        assigns ! (agg ! (and-then ! (load ! (from ! (stop !)) (look ! 28 refl)) (and-then ! (load ! (from ! (fld ! refl (stop !))) (look-in ! 88 (sub ! 1 refl (whole !)))) (no-more !)))) (from ! (stop !)) (init ! 26 refl (tt, (tt, (record { fits = room₁ .0 }, tt)))) $
-        assigns ! (addr ! (from ! (fld ! refl (hop ! (look-in ! 86 (sub ! 0 refl (whole !))) (stop !))))) (from ! (stop !)) (init ! 24 refl (tt, tt)) $
-        assigns ! (agg ! (and-then ! (load ! (from ! (stop !)) (look ! 24 refl)) (and-then ! (load ! (from ! (fld ! refl (stop !))) (look-in ! 86 (sub ! 1 refl (whole !)))) (no-more !)))) (from ! (stop !)) (init ! 22 refl (tt, (tt, (record { fits = room₂ .0 }, tt)))) $
-        assigns ! (addr ! (from ! (fld ! refl (hop ! (look-in ! 84 (sub ! 0 refl (whole !))) (stop !))))) (from ! (stop !)) (init ! 20 refl (tt, tt)) $
-        assigns ! (agg ! (and-then ! (load ! (from ! (stop !)) (look ! 20 refl)) (and-then ! (load ! (from ! (fld ! refl (stop !))) (look-in ! 84 (sub ! 1 refl (whole !)))) (no-more !)))) (from ! (stop !)) (init ! 18 refl (tt, (tt, (record { fits = room₃ .0 }, tt)))) $
-        move ! (14 ∷ 15 ∷ 0 ∷ 1 ∷ 2 ∷ 3 ∷ 4 ∷ 5 ∷ []) $ calls-gather ! mem run (fmOf 𝓤 H (W .laws) 𝓣) m-gather (named 0) γ₀ b₀ o₀ (y₀) (length y₀) (named 1) γ₁ b₁ o₁ (zs .1 .0) (length y₁) (named 2) γ₂ b₂ o₂ (zs .1 .1 .0) (length y₂) (named 3) γ₃ b₃ o₃ (zs .1 .1 .1 .0) (length y₃) (refl) (sym (n₁ ∙ laid-length numsOf y₀ y₁)) (sym (n₂ ∙ laid-length realsOf y₀ y₂)) (sym (n₃ ∙ laid-length intsOf y₀ y₃)) room₀ room₁ room₂ room₃ (λ i j. (and-then ! (load ! (from ! (stop !)) (look ! 24 refl)) (and-then ! (load ! (from ! (stop !)) (look ! 20 refl)) (and-then ! (load ! (from ! (stop !)) (look ! 16 refl)) (and-then ! (load ! (from ! (stop !)) (look ! 12 refl)) (no-more !)))))) (
-        land ! (from ! (stop !)) (store ! 66 refl (tt, tt)) $
-        assigns ! (of-opd ! (load ! (from ! (stop !)) (look ! 68 refl))) (from ! (stop !)) (init ! 92 refl (tt, record { fits = gr })) $
-        returns ! (look ! 92 refl) $
-        forget ! 92 refl $ forget ! 90 refl $ forget ! 88 refl $ forget ! 86 refl $ forget ! 84 refl $ forget ! 82 refl $ forget ! 80 refl $ forget ! 78 refl $ forget ! 76 refl $ forget ! 74 refl $ forget ! 72 refl $ forget ! 70 refl $ forget ! 68 refl $ forget ! 66 refl $ forget ! 64 refl $ forget ! 62 refl $ forget ! 60 refl $ forget ! 58 refl $ forget ! 56 refl $ forget ! 54 refl $ forget ! 52 refl $ forget ! 50 refl $ forget ! 48 refl $ forget ! 46 refl $ forget ! 44 refl $ forget ! 42 refl $ forget ! 40 refl $ forget ! 38 refl $ forget ! 36 refl $ forget ! 34 refl $ forget ! 32 refl $ forget ! 30 refl $ forget ! 28 refl $ forget ! 26 refl $ forget ! 24 refl $ forget ! 22 refl $ forget ! 20 refl $ forget ! 18 refl $
-        move ! (92 ∷ 93 ∷ []) $ free1 ! $ move ! (90 ∷ 91 ∷ []) $ free1 ! $ move ! (88 ∷ 89 ∷ []) $ free1 ! $ move ! (86 ∷ 87 ∷ []) $ free1 ! $ move ! (84 ∷ 85 ∷ []) $ free1 ! $ move ! (82 ∷ 83 ∷ []) $ free1 ! $ move ! (80 ∷ 81 ∷ []) $ free1 ! $ move ! (78 ∷ 79 ∷ []) $ free1 ! $ move ! (76 ∷ 77 ∷ []) $ free1 ! $ move ! (74 ∷ 75 ∷ []) $ free1 ! $ move ! (72 ∷ 73 ∷ []) $ free1 ! $ move ! (70 ∷ 71 ∷ []) $ free1 ! $ move ! (68 ∷ 69 ∷ []) $ free1 ! $ move ! (66 ∷ 67 ∷ []) $ free1 ! $ move ! (64 ∷ 65 ∷ []) $ free1 ! $ move ! (62 ∷ 63 ∷ []) $ free1 ! $ move ! (60 ∷ 61 ∷ []) $ free1 ! $ move ! (58 ∷ 59 ∷ []) $ free1 ! $ move ! (56 ∷ 57 ∷ []) $ free1 ! $ move ! (54 ∷ 55 ∷ []) $ free1 ! $ move ! (52 ∷ 53 ∷ []) $ free1 ! $ move ! (50 ∷ 51 ∷ []) $ free1 ! $ move ! (48 ∷ 49 ∷ []) $ free1 ! $ move ! (46 ∷ 47 ∷ []) $ free1 ! $ move ! (44 ∷ 45 ∷ []) $ free1 ! $ move ! (42 ∷ 43 ∷ []) $ free1 ! $ move ! (40 ∷ 41 ∷ []) $ free1 ! $ move ! (38 ∷ 39 ∷ []) $ free1 ! $ move ! (36 ∷ 37 ∷ []) $ free1 ! $ move ! (34 ∷ 35 ∷ []) $ free1 ! $ move ! (32 ∷ 33 ∷ []) $ free1 ! $ move ! (30 ∷ 31 ∷ []) $ free1 ! $ move ! (28 ∷ 29 ∷ []) $ free1 ! $ move ! (26 ∷ 27 ∷ []) $ free1 ! $ move ! (24 ∷ 25 ∷ []) $ free1 ! $ move ! (22 ∷ 23 ∷ []) $ free1 ! $ move ! (20 ∷ 21 ∷ []) $ free1 ! $ move ! (18 ∷ 19 ∷ []) $ free1 ! $ free0 ! $
-        by ! (exits r zs n₁ n₂ n₃ n₇ eq gr))))))))))))))))))))))))))))))))))))))))))
+        qed W ((‵ (flft κ₀ q₀) ⊛ ‵ (flft κ₁ q₁) ⊛ ‵ (flft κ₂ q₂) ⊛ ‵ (flft κ₃ q₃) ⊛ ‵ (flft κ₄ q₄) ⊛ ‵ (flft κ₅ q₅) ⊛ ‵ (flft κ₆ q₆) ⊛ ‵ (flft κ₇ q₇) ⊛ ‵ ftrue) ∷ ‵ (owns (MutSlice (named 0) κ₀ R ∷ MutSlice (named 1) κ₁ N4 ∷ MutSlice (named 2) κ₂ F4 ∷ MutSlice (named 3) κ₃ Z4 ∷ ShrSlice (named 4) κ₄ u64 ∷ ShrSlice (named 5) κ₅ N2 ∷ ShrSlice (named 6) κ₆ F2 ∷ MutSlice (named 7) κ₇ N2 ∷ HT.the-row ∷ PT.the-row ∷ u32 ∷ []) x at) ∷ []) ∵ enter ! (𝓣 .C) (𝓣 .Λ) code.function ((pointer b₀ o₀ y₀) ∷ (pointer b₁ o₁ y₁) ∷ (pointer b₂ o₂ y₂) ∷ (pointer b₃ o₃ y₃) ∷ (pointer b₄ o₄ y₄) ∷ (pointer b₅ o₅ y₅) ∷ (pointer b₆ o₆ y₆) ∷ (pointer b₇ o₇ y₇) ∷ LL.val HT.the-type HT′.the-laws v₀ ∷ LL.val PT.the-type PT′.the-laws v₁ ∷ vint w32 v₂ ∷ []) _ $
+        alloc1 ! (λ l₀. alloc1 ! (λ l₁. alloc1 ! (λ l₂. alloc1 ! (λ l₃. alloc1 ! (λ l₄. alloc1 ! (λ l₅. alloc1 ! (λ l₆. alloc1 ! (λ l₇. alloc1 ! (λ l₈. alloc1 ! (λ l₉. alloc1 ! (λ l₁₀. alloc1 ! (λ l₁₁. alloc1 ! (λ l₁₂. alloc1 ! (λ l₁₃. alloc1 ! (λ l₁₄. alloc1 ! (λ l₁₅. alloc1 ! (λ l₁₆. alloc1 ! (λ l₁₇. alloc1 ! (λ l₁₈. alloc1 ! (λ l₁₉. alloc1 ! (λ l₂₀. alloc1 ! (λ l₂₁. alloc1 ! (λ l₂₂. alloc1 ! (λ l₂₃. alloc1 ! (λ l₂₄. alloc1 ! (λ l₂₅. alloc1 ! (λ l₂₆. alloc1 ! (λ l₂₇. alloc1 ! (λ l₂₈. alloc1 ! (λ l₂₉. alloc1 ! (λ l₃₀. alloc1 ! (λ l₃₁. alloc1 ! (λ l₃₂. alloc1 ! (λ l₃₃. alloc1 ! (λ l₃₄. alloc1 ! (λ l₃₅. alloc1 ! (λ l₃₆. alloc1 ! (λ l₃₇. alloc1 ! (λ l₃₈. alloc0 ! $ params1 ! $
+        pass1 ! (init ! 74 refl (tt, (tt, (record { fits = room₀ .0 }, tt)))) $ pass1 ! (init ! 72 refl (tt, (tt, (record { fits = room₁ .0 }, tt)))) $ pass1 ! (init ! 70 refl (tt, (tt, (record { fits = room₂ .0 }, tt)))) $ pass1 ! (init ! 68 refl (tt, (tt, (record { fits = room₃ .0 }, tt)))) $ pass1 ! (init ! 66 refl (tt, (tt, (record { fits = room₄ .0 }, tt)))) $ pass1 ! (init ! 64 refl (tt, (tt, (record { fits = room₅ .0 }, tt)))) $ pass1 ! (init ! 62 refl (tt, (tt, (record { fits = room₆ .0 }, tt)))) $ pass1 ! (init ! 60 refl (tt, (tt, (record { fits = room₇ .0 }, tt)))) $ pass1 ! (init ! 58 refl (LL.lawful HT.the-type HT′.the-laws 𝓤 H A W .typed v₀ _ g₀ .0)) $ pass1 ! (init ! 56 refl (LL.lawful PT.the-type PT′.the-laws 𝓤 H A W .typed v₁ _ g₁ .0)) $ pass1 ! (init ! 54 refl (tt, record { fits = g₂ })) $ pass0 ! $
+        move ! (79 ∷ []) $ fsplit ! $ move ! (1 ∷ []) $ fsplit ! $ move ! (1 ∷ []) $ fsplit ! $ move ! (1 ∷ []) $ fsplit ! $ move ! (1 ∷ []) $ fsplit ! $ move ! (1 ∷ []) $ fsplit ! $ move ! (1 ∷ []) $ fsplit ! $ move ! (1 ∷ []) $ fsplit ! $ move ! (1 ∷ []) $ fsplit ! $ move ! (1 ∷ []) $ fsplit ! $ move ! (1 ∷ []) $ fsplit ! $ move ! (90 ∷ []) $ split ! $ move ! (1 ∷ []) $ split ! $ move ! (1 ∷ []) $ split ! $ move ! (1 ∷ []) $ split ! $ move ! (1 ∷ []) $ split ! $ move ! (1 ∷ []) $ split ! $ move ! (1 ∷ []) $ split ! $ move ! (1 ∷ []) $ split ! $ keep ! (20 ∷ 8 ∷ 19 ∷ 7 ∷ 18 ∷ 6 ∷ 17 ∷ 5 ∷ 16 ∷ 4 ∷ 15 ∷ 3 ∷ 14 ∷ 2 ∷ 13 ∷ 0 ∷ 12 ∷ 11 ∷ 9 ∷ 21 ∷ 22 ∷ 23 ∷ 24 ∷ 25 ∷ 26 ∷ 27 ∷ 28 ∷ 29 ∷ 30 ∷ 31 ∷ 32 ∷ 33 ∷ 34 ∷ 35 ∷ 36 ∷ 37 ∷ 38 ∷ 39 ∷ 40 ∷ 41 ∷ 42 ∷ 43 ∷ 44 ∷ 45 ∷ 46 ∷ 47 ∷ 48 ∷ 49 ∷ 50 ∷ 51 ∷ 52 ∷ 53 ∷ 54 ∷ 55 ∷ 56 ∷ 57 ∷ 58 ∷ 59 ∷ 60 ∷ 61 ∷ 62 ∷ 63 ∷ 64 ∷ 65 ∷ 66 ∷ 67 ∷ 68 ∷ 69 ∷ 70 ∷ 71 ∷ 72 ∷ 73 ∷ 74 ∷ 75 ∷ 76 ∷ 77 ∷ 78 ∷ 79 ∷ 80 ∷ 81 ∷ 82 ∷ 83 ∷ 84 ∷ 85 ∷ 86 ∷ 87 ∷ 88 ∷ 89 ∷ 90 ∷ 91 ∷ 92 ∷ 93 ∷ 94 ∷ 95 ∷ 96 ∷ 97 ∷ 98 ∷ []) $
+        assigns ! (addr ! (from ! (fld ! refl (hop ! (look-in ! 93 (sub ! 0 refl (whole !))) (stop !))))) (from ! (stop !)) (init ! 65 refl (tt, tt)) $
+        assigns ! (agg ! (and-then ! (load ! (from ! (stop !)) (look ! 65 refl)) (and-then ! (load ! (from ! (fld ! refl (stop !))) (look-in ! 93 (sub ! 1 refl (whole !)))) (no-more !)))) (from ! (stop !)) (init ! 63 refl (tt, (tt, (record { fits = room₀ .0 }, tt)))) $
+        assigns ! (addr ! (from ! (fld ! refl (hop ! (look-in ! 91 (sub ! 0 refl (whole !))) (stop !))))) (from ! (stop !)) (init ! 61 refl (tt, tt)) $
+        assigns ! (agg ! (and-then ! (load ! (from ! (stop !)) (look ! 61 refl)) (and-then ! (load ! (from ! (fld ! refl (stop !))) (look-in ! 91 (sub ! 1 refl (whole !)))) (no-more !)))) (from ! (stop !)) (init ! 59 refl (tt, (tt, (record { fits = room₁ .0 }, tt)))) $
+        assigns ! (addr ! (from ! (fld ! refl (hop ! (look-in ! 89 (sub ! 0 refl (whole !))) (stop !))))) (from ! (stop !)) (init ! 57 refl (tt, tt)) $
+        assigns ! (agg ! (and-then ! (load ! (from ! (stop !)) (look ! 57 refl)) (and-then ! (load ! (from ! (fld ! refl (stop !))) (look-in ! 89 (sub ! 1 refl (whole !)))) (no-more !)))) (from ! (stop !)) (init ! 55 refl (tt, (tt, (record { fits = room₂ .0 }, tt)))) $
+        assigns ! (addr ! (from ! (fld ! refl (hop ! (look-in ! 87 (sub ! 0 refl (whole !))) (stop !))))) (from ! (stop !)) (init ! 53 refl (tt, tt)) $
+        assigns ! (agg ! (and-then ! (load ! (from ! (stop !)) (look ! 53 refl)) (and-then ! (load ! (from ! (fld ! refl (stop !))) (look-in ! 87 (sub ! 1 refl (whole !)))) (no-more !)))) (from ! (stop !)) (init ! 51 refl (tt, (tt, (record { fits = room₃ .0 }, tt)))) $
+        calls-spread ! mem run (fmOf 𝓤 H (W .laws) 𝓣) m-spread (named 0) γ₀ b₀ o₀ (y₀) (length y₀) (named 1) γ₁ b₁ o₁ (y₁) (length y₁) (named 2) γ₂ b₂ o₂ (y₂) (length y₂) (named 3) γ₃ b₃ o₃ (y₃) (length y₃) (refl) (refl) (refl) (refl) room₀ room₁ room₂ room₃ (λ i j. (and-then ! (load ! (from ! (stop !)) (look ! 57 refl)) (and-then ! (load ! (from ! (stop !)) (look ! 53 refl)) (and-then ! (load ! (from ! (stop !)) (look ! 49 refl)) (and-then ! (load ! (from ! (stop !)) (look ! 45 refl)) (no-more !)))))) (
+        land ! (from ! (stop !)) (init ! 67 refl (tt, tt)) $
+        assigns ! (of-opd ! (load ! (from ! (fld ! refl (stop !))) (look-in ! 93 (sub ! 1 refl (whole !))))) (from ! (stop !)) (init ! 71 refl (tt, record { fits = room₀ .0 })) $
+        assigns ! (addr ! (from ! (fld ! refl (hop ! (look-in ! 91 (sub ! 0 refl (whole !))) (stop !))))) (from ! (stop !)) (init ! 49 refl (tt, tt)) $
+        assigns ! (agg ! (and-then ! (load ! (from ! (stop !)) (look ! 49 refl)) (and-then ! (load ! (from ! (fld ! refl (stop !))) (look-in ! 91 (sub ! 1 refl (whole !)))) (no-more !)))) (from ! (stop !)) (init ! 47 refl (tt, (tt, (record { fits = room₁ .0 }, tt)))) $
+        assigns ! (addr ! (from ! (fld ! refl (hop ! (look-in ! 89 (sub ! 0 refl (whole !))) (stop !))))) (from ! (stop !)) (init ! 45 refl (tt, tt)) $
+        assigns ! (agg ! (and-then ! (load ! (from ! (stop !)) (look ! 45 refl)) (and-then ! (load ! (from ! (fld ! refl (stop !))) (look-in ! 89 (sub ! 1 refl (whole !)))) (no-more !)))) (from ! (stop !)) (init ! 43 refl (tt, (tt, (record { fits = room₂ .0 }, tt)))) $
+        assigns ! (addr ! (from ! (fld ! refl (hop ! (look-in ! 87 (sub ! 0 refl (whole !))) (stop !))))) (from ! (stop !)) (init ! 41 refl (tt, tt)) $
+        assigns ! (agg ! (and-then ! (load ! (from ! (stop !)) (look ! 41 refl)) (and-then ! (load ! (from ! (fld ! refl (stop !))) (look-in ! 87 (sub ! 1 refl (whole !)))) (no-more !)))) (from ! (stop !)) (init ! 39 refl (tt, (tt, (record { fits = room₃ .0 }, tt)))) $
+        assigns ! (addr ! (from ! (fld ! refl (hop ! (look-in ! 79 (sub ! 0 refl (whole !))) (stop !))))) (from ! (stop !)) (init ! 37 refl (tt, tt)) $
+        assigns ! (agg ! (and-then ! (load ! (from ! (stop !)) (look ! 37 refl)) (and-then ! (load ! (from ! (fld ! refl (stop !))) (look-in ! 79 (sub ! 1 refl (whole !)))) (no-more !)))) (from ! (stop !)) (init ! 35 refl (tt, (tt, (record { fits = room₇ .0 }, tt)))) $
+        move ! (2 ∷ 3 ∷ 4 ∷ 5 ∷ 6 ∷ 7 ∷ 8 ∷ 9 ∷ 10 ∷ 11 ∷ 12 ∷ 13 ∷ 14 ∷ 15 ∷ []) $ calls-set-position-for ! mem run (fmOf 𝓤 H (W .laws) 𝓣) m-set-position-for (named 1) γ₁ b₁ o₁ (laid numsOf y₀ y₁) (length y₁) (named 2) γ₂ b₂ o₂ (laid realsOf y₀ y₂) (length y₂) (named 3) γ₃ b₃ o₃ (laid intsOf y₀ y₃) (length y₃) (named 4) γ₄ b₄ o₄ (y₄) (length y₄) (named 5) γ₅ b₅ o₅ (y₅) (length y₅) (named 6) γ₆ b₆ o₆ (y₆) (length y₆) (named 7) γ₇ b₇ o₇ (y₇) (length y₇) (length y₀) (v₀) (v₁) (v₂) (sym (laid-length numsOf y₀ y₁)) (sym (laid-length realsOf y₀ y₂)) (sym (laid-length intsOf y₀ y₃)) (refl) room₁ room₂ room₃ room₇ (room₀ .0) (g₀) (g₁) (g₂) (λ i j. (and-then ! (load ! (from ! (stop !)) (look ! 59 refl)) (and-then ! (load ! (from ! (stop !)) (look ! 35 refl)) (and-then ! (load ! (from ! (stop !)) (look ! 31 refl)) (and-then ! (load ! (from ! (stop !)) (look ! 27 refl)) (and-then ! (load ! (from ! (stop !)) (look ! 73 refl)) (and-then ! (load ! (from ! (stop !)) (look ! 71 refl)) (and-then ! (load ! (from ! (stop !)) (look ! 69 refl)) (and-then ! (load ! (from ! (stop !)) (look ! 23 refl)) (and-then ! (load ! (from ! (stop !)) (look ! 65 refl)) (and-then ! (load ! (from ! (stop !)) (look ! 63 refl)) (and-then ! (load ! (from ! (stop !)) (look ! 61 refl)) (no-more !))))))))))))) (λ r zs n₁ n₂ n₃ n₇ eq gr.
+        land ! (from ! (stop !)) (init ! 69 refl (tt, record { fits = gr })) $
+        assigns ! (addr ! (from ! (fld ! refl (hop ! (look-in ! 93 (sub ! 0 refl (whole !))) (stop !))))) (from ! (stop !)) (init ! 33 refl (tt, tt)) $
+        assigns ! (agg ! (and-then ! (load ! (from ! (stop !)) (look ! 33 refl)) (and-then ! (load ! (from ! (fld ! refl (stop !))) (look-in ! 93 (sub ! 1 refl (whole !)))) (no-more !)))) (from ! (stop !)) (init ! 31 refl (tt, (tt, (record { fits = room₀ .0 }, tt)))) $
+        assigns ! (addr ! (from ! (fld ! refl (hop ! (look-in ! 91 (sub ! 0 refl (whole !))) (stop !))))) (from ! (stop !)) (init ! 29 refl (tt, tt)) $
+        assigns ! (agg ! (and-then ! (load ! (from ! (stop !)) (look ! 29 refl)) (and-then ! (load ! (from ! (fld ! refl (stop !))) (look-in ! 91 (sub ! 1 refl (whole !)))) (no-more !)))) (from ! (stop !)) (init ! 27 refl (tt, (tt, (record { fits = room₁ .0 }, tt)))) $
+        assigns ! (addr ! (from ! (fld ! refl (hop ! (look-in ! 89 (sub ! 0 refl (whole !))) (stop !))))) (from ! (stop !)) (init ! 25 refl (tt, tt)) $
+        assigns ! (agg ! (and-then ! (load ! (from ! (stop !)) (look ! 25 refl)) (and-then ! (load ! (from ! (fld ! refl (stop !))) (look-in ! 89 (sub ! 1 refl (whole !)))) (no-more !)))) (from ! (stop !)) (init ! 23 refl (tt, (tt, (record { fits = room₂ .0 }, tt)))) $
+        assigns ! (addr ! (from ! (fld ! refl (hop ! (look-in ! 87 (sub ! 0 refl (whole !))) (stop !))))) (from ! (stop !)) (init ! 21 refl (tt, tt)) $
+        assigns ! (agg ! (and-then ! (load ! (from ! (stop !)) (look ! 21 refl)) (and-then ! (load ! (from ! (fld ! refl (stop !))) (look-in ! 87 (sub ! 1 refl (whole !)))) (no-more !)))) (from ! (stop !)) (init ! 19 refl (tt, (tt, (record { fits = room₃ .0 }, tt)))) $
+        move ! (14 ∷ 15 ∷ 0 ∷ 1 ∷ 2 ∷ 3 ∷ 4 ∷ 5 ∷ []) $ calls-gather ! mem run (fmOf 𝓤 H (W .laws) 𝓣) m-gather (named 0) γ₀ b₀ o₀ (y₀) (length y₀) (named 1) γ₁ b₁ o₁ (zs .1 .0) (length y₁) (named 2) γ₂ b₂ o₂ (zs .1 .1 .0) (length y₂) (named 3) γ₃ b₃ o₃ (zs .1 .1 .1 .0) (length y₃) (refl) (sym (n₁ ∙ laid-length numsOf y₀ y₁)) (sym (n₂ ∙ laid-length realsOf y₀ y₂)) (sym (n₃ ∙ laid-length intsOf y₀ y₃)) room₀ room₁ room₂ room₃ (λ i j. (and-then ! (load ! (from ! (stop !)) (look ! 25 refl)) (and-then ! (load ! (from ! (stop !)) (look ! 21 refl)) (and-then ! (load ! (from ! (stop !)) (look ! 17 refl)) (and-then ! (load ! (from ! (stop !)) (look ! 13 refl)) (no-more !)))))) (
+        land ! (from ! (stop !)) (store ! 67 refl (tt, tt)) $
+        assigns ! (of-opd ! (load ! (from ! (stop !)) (look ! 69 refl))) (from ! (stop !)) (init ! 95 refl (tt, record { fits = gr })) $
+        returns ! (look ! 95 refl) $
+        forget ! 95 refl $ forget ! 93 refl $ forget ! 91 refl $ forget ! 89 refl $ forget ! 87 refl $ forget ! 85 refl $ forget ! 83 refl $ forget ! 81 refl $ forget ! 79 refl $ forget ! 77 refl $ forget ! 75 refl $ forget ! 73 refl $ forget ! 71 refl $ forget ! 69 refl $ forget ! 67 refl $ forget ! 65 refl $ forget ! 63 refl $ forget ! 61 refl $ forget ! 59 refl $ forget ! 57 refl $ forget ! 55 refl $ forget ! 53 refl $ forget ! 51 refl $ forget ! 49 refl $ forget ! 47 refl $ forget ! 45 refl $ forget ! 43 refl $ forget ! 41 refl $ forget ! 39 refl $ forget ! 37 refl $ forget ! 35 refl $ forget ! 33 refl $ forget ! 31 refl $ forget ! 29 refl $ forget ! 27 refl $ forget ! 25 refl $ forget ! 23 refl $ forget ! 21 refl $ forget ! 19 refl $
+        move ! (95 ∷ 96 ∷ []) $ free1 ! $ move ! (93 ∷ 94 ∷ []) $ free1 ! $ move ! (91 ∷ 92 ∷ []) $ free1 ! $ move ! (89 ∷ 90 ∷ []) $ free1 ! $ move ! (87 ∷ 88 ∷ []) $ free1 ! $ move ! (85 ∷ 86 ∷ []) $ free1 ! $ move ! (83 ∷ 84 ∷ []) $ free1 ! $ move ! (81 ∷ 82 ∷ []) $ free1 ! $ move ! (79 ∷ 80 ∷ []) $ free1 ! $ move ! (77 ∷ 78 ∷ []) $ free1 ! $ move ! (75 ∷ 76 ∷ []) $ free1 ! $ move ! (73 ∷ 74 ∷ []) $ free1 ! $ move ! (71 ∷ 72 ∷ []) $ free1 ! $ move ! (69 ∷ 70 ∷ []) $ free1 ! $ move ! (67 ∷ 68 ∷ []) $ free1 ! $ move ! (65 ∷ 66 ∷ []) $ free1 ! $ move ! (63 ∷ 64 ∷ []) $ free1 ! $ move ! (61 ∷ 62 ∷ []) $ free1 ! $ move ! (59 ∷ 60 ∷ []) $ free1 ! $ move ! (57 ∷ 58 ∷ []) $ free1 ! $ move ! (55 ∷ 56 ∷ []) $ free1 ! $ move ! (53 ∷ 54 ∷ []) $ free1 ! $ move ! (51 ∷ 52 ∷ []) $ free1 ! $ move ! (49 ∷ 50 ∷ []) $ free1 ! $ move ! (47 ∷ 48 ∷ []) $ free1 ! $ move ! (45 ∷ 46 ∷ []) $ free1 ! $ move ! (43 ∷ 44 ∷ []) $ free1 ! $ move ! (41 ∷ 42 ∷ []) $ free1 ! $ move ! (39 ∷ 40 ∷ []) $ free1 ! $ move ! (37 ∷ 38 ∷ []) $ free1 ! $ move ! (35 ∷ 36 ∷ []) $ free1 ! $ move ! (33 ∷ 34 ∷ []) $ free1 ! $ move ! (31 ∷ 32 ∷ []) $ free1 ! $ move ! (29 ∷ 30 ∷ []) $ free1 ! $ move ! (27 ∷ 28 ∷ []) $ free1 ! $ move ! (25 ∷ 26 ∷ []) $ free1 ! $ move ! (23 ∷ 24 ∷ []) $ free1 ! $ move ! (21 ∷ 22 ∷ []) $ free1 ! $ move ! (19 ∷ 20 ∷ []) $ free1 ! $ free0 ! $
+        by ! (exits r zs n₁ n₂ n₃ n₇ eq gr)))))))))))))))))))))))))))))))))))))))))))
 
 module _ {M : Type 1} (𝓤 : URA M) (H : Heap 𝓤) (A : Atoms 𝓤) (W : Given 𝓤 H A) (mem : Memory → SProp 𝓤) (run : Routine → Fun 𝓤) (𝓣 : Tables 𝓤 H) (m-spread : Triple 𝓤 (𝓣 .C #records·spread) (Spread 𝓤 H A mem run)) (m-set-position-for : Triple 𝓤 (𝓣 .C #record-deferred·set-position-for) (SetPositionFor 𝓤 H A mem run)) (m-gather : Triple 𝓤 (𝓣 .C #records·gather) (Gather 𝓤 H A mem run)) where
   set-position-walks : Walks 𝓤 H A set-position.ended stayed (WpFn 𝓤 H (𝓣 .C) (𝓣 .Λ) code.function) (set-position.clauses 𝓤 H A mem run)
-  set-position-walks = walked 𝓤 H A set-position.ended stayed (set-position.clauses 𝓤 H A mem run) (WpFn 𝓤 H (𝓣 .C) (𝓣 .Λ) code.function) (λ κs. (slice-vals, (slice-vals, (slice-vals, (slice-vals, (slice-vals, (slice-vals, (slice-vals, (slice-vals, (LL.vals HT.the-type HT′.the-laws, (LL.vals PT.the-type PT′.the-laws, tt))))))))))) (λ κs. (mut-slice-tells (named 0) (κs .0) R, (mut-slice-tells (named 1) (κs .1 .0) N4, (mut-slice-tells (named 2) (κs .1 .1 .0) F4, (mut-slice-tells (named 3) (κs .1 .1 .1 .0) Z4, (shr-slice-tells (named 4) (κs .1 .1 .1 .1 .0) u64, (shr-slice-tells (named 5) (κs .1 .1 .1 .1 .1 .0) N2, (shr-slice-tells (named 6) (κs .1 .1 .1 .1 .1 .1 .0) F2, (mut-slice-tells (named 7) (κs .1 .1 .1 .1 .1 .1 .1 .0) N2, (LL.tells HT.the-type HT′.the-laws, (LL.tells PT.the-type PT′.the-laws, tt)))))))))))
-      (λ κs qs bounds a g are. via 𝓤 _ (fst∗ 𝓤 _ (emp 𝓤)) (walk 𝓤 H A W mem run (κs .0) (κs .1 .0) (κs .1 .1 .0) (κs .1 .1 .1 .0) (κs .1 .1 .1 .1 .0) (κs .1 .1 .1 .1 .1 .0) (κs .1 .1 .1 .1 .1 .1 .0) (κs .1 .1 .1 .1 .1 .1 .1 .0) (qs .0) (qs .1 .0) (qs .1 .1 .0) (qs .1 .1 .1 .0) (qs .1 .1 .1 .1 .0) (qs .1 .1 .1 .1 .1 .0) (qs .1 .1 .1 .1 .1 .1 .0) (qs .1 .1 .1 .1 .1 .1 .1 .0) (a .0 .ptr .0) (a .0 .ptr .1) (a .0 .name) (a .0 .now) (are .0 .0 .1) (a .1 .0 .ptr .0) (a .1 .0 .ptr .1) (a .1 .0 .name) (a .1 .0 .now) (are .1 .0 .0 .1) (a .1 .1 .0 .ptr .0) (a .1 .1 .0 .ptr .1) (a .1 .1 .0 .name) (a .1 .1 .0 .now) (are .1 .1 .0 .0 .1) (a .1 .1 .1 .0 .ptr .0) (a .1 .1 .1 .0 .ptr .1) (a .1 .1 .1 .0 .name) (a .1 .1 .1 .0 .now) (are .1 .1 .1 .0 .0 .1) (a .1 .1 .1 .1 .0 .ptr .0) (a .1 .1 .1 .1 .0 .ptr .1) (a .1 .1 .1 .1 .0 .name) (a .1 .1 .1 .1 .0 .now) (are .1 .1 .1 .1 .0 .0 .1) (a .1 .1 .1 .1 .1 .0 .ptr .0) (a .1 .1 .1 .1 .1 .0 .ptr .1) (a .1 .1 .1 .1 .1 .0 .name) (a .1 .1 .1 .1 .1 .0 .now) (are .1 .1 .1 .1 .1 .0 .0 .1) (a .1 .1 .1 .1 .1 .1 .0 .ptr .0) (a .1 .1 .1 .1 .1 .1 .0 .ptr .1) (a .1 .1 .1 .1 .1 .1 .0 .name) (a .1 .1 .1 .1 .1 .1 .0 .now) (are .1 .1 .1 .1 .1 .1 .0 .0 .1) (a .1 .1 .1 .1 .1 .1 .1 .0 .ptr .0) (a .1 .1 .1 .1 .1 .1 .1 .0 .ptr .1) (a .1 .1 .1 .1 .1 .1 .1 .0 .name) (a .1 .1 .1 .1 .1 .1 .1 .0 .now) (are .1 .1 .1 .1 .1 .1 .1 .0 .0 .1) (a .1 .1 .1 .1 .1 .1 .1 .1 .0) (are .1 .1 .1 .1 .1 .1 .1 .1 .0) (a .1 .1 .1 .1 .1 .1 .1 .1 .1 .0) (are .1 .1 .1 .1 .1 .1 .1 .1 .1 .0) 𝓣 m-spread m-set-position-for m-gather))
+  set-position-walks = walked 𝓤 H A set-position.ended stayed (set-position.clauses 𝓤 H A mem run) (WpFn 𝓤 H (𝓣 .C) (𝓣 .Λ) code.function) (λ κs. (slice-vals, (slice-vals, (slice-vals, (slice-vals, (slice-vals, (slice-vals, (slice-vals, (slice-vals, (LL.vals HT.the-type HT′.the-laws, (LL.vals PT.the-type PT′.the-laws, (uint-vals w32, tt)))))))))))) (λ κs. (mut-slice-tells (named 0) (κs .0) R, (mut-slice-tells (named 1) (κs .1 .0) N4, (mut-slice-tells (named 2) (κs .1 .1 .0) F4, (mut-slice-tells (named 3) (κs .1 .1 .1 .0) Z4, (shr-slice-tells (named 4) (κs .1 .1 .1 .1 .0) u64, (shr-slice-tells (named 5) (κs .1 .1 .1 .1 .1 .0) N2, (shr-slice-tells (named 6) (κs .1 .1 .1 .1 .1 .1 .0) F2, (mut-slice-tells (named 7) (κs .1 .1 .1 .1 .1 .1 .1 .0) N2, (LL.tells HT.the-type HT′.the-laws, (LL.tells PT.the-type PT′.the-laws, (uint-tells w32, tt))))))))))))
+      (λ κs qs bounds a g are. via 𝓤 _ (fst∗ 𝓤 _ (emp 𝓤)) (walk 𝓤 H A W mem run (κs .0) (κs .1 .0) (κs .1 .1 .0) (κs .1 .1 .1 .0) (κs .1 .1 .1 .1 .0) (κs .1 .1 .1 .1 .1 .0) (κs .1 .1 .1 .1 .1 .1 .0) (κs .1 .1 .1 .1 .1 .1 .1 .0) (qs .0) (qs .1 .0) (qs .1 .1 .0) (qs .1 .1 .1 .0) (qs .1 .1 .1 .1 .0) (qs .1 .1 .1 .1 .1 .0) (qs .1 .1 .1 .1 .1 .1 .0) (qs .1 .1 .1 .1 .1 .1 .1 .0) (a .0 .ptr .0) (a .0 .ptr .1) (a .0 .name) (a .0 .now) (are .0 .0 .1) (a .1 .0 .ptr .0) (a .1 .0 .ptr .1) (a .1 .0 .name) (a .1 .0 .now) (are .1 .0 .0 .1) (a .1 .1 .0 .ptr .0) (a .1 .1 .0 .ptr .1) (a .1 .1 .0 .name) (a .1 .1 .0 .now) (are .1 .1 .0 .0 .1) (a .1 .1 .1 .0 .ptr .0) (a .1 .1 .1 .0 .ptr .1) (a .1 .1 .1 .0 .name) (a .1 .1 .1 .0 .now) (are .1 .1 .1 .0 .0 .1) (a .1 .1 .1 .1 .0 .ptr .0) (a .1 .1 .1 .1 .0 .ptr .1) (a .1 .1 .1 .1 .0 .name) (a .1 .1 .1 .1 .0 .now) (are .1 .1 .1 .1 .0 .0 .1) (a .1 .1 .1 .1 .1 .0 .ptr .0) (a .1 .1 .1 .1 .1 .0 .ptr .1) (a .1 .1 .1 .1 .1 .0 .name) (a .1 .1 .1 .1 .1 .0 .now) (are .1 .1 .1 .1 .1 .0 .0 .1) (a .1 .1 .1 .1 .1 .1 .0 .ptr .0) (a .1 .1 .1 .1 .1 .1 .0 .ptr .1) (a .1 .1 .1 .1 .1 .1 .0 .name) (a .1 .1 .1 .1 .1 .1 .0 .now) (are .1 .1 .1 .1 .1 .1 .0 .0 .1) (a .1 .1 .1 .1 .1 .1 .1 .0 .ptr .0) (a .1 .1 .1 .1 .1 .1 .1 .0 .ptr .1) (a .1 .1 .1 .1 .1 .1 .1 .0 .name) (a .1 .1 .1 .1 .1 .1 .1 .0 .now) (are .1 .1 .1 .1 .1 .1 .1 .0 .0 .1) (a .1 .1 .1 .1 .1 .1 .1 .1 .0) (are .1 .1 .1 .1 .1 .1 .1 .1 .0) (a .1 .1 .1 .1 .1 .1 .1 .1 .1 .0) (are .1 .1 .1 .1 .1 .1 .1 .1 .1 .0) (a .1 .1 .1 .1 .1 .1 .1 .1 .1 .1 .0) (are .1 .1 .1 .1 .1 .1 .1 .1 .1 .1 .0 .1) 𝓣 m-spread m-set-position-for m-gather))
 
   set-position-meets : Meets 𝓤 H A set-position.signature (WpFn 𝓤 H (𝓣 .C) (𝓣 .Λ) code.function) (set-position.spec 𝓤 H A mem run)
-  set-position-meets = walk-meets 𝓤 H A set-position.ended stayed W (goes-slice 𝓤 H A W 8 0 tt (plain (λ _. R)), (goes-slice 𝓤 H A W 8 1 tt (ArrayOf (plain (λ _. u32)) (λ _. tt) 4), (goes-slice 𝓤 H A W 8 2 tt (ArrayOf (plain (λ _. f32)) (λ _. tt) 4), (goes-slice 𝓤 H A W 8 3 tt (ArrayOf (plain (λ _. i32)) (λ _. tt) 4), (goes-none-slice 𝓤 H A W 8 (4 ∷ []) tt (plain (λ _. u64)) yes, (goes-none-slice 𝓤 H A W 8 (5 ∷ []) tt (ArrayOf (plain (λ _. u64)) (λ _. tt) 2) yes, (goes-none-slice 𝓤 H A W 8 (6 ∷ []) tt (ArrayOf (plain (λ _. f32)) (λ _. tt) 2) yes, (goes-slice 𝓤 H A W 8 7 tt (ArrayOf (plain (λ _. u64)) (λ _. tt) 2), (goes-none 𝓤 H A W 8 (λ _. HT.the-row) yes (λ κs x f. refl), (goes-none 𝓤 H A W 8 (λ _. PT.the-row) yes (λ κs x f. refl), tt)))))))))) (set-position.clauses 𝓤 H A mem run) (WpFn 𝓤 H (𝓣 .C) (𝓣 .Λ) code.function) (WpFn-mono 𝓤 H (W .laws) 𝓣 code.function) set-position-walks
+  set-position-meets = walk-meets 𝓤 H A set-position.ended stayed W (goes-slice 𝓤 H A W 8 0 tt (plain (λ _. R)), (goes-slice 𝓤 H A W 8 1 tt (ArrayOf (plain (λ _. u32)) (λ _. tt) 4), (goes-slice 𝓤 H A W 8 2 tt (ArrayOf (plain (λ _. f32)) (λ _. tt) 4), (goes-slice 𝓤 H A W 8 3 tt (ArrayOf (plain (λ _. i32)) (λ _. tt) 4), (goes-none-slice 𝓤 H A W 8 (4 ∷ []) tt (plain (λ _. u64)) yes, (goes-none-slice 𝓤 H A W 8 (5 ∷ []) tt (ArrayOf (plain (λ _. u64)) (λ _. tt) 2) yes, (goes-none-slice 𝓤 H A W 8 (6 ∷ []) tt (ArrayOf (plain (λ _. f32)) (λ _. tt) 2) yes, (goes-slice 𝓤 H A W 8 7 tt (ArrayOf (plain (λ _. u64)) (λ _. tt) 2), (goes-none 𝓤 H A W 8 (λ _. HT.the-row) yes (λ κs x f. refl), (goes-none 𝓤 H A W 8 (λ _. PT.the-row) yes (λ κs x f. refl), (goes-none 𝓤 H A W 8 (λ _. u32) yes (λ κs x f. refl), tt))))))))))) (set-position.clauses 𝓤 H A mem run) (WpFn 𝓤 H (𝓣 .C) (𝓣 .Λ) code.function) (WpFn-mono 𝓤 H (W .laws) 𝓣 code.function) set-position-walks
 
 pub set-position-spec : {M : Type 1} → stated.statement M
 unfolding code.routine tablesOf

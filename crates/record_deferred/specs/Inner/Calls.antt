@@ -10,8 +10,8 @@ use Rattle.point_tables.specs.Meaning.Outcome.{Outcome}
 use Rattle.point_deferred.specs.Meaning.Moves.{setPositionOf, removeOf}
 use Rattle.records.specs.Meaning.Seen.{fitted}
 
-abbrev pub setPositionFor : ℕ → Tables → Handle → Position → Outcome Reply
-setPositionFor n t h at = fitted (λ u. setPositionOf u h at) (reply 3 0) n t
+abbrev pub setPositionFor : ℕ → Tables → Handle → Position → ℕ → Outcome Reply
+setPositionFor n t h at k = fitted (λ u. setPositionOf u h at k) (reply 3 0) n t
 
-abbrev pub removeFor : ℕ → Tables → Handle → Outcome Reply
-removeFor n t h = fitted (λ u. removeOf u h) (reply 3 0) n t
+abbrev pub removeFor : ℕ → Tables → Handle → ℕ → Outcome Reply
+removeFor n t h k = fitted (λ u. removeOf u h k) (reply 3 0) n t

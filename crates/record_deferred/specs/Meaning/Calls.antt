@@ -1,5 +1,5 @@
 -- `set_position` and `remove` on columns of n rows, and on a table of records. Assumes nothing.
-use Rattle.basics.specs.Words.{List}
+use Rattle.basics.specs.Words.{ℕ, List}
 use Rattle.geometry.specs.declared.Position.{Position}
 use Rattle.slots.specs.declared.Handle.{Handle}
 use Rattle.replies.specs.declared.Reply.{Reply}
@@ -9,8 +9,8 @@ use Rattle.point_tables.specs.Meaning.Tables.{Tables}
 use Rattle.point_deferred.specs.Meaning.Moves.{setPositionOf, removeOf}
 use Rattle.records.specs.Meaning.Seen.{Seen, onRecords}
 
-abbrev pub setPositionOn : List Record → Tables → Handle → Position → Seen Reply
-setPositionOn rs t h at = onRecords (λ u. setPositionOf u h at) (reply 3 0) rs t
+abbrev pub setPositionOn : List Record → Tables → Handle → Position → ℕ → Seen Reply
+setPositionOn rs t h at k = onRecords (λ u. setPositionOf u h at k) (reply 3 0) rs t
 
-abbrev pub removeOn : List Record → Tables → Handle → Seen Reply
-removeOn rs t h = onRecords (λ u. removeOf u h) (reply 3 0) rs t
+abbrev pub removeOn : List Record → Tables → Handle → ℕ → Seen Reply
+removeOn rs t h k = onRecords (λ u. removeOf u h k) (reply 3 0) rs t

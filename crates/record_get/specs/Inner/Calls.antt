@@ -11,7 +11,7 @@ use Rattle.geometry.specs.Meaning.Zero.{zero-position}
 use Rattle.records.specs.Meaning.Seen.{sized}
 
 abbrev pub getFor : ℕ → Tables → Handle → Got
-getFor n t h = sized n t (getOf t h) (got 3 zero-position 0)
+getFor n t h = sized n t (getOf t h) (got 3 zero-position 0 0)
 
 abbrev pub lenFor : ℕ → Tables → Count
 lenFor n t = sized n t (lenOf t) (count 3 0)

@@ -12,7 +12,7 @@ use Rattle.geometry.specs.Meaning.Zero.{zero-position}
 use Rattle.records.specs.Meaning.Seen.{readRecords}
 
 abbrev pub getOn : List Record → Tables → Handle → Outcome Got
-getOn rs t h = readRecords (λ u. getOf u h) (got 3 zero-position 0) rs t
+getOn rs t h = readRecords (λ u. getOf u h) (got 3 zero-position 0 0) rs t
 
 abbrev pub lenOn : List Record → Tables → Outcome Count
 lenOn rs t = readRecords lenOf (count 3 0) rs t

@@ -12,7 +12,7 @@ use Rattle.records.proofs.laws.Alike.{Respects, Reads}
 use Rattle.records.proofs.laws.SpreadLaws.{laid-length, gathered-length}
 use Rattle.records.proofs.laws.SeenLaws.{rows-same}
 use Rattle.records.proofs.laws.AlikeLaws.{alike-then, holds-alike}
-use Rattle.records.proofs.laws.AgainLaws.{spread-tagged, alike-again}
+use Rattle.records.proofs.laws.AgainLaws.{spread-worded, alike-again}
 use Rattle.record_histories.specs.Inner.RecordHistory.{SameGrid}
 
 module _ (rs : List Record) (t u : Tables) (g : SameGrid rs t u) where
@@ -23,7 +23,7 @@ module _ (rs : List Record) (t u : Tables) (g : SameGrid rs t u) where
   rows = sym (g .many) ∙ g .alike .of-nums
 
   pub spread-holds : Holds b
-  spread-holds = holds-alike u b (g .alike) (spread-tagged rs (t .nums) (sym (laid-length numsOf rs (t .nums)) ∙ sym rows)) (g .holds)
+  spread-holds = holds-alike u b (g .alike) (spread-worded rs (t .nums) (sym (laid-length numsOf rs (t .nums)) ∙ sym rows)) (g .holds)
 
   -- ---- a call that changes the tables, keeps them holding a grid, and keeps the number of slots
   module _ {R : Type 0} (call : Tables → Outcome R) (refused : R) (respects : Respects call) (keeps : (w : Tables) → Holds w → Holds (call w .after)) (slots : (w : Tables) → Holds w → slotsOf (call w .after) ≡ slotsOf w) where

@@ -48,8 +48,8 @@ module _ (rs : List Record) (t u : Tables) (g : SameGrid rs t u) (cs : List Defe
     answered : aroundOf (nextMaintain u cs .after) centre radius o .returned .answer ≡ 0
     answered = ap (λ (f : Findings). f .returned .answer) (sym same-report) ∙ a
 
-    pub demand-3-records : (h : Handle) (p : Position) (d : ℕ) → (Reports report h p d → Due u cs centre radius h p d) × (Due u cs centre radius h p d → Reports report h p d)
-    demand-3-records h p d = rw same-report (circle-reports u s cs centre radius o answered h p d)
+    pub demand-3-records : (h : Handle) (p : Position) (d k : ℕ) → (Reports report h p d k → Due u cs centre radius h p d k) × (Due u cs centre radius h p d k → Reports report h p d k)
+    demand-3-records h p d k = rw same-report (circle-reports u s cs centre radius o answered h p d k)
 
-    pub demand-3-records-once : (i j : ℕ) (h k : Handle) (p q : Position) (d e : ℕ) → ReportedAt report i h p d → ReportedAt report j k q e → h .slot ≡ k .slot → i ≡ j
+    pub demand-3-records-once : (i j : ℕ) (g h : Handle) (p q : Position) (d e k l : ℕ) → ReportedAt report i g p d k → ReportedAt report j h q e l → g .slot ≡ h .slot → i ≡ j
     demand-3-records-once = rw same-report (reports-once u s cs centre radius o answered)

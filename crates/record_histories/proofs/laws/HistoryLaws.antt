@@ -40,19 +40,19 @@ use Rattle.record_histories.proofs.laws.ReadsLaws.{get-reads, len-reads
 use Rattle.record_histories.proofs.laws.CallLaws.{call-same, call-after, read-same, read-after}
 
 -- ---- the number of slots stays
-set-slots : (t : Tables) (h : Handle) (p : Position) → slotsOf (setPositionOf t h p .after) ≡ slotsOf t
+set-slots : (t : Tables) (h : Handle) (p : Position) (k : ℕ) → slotsOf (setPositionOf t h p k .after) ≡ slotsOf t
 unfolding setPositionOf
-set-slots t h p = by-test (eqb (setPositionAnswer t h p) 0) (λ e. rw e (nums-long t (h .slot) (aimed (sizeOf t) (recordOn t (h .slot) .cell) p))) (λ e. rw e)
+set-slots t h p k = by-test (eqb (setPositionAnswer t h p k) 0) (λ e. rw e (nums-long t (h .slot) (aimed (sizeOf t) (recordOn t (h .slot) .cell) p))) (λ e. rw e)
 
-remove-slots : (t : Tables) (h : Handle) → slotsOf (removeOf t h .after) ≡ slotsOf t
+remove-slots : (t : Tables) (h : Handle) (k : ℕ) → slotsOf (removeOf t h k .after) ≡ slotsOf t
 unfolding removeOf
-remove-slots t h = by-test (eqb (removeAnswer t h) 0) (λ e. rw e (nums-long t (h .slot) Removed)) (λ e. rw e)
+remove-slots t h k = by-test (eqb (removeAnswer t h k) 0) (λ e. rw e (nums-long t (h .slot) Removed)) (λ e. rw e)
 
-insert-slots : (t : Tables) (p : Position) (d : ℕ) → slotsOf (insertOf t p d .after) ≡ slotsOf t
+insert-slots : (t : Tables) (p : Position) (d k : ℕ) → slotsOf (insertOf t p d k .after) ≡ slotsOf t
 unfolding insertOf put
-insert-slots t p d =
+insert-slots t p d k =
     let s = slotIn (usableSlot t) in
-    by-test (eqb (insertAnswer t p) 0) (λ e. rw e (length-set (t .nums) s (numsOf (newRecord t s p d)))) (λ e. rw e)
+    by-test (eqb (insertAnswer t p k) 0) (λ e. rw e (length-set (t .nums) s (numsOf (newRecord t s p d k)))) (λ e. rw e)
 
 maintain-slots : (t : Tables) → Holds t → slotsOf (maintainOf t .after) ≡ slotsOf t
 maintain-slots t h = ap (λ (o : Outcome Maintained). slotsOf (o .after)) (maintain-done t h) ∙ maintained-slots t h
@@ -61,21 +61,21 @@ maintain-slots t h = ap (λ (o : Outcome Maintained). slotsOf (o .after)) (maint
 module _ (rs : List Record) (t u : Tables) (g : SameGrid rs t u) where
   pub same-answer : (c : RecordCall) → onTable c rs t .result ≡ onColumns c u .result
   unfolding onTable onColumns
-  same-answer (insert p d) = ap entered (call-same rs t u g (λ w. insertOf w p d) (inserted 3 0 0) (insert-respects p d) (λ w h. insert-holds w p d h) (λ w h. insert-slots w p d))
-  same-answer (setPosition k p) = ap replied (call-same rs t u g (λ w. setPositionOf w k p) (reply 3 0) (set-position-respects k p) (λ w h. set-position-keeps w k p h) (λ w h. set-slots w k p))
-  same-answer (remove k) = ap replied (call-same rs t u g (λ w. removeOf w k) (reply 3 0) (remove-respects k) (λ w h. remove-keeps w k h) (λ w h. remove-slots w k))
+  same-answer (insert p d k) = ap entered (call-same rs t u g (λ w. insertOf w p d k) (inserted 3 0 0) (insert-respects p d k) (λ w x. insert-holds w p d k x) (λ w x. insert-slots w p d k))
+  same-answer (setPosition h p k) = ap replied (call-same rs t u g (λ w. setPositionOf w h p k) (reply 3 0) (set-position-respects h p k) (λ w x. set-position-keeps w h p k x) (λ w x. set-slots w h p k))
+  same-answer (remove h k) = ap replied (call-same rs t u g (λ w. removeOf w h k) (reply 3 0) (remove-respects h k) (λ w x. remove-keeps w h k x) (λ w x. remove-slots w h k))
   same-answer maintain = ap settled (call-same rs t u g maintainOf (maintainedCounts 3 0 0) maintain-respects maintain-keeps maintain-slots)
-  same-answer (get k) = ap gotten (read-same rs t u g (λ w. getOf w k) (got 3 zero-position 0) (get-reads k))
+  same-answer (get h) = ap gotten (read-same rs t u g (λ w. getOf w h) (got 3 zero-position 0 0) (get-reads h))
   same-answer len = ap counted (read-same rs t u g lenOf (count 3 0) len-reads)
   same-answer (around c r o) = ap found (read-same rs t u g (λ w. aroundOf w c r o) (findings (count 3 0) o) (around-reads c r o))
 
   pub same-after : (c : RecordCall) → SameGrid (onTable c rs t .records) (onTable c rs t .after) (onColumns c u .after)
   unfolding onTable onColumns
-  same-after (insert p d) = call-after rs t u g (λ w. insertOf w p d) (inserted 3 0 0) (insert-respects p d) (λ w h. insert-holds w p d h) (λ w h. insert-slots w p d)
-  same-after (setPosition k p) = call-after rs t u g (λ w. setPositionOf w k p) (reply 3 0) (set-position-respects k p) (λ w h. set-position-keeps w k p h) (λ w h. set-slots w k p)
-  same-after (remove k) = call-after rs t u g (λ w. removeOf w k) (reply 3 0) (remove-respects k) (λ w h. remove-keeps w k h) (λ w h. remove-slots w k)
+  same-after (insert p d k) = call-after rs t u g (λ w. insertOf w p d k) (inserted 3 0 0) (insert-respects p d k) (λ w x. insert-holds w p d k x) (λ w x. insert-slots w p d k)
+  same-after (setPosition h p k) = call-after rs t u g (λ w. setPositionOf w h p k) (reply 3 0) (set-position-respects h p k) (λ w x. set-position-keeps w h p k x) (λ w x. set-slots w h p k)
+  same-after (remove h k) = call-after rs t u g (λ w. removeOf w h k) (reply 3 0) (remove-respects h k) (λ w x. remove-keeps w h k x) (λ w x. remove-slots w h k)
   same-after maintain = call-after rs t u g maintainOf (maintainedCounts 3 0 0) maintain-respects maintain-keeps maintain-slots
-  same-after (get k) = read-after rs t u g
+  same-after (get h) = read-after rs t u g
   same-after len = read-after rs t u g
   same-after (around c r o) = read-after rs t u g
 

@@ -30,40 +30,40 @@ module _ (t u : Tables) where
     version-is s = ap (λ (r : Record). r .version) (like .each s)
 
     -- the record of the new object has the version of its slot
-    put-alike : (s : ℕ) (p : Position) (d : ℕ) → Alike (put t s p d) (put v s p d)
+    put-alike : (s : ℕ) (p : Position) (d k : ℕ) → Alike (put t s p d k) (put v s p d k)
     unfolding put
-    put-alike s p d =
+    put-alike s p d k =
         let es = entriesWith t s p in
         let m = counting (taken (t .map) s) (length es) (length (rowsWith t p)) in
         let pool = written (map rowOf es) (t .pool) in
         let spots = written (map spotOf es) (t .spots) in
         let cells = written (rowsWith t p) (t .cells) in
-        let r : ℕ → Record = λ n. freshRecord n p (cellAt (sizeOf t) p) d in
+        let r : ℕ → Record = λ n. freshRecord n p (cellAt (sizeOf t) p) d k in
         let old = versionAt (t .nums) s in
         subst
-        (λ (n : ℕ). Alike (put t s p d) (tables (set (v .nums) s (numsOf (r n))) (set (v .reals) s (realsOf (r n))) (set (v .ints) s (intsOf (r n))) m pool spots cells))
+        (λ (n : ℕ). Alike (put t s p d k) (tables (set (v .nums) s (numsOf (r n))) (set (v .reals) s (realsOf (r n))) (set (v .ints) s (intsOf (r n))) m pool spots cells))
         (version-is s)
         (beside (stored t s (r old) cells) (stored v s (r old) cells) (stored-alike t v like s (r old) cells refl) m pool spots cells)
 
     slot-is : usableSlot t ≡ usableSlot v
     slot-is = ap (lowestUsable (t .map)) (like .of-nums)
 
-    module _ (h : Holds t) (k : Holds v) where
-      insert-answer : (p : Position) → insertAnswer t p ≡ insertAnswer v p
+    module _ (h : Holds t) (hv : Holds v) where
+      insert-answer : (p : Position) (k : ℕ) → insertAnswer t p k ≡ insertAnswer v p k
       unfolding insertAnswer
-      insert-answer p = cc (both-hold t v like h k, slot-is)
+      insert-answer p k = cc (both-hold t v like h hv, slot-is)
 
-      insert-same : (p : Position) (d : ℕ) → Same (insertOf t p d) (insertOf v p d)
+      insert-same : (p : Position) (d k : ℕ) → Same (insertOf t p d k) (insertOf v p d k)
       unfolding insertOf
-      insert-same p d =
-          let e = insert-answer p in
+      insert-same p d k =
+          let e = insert-answer p k in
           let s = slotIn (usableSlot t) in
-          same-pick _ _ _ _ (eqb (insertAnswer t p) 0) (eqb (insertAnswer v p) 0) (ap (λ (n : ℕ). eqb n 0) e)
+          same-pick _ _ _ _ (eqb (insertAnswer t p k) 0) (eqb (insertAnswer v p k) 0) (ap (λ (n : ℕ). eqb n 0) e)
           (subst
-          (λ (x : Usable). Same (outcome (inserted 0 s (versionAt (t .nums) s)) (put t s p d)) (outcome (inserted 0 (slotIn x) (versionAt (v .nums) (slotIn x))) (put v (slotIn x) p d)))
+          (λ (x : Usable). Same (outcome (inserted 0 s (versionAt (t .nums) s)) (put t s p d k)) (outcome (inserted 0 (slotIn x) (versionAt (v .nums) (slotIn x))) (put v (slotIn x) p d k)))
           slot-is
-          (ap (inserted 0 s) (version-is s), put-alike s p d))
+          (ap (inserted 0 s) (version-is s), put-alike s p d k))
           (ap (λ (n : ℕ). inserted n 0 0) e, like)
 
-pub insert-respects : (p : Position) (d : ℕ) → Respects (λ t. insertOf t p d)
-insert-respects p d = to-respect (λ t. insertOf t p d) (λ t u h k a. insert-same t u a h k p d)
+pub insert-respects : (p : Position) (d k : ℕ) → Respects (λ t. insertOf t p d k)
+insert-respects p d k = to-respect (λ t. insertOf t p d k) (λ t u h hv a. insert-same t u a h hv p d k)

@@ -16,7 +16,7 @@ use Rattle.replies.specs.Meaning.Replies.{reply}
 use Rattle.point_deferred.specs.Meaning.Moves.{pended, setPositionAnswer, setPositionOf, removeAnswer, removeOf}
 use Rattle.records.specs.Inner.Alike.{Alike, withColumns}
 use Rattle.records.proofs.laws.Alike.{Respects}
-use Rattle.records.proofs.laws.AlikeLaws.{both-hold, good-alike, gone-alike}
+use Rattle.records.proofs.laws.AlikeLaws.{both-hold, tracker-alike, good-alike, gone-alike}
 use Rattle.records.proofs.laws.StoredLaws.{stored-alike}
 use Rattle.record_histories.proofs.laws.SameLaws.{Same, same-pick, to-respect}
 
@@ -35,33 +35,37 @@ module _ (t u : Tables) where
         (like .each s)
         (stored-alike t v like s (withState r (f r)) (written (marked (keyOf (r .cell)) (cellRows t)) (t .cells)) refl)
 
-    module _ (h : Holds t) (k : Holds v) where
-      set-answer : (g : Handle) (at : Position) → setPositionAnswer t g at ≡ setPositionAnswer v g at
+    module _ (h : Holds t) (hv : Holds v) where
+      set-answer : (g : Handle) (at : Position) (k : ℕ) → setPositionAnswer t g at k ≡ setPositionAnswer v g at k
       unfolding setPositionAnswer
-      set-answer g at = cc (both-hold t v like h k, good-alike t v like (g .slot) (g .version), gone-alike t v like (g .slot) (g .version), like .each (g .slot))
+      set-answer g at k =
+          let s = g .slot in
+          cc (both-hold t v like h hv, good-alike t v like s (g .version), gone-alike t v like s (g .version), tracker-alike t v like s, like .each s)
 
-      set-same : (g : Handle) (at : Position) → Same (setPositionOf t g at) (setPositionOf v g at)
+      set-same : (g : Handle) (at : Position) (k : ℕ) → Same (setPositionOf t g at k) (setPositionOf v g at k)
       unfolding setPositionOf
-      set-same g at =
-          let e = set-answer g at in
-          same-pick _ _ _ _ (eqb (setPositionAnswer t g at) 0) (eqb (setPositionAnswer v g at) 0) (ap (λ (n : ℕ). eqb n 0) e)
+      set-same g at k =
+          let e = set-answer g at k in
+          same-pick _ _ _ _ (eqb (setPositionAnswer t g at k) 0) (eqb (setPositionAnswer v g at k) 0) (ap (λ (n : ℕ). eqb n 0) e)
           (refl, pended-alike (g .slot) (λ r. aimed (sizeOf t) (r .cell) at))
           (ap (λ (n : ℕ). reply n 0) e, like)
 
-      remove-answer : (g : Handle) → removeAnswer t g ≡ removeAnswer v g
+      remove-answer : (g : Handle) (k : ℕ) → removeAnswer t g k ≡ removeAnswer v g k
       unfolding removeAnswer
-      remove-answer g = cc (both-hold t v like h k, good-alike t v like (g .slot) (g .version), gone-alike t v like (g .slot) (g .version))
+      remove-answer g k =
+          let s = g .slot in
+          cc (both-hold t v like h hv, good-alike t v like s (g .version), gone-alike t v like s (g .version), tracker-alike t v like s)
 
-      remove-same : (g : Handle) → Same (removeOf t g) (removeOf v g)
+      remove-same : (g : Handle) (k : ℕ) → Same (removeOf t g k) (removeOf v g k)
       unfolding removeOf
-      remove-same g =
-          let e = remove-answer g in
-          same-pick _ _ _ _ (eqb (removeAnswer t g) 0) (eqb (removeAnswer v g) 0) (ap (λ (n : ℕ). eqb n 0) e)
+      remove-same g k =
+          let e = remove-answer g k in
+          same-pick _ _ _ _ (eqb (removeAnswer t g k) 0) (eqb (removeAnswer v g k) 0) (ap (λ (n : ℕ). eqb n 0) e)
           (ap (λ (r : Record). reply 0 (r .obj)) (like .each (g .slot)), pended-alike (g .slot) (λ r. Removed))
           (ap (λ (n : ℕ). reply n 0) e, like)
 
-pub set-position-respects : (g : Handle) (at : Position) → Respects (λ t. setPositionOf t g at)
-set-position-respects g at = to-respect (λ t. setPositionOf t g at) (λ t u h k a. set-same t u a h k g at)
+pub set-position-respects : (g : Handle) (at : Position) (k : ℕ) → Respects (λ t. setPositionOf t g at k)
+set-position-respects g at k = to-respect (λ t. setPositionOf t g at k) (λ t u h hv a. set-same t u a h hv g at k)
 
-pub remove-respects : (g : Handle) → Respects (λ t. removeOf t g)
-remove-respects g = to-respect (λ t. removeOf t g) (λ t u h k a. remove-same t u a h k g)
+pub remove-respects : (g : Handle) (k : ℕ) → Respects (λ t. removeOf t g k)
+remove-respects g k = to-respect (λ t. removeOf t g k) (λ t u h hv a. remove-same t u a h hv g k)

@@ -7,17 +7,17 @@ use Rattle.slots.specs.declared.Handle.{Handle}
 use Rattle.slots.specs.Meaning.Slot.{live, phaseAt, versionAt}
 use Rattle.slot_walks.specs.Meaning.Live.{liveFrom, handleAt, handlesIn}
 use Rattle.point_records.specs.declared.Record.{Record}
-use Rattle.point_tables.specs.Meaning.Tables.{Tables}
+use Rattle.point_tables.specs.Meaning.Tables.{Tables, slotOf}
 use Rattle.point_tables.specs.Meaning.Holds.{Holds}
 use Rattle.point_get.specs.Meaning.{liveHandles, getOf, lenOf}
-use Rattle.storage.specs.Meaning.Entries.{rowItem}
+use Rattle.storage.specs.Meaning.Entries.{Entry, rowItem}
 use Rattle.point_search.specs.declared.Test.the-variants.{Circle}
-use Rattle.point_search.specs.Meaning.Searches.{found, findingOn, handleRow, Outputs, searchAnswer, searchOf}
+use Rattle.point_search.specs.Meaning.Searches.{found, findingOn, handleRow, objRow, Outputs, searchAnswer, searchOf}
 use Rattle.point_query.specs.Meaning.Queries.{aroundOf}
 use Rattle.geometry.specs.Meaning.Circle.{cornerBelow, cornerAbove}
 use Rattle.records.specs.Inner.Alike.{Alike, withColumns}
 use Rattle.records.proofs.laws.Alike.{Reads}
-use Rattle.records.proofs.laws.AlikeLaws.{both-hold, good-alike, gone-alike}
+use Rattle.records.proofs.laws.AlikeLaws.{both-hold, tracker-alike, good-alike, gone-alike}
 use Rattle.record_histories.proofs.laws.SameLaws.{to-read}
 
 map-same : {A B : Type 0} (f g : A → B) → ((x : A) → f x ≡ g x) → (l : List A) → map f l ≡ map g l
@@ -50,19 +50,22 @@ module _ (t u : Tables) where
     module _ (h : Holds t) (k : Holds v) where
       get-same : (g : Handle) → getOf t g ≡ getOf v g
       unfolding getOf
-      get-same g = cc (both-hold t v like h k, good-alike t v like (g .slot) (g .version), gone-alike t v like (g .slot) (g .version), like .each (g .slot))
+      get-same g =
+          let s = g .slot in
+          cc (both-hold t v like h k, good-alike t v like s (g .version), gone-alike t v like s (g .version), tracker-alike t v like s, like .each s)
 
       len-same : lenOf t ≡ lenOf v
       unfolding lenOf liveHandles
       len-same = cc (both-hold t v like h k, handles-same)
 
-      -- the entries are the same; a finding has the version and the data of its slot
+      -- the entries are the same; a finding has the version, the data and the tracker of its slot
       around-same : (c : Position) (r : Float) (o : Outputs) → aroundOf t c r o ≡ aroundOf v c r o
       unfolding aroundOf searchOf searchAnswer found
       around-same c r o =
           let es = found t (cornerBelow c r) (cornerAbove c r) (Circle c r) in
           let rows = map-same (λ e. handleRow (findingOn t e)) (λ e. handleRow (findingOn v e)) (λ e. ap (λ (n : ℕ). rowItem (e .row) ∷ n ∷ []) (version-is (rowItem (e .row)))) es in
-          let objs = map-same (λ e. findingOn t e .obj) (λ e. findingOn v e .obj) (λ e. ap (λ (x : Record). x .obj) (like .each (rowItem (e .row)))) es in
+          let obj-row : (e : Entry) → objRow (findingOn t e) ≡ objRow (findingOn v e) = λ e. let s = slotOf e in λ i. like .each s i .obj ∷ tracker-alike t v like s i ∷ [] in
+          let objs = map-same (λ e. objRow (findingOn t e)) (λ e. objRow (findingOn v e)) obj-row es in
           cc (both-hold t v like h k, rows, objs)
 
 pub get-reads : (g : Handle) → Reads (λ t. getOf t g)

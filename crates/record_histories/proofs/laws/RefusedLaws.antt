@@ -45,23 +45,23 @@ module _ {R : Type 0} (call : Tables → Outcome R) (refused : R) (rs : List Rec
 not-held : (t : Tables) → (Holds t → ⊥) → holds t ≡ false
 not-held t n = by-test (holds t) (λ e. absurd (n (holds-says t .yes e))) (λ e. e)
 
-set-unheld : (h : Handle) (at : Position) (t : Tables) → (Holds t → ⊥) → setPositionOf t h at ≡ outcome (reply 3 0) t
+set-unheld : (h : Handle) (at : Position) (k : ℕ) (t : Tables) → (Holds t → ⊥) → setPositionOf t h at k ≡ outcome (reply 3 0) t
 unfolding setPositionOf setPositionAnswer
-set-unheld h at t n = rw (not-held t n) refl
+set-unheld h at k t n = rw (not-held t n) refl
 
-remove-unheld : (h : Handle) (t : Tables) → (Holds t → ⊥) → removeOf t h ≡ outcome (reply 3 0) t
+remove-unheld : (h : Handle) (k : ℕ) (t : Tables) → (Holds t → ⊥) → removeOf t h k ≡ outcome (reply 3 0) t
 unfolding removeOf removeAnswer
-remove-unheld h t n = rw (not-held t n) refl
+remove-unheld h k t n = rw (not-held t n) refl
 
 module _ (rs : List Record) (t : Tables) (n : Holds (besides rs t) → ⊥) where
-  pub set-position-no-grid : (h : Handle) (at : Position) → setPositionOn rs t h at ≡ seen (reply 3 0) rs (besides rs t)
-  set-position-no-grid h at = no-grid (λ w. setPositionOf w h at) (reply 3 0) rs t (set-unheld h at) n
+  pub set-position-no-grid : (h : Handle) (at : Position) (k : ℕ) → setPositionOn rs t h at k ≡ seen (reply 3 0) rs (besides rs t)
+  set-position-no-grid h at k = no-grid (λ w. setPositionOf w h at k) (reply 3 0) rs t (set-unheld h at k) n
 
-  pub remove-no-grid : (h : Handle) → removeOn rs t h ≡ seen (reply 3 0) rs (besides rs t)
-  remove-no-grid h = no-grid (λ w. removeOf w h) (reply 3 0) rs t (remove-unheld h) n
+  pub remove-no-grid : (h : Handle) (k : ℕ) → removeOn rs t h k ≡ seen (reply 3 0) rs (besides rs t)
+  remove-no-grid h k = no-grid (λ w. removeOf w h k) (reply 3 0) rs t (remove-unheld h k) n
 
-  pub insert-no-grid : (p : Position) (d : ℕ) → insertOn rs t p d ≡ seen (inserted 3 0 0) rs (besides rs t)
-  insert-no-grid p d = no-grid (λ w. insertOf w p d) (inserted 3 0 0) rs t (λ w k. insert-unheld w p d k) n
+  pub insert-no-grid : (p : Position) (d k : ℕ) → insertOn rs t p d k ≡ seen (inserted 3 0 0) rs (besides rs t)
+  insert-no-grid p d k = no-grid (λ w. insertOf w p d k) (inserted 3 0 0) rs t (λ w x. insert-unheld w p d k x) n
 
   pub maintain-no-grid : maintainOn rs t ≡ seen (maintainedCounts 3 0 0) rs (besides rs t)
   maintain-no-grid = no-grid maintainOf (maintainedCounts 3 0 0) rs t maintain-refused n

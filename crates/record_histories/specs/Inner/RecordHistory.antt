@@ -29,11 +29,11 @@ use Rattle.record_maintain.specs.Meaning.Calls.{maintainOn}
 use Rattle.record_get.specs.Meaning.Calls.{getOn, lenOn}
 use Rattle.record_query.specs.Meaning.Calls.{aroundOn}
 
--- a call with all that it is handed besides the tables
+-- a call with all that it is handed besides the tables: what changes one point ends with its tracker
 pub data RecordCall : Type 0 where
-  insert : Position → ℕ → RecordCall
-  setPosition : Handle → Position → RecordCall
-  remove : Handle → RecordCall
+  insert : Position → ℕ → ℕ → RecordCall
+  setPosition : Handle → Position → ℕ → RecordCall
+  remove : Handle → ℕ → RecordCall
   maintain : RecordCall
   get : Handle → RecordCall
   len : RecordCall
@@ -53,9 +53,9 @@ abbrev given : {R : Type 0} → (R → Given) → Outcome R → Outcome Given
 given say o = outcome (say (o .result)) (o .after)
 
 unfoldable pub onColumns : RecordCall → Tables → Outcome Given
-onColumns (insert p d) t = given entered (insertOf t p d)
-onColumns (setPosition h p) t = given replied (setPositionOf t h p)
-onColumns (remove h) t = given replied (removeOf t h)
+onColumns (insert p d k) t = given entered (insertOf t p d k)
+onColumns (setPosition h p k) t = given replied (setPositionOf t h p k)
+onColumns (remove h k) t = given replied (removeOf t h k)
 onColumns maintain t = given settled (maintainOf t)
 onColumns (get h) t = outcome (got (getOf t h)) t
 onColumns len t = outcome (counted (lenOf t)) t
@@ -69,9 +69,9 @@ abbrev read : {R : Type 0} → (R → Given) → List Record → Outcome R → S
 read say rs o = seen (say (o .result)) rs (o .after)
 
 unfoldable pub onTable : RecordCall → List Record → Tables → Seen Given
-onTable (insert p d) rs t = changed entered (insertOn rs t p d)
-onTable (setPosition h p) rs t = changed replied (setPositionOn rs t h p)
-onTable (remove h) rs t = changed replied (removeOn rs t h)
+onTable (insert p d k) rs t = changed entered (insertOn rs t p d k)
+onTable (setPosition h p k) rs t = changed replied (setPositionOn rs t h p k)
+onTable (remove h k) rs t = changed replied (removeOn rs t h k)
 onTable maintain rs t = changed settled (maintainOn rs t)
 onTable (get h) rs t = read got rs (getOn rs t h)
 onTable len rs t = read counted rs (lenOn rs t)

@@ -12,7 +12,7 @@ use Rattle.record_histories.specs.Inner.RecordHistory.{RecordCall, setPo
 
 -- kind 0 is `set_position`, any other `remove`
 abbrev pub deferred : Deferred → RecordCall
-deferred c = pick (eqb (c .kind) 0) (setPosition (c .handle) (c .at)) (remove (c .handle))
+deferred c = pick (eqb (c .kind) 0) (setPosition (c .handle) (c .at) (c .tracker)) (remove (c .handle) (c .tracker))
 
 -- deferred calls, and maintain
 abbrev pub frame : List Deferred → List RecordCall

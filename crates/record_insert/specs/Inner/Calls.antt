@@ -9,5 +9,5 @@ use Rattle.point_tables.specs.Meaning.Outcome.{Outcome}
 use Rattle.point_insert.specs.Meaning.Insert.{insertOf}
 use Rattle.records.specs.Meaning.Seen.{fitted}
 
-abbrev pub insertFor : ℕ → Tables → Position → ℕ → Outcome Inserted
-insertFor n t at obj = fitted (λ u. insertOf u at obj) (inserted 3 0 0) n t
+abbrev pub insertFor : ℕ → Tables → Position → ℕ → ℕ → Outcome Inserted
+insertFor n t at obj k = fitted (λ u. insertOf u at obj k) (inserted 3 0 0) n t

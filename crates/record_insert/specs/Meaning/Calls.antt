@@ -8,5 +8,5 @@ use Rattle.point_tables.specs.Meaning.Tables.{Tables}
 use Rattle.point_insert.specs.Meaning.Insert.{insertOf}
 use Rattle.records.specs.Meaning.Seen.{Seen, onRecords}
 
-abbrev pub insertOn : List Record → Tables → Position → ℕ → Seen Inserted
-insertOn rs t at obj = onRecords (λ u. insertOf u at obj) (inserted 3 0 0) rs t
+abbrev pub insertOn : List Record → Tables → Position → ℕ → ℕ → Seen Inserted
+insertOn rs t at obj k = onRecords (λ u. insertOf u at obj k) (inserted 3 0 0) rs t

@@ -64,11 +64,11 @@ use Rattle.record_query.proofs.query_around.Statement as stated
 use Rattle.record_query.proofs.query_around.Code as code
 
 abbrev stayed : Stays (query-around.ended .signature .params) (query-around.ended .kept)
-stayed = (stay-none-slice (0 ∷ []) tt (plain (λ _. R)) yes, (stay-slice (1 ∷ []) tt (ArrayOf (plain (λ _. u32)) (λ _. tt) 4), (stay-slice (2 ∷ []) tt (ArrayOf (plain (λ _. f32)) (λ _. tt) 4), (stay-slice (3 ∷ []) tt (ArrayOf (plain (λ _. i32)) (λ _. tt) 4), (stay-none-slice (4 ∷ []) tt (plain (λ _. u64)) yes, (stay-none-slice (5 ∷ []) tt (ArrayOf (plain (λ _. u64)) (λ _. tt) 2) yes, (stay-none-slice (6 ∷ []) tt (ArrayOf (plain (λ _. f32)) (λ _. tt) 2) yes, (stay-none-slice (7 ∷ []) tt (ArrayOf (plain (λ _. u64)) (λ _. tt) 2) yes, (stay-none (λ _. PT.the-row) yes, (stay-none (λ _. f32) yes, (stay-slice (8 ∷ []) tt (ArrayOf (plain (λ _. u32)) (λ _. tt) 2), (stay-slice (9 ∷ []) tt (ArrayOf (plain (λ _. f32)) (λ _. tt) 2), (stay-slice (10 ∷ []) tt (plain (λ _. u32)), tt)))))))))))))
+stayed = (stay-none-slice (0 ∷ []) tt (plain (λ _. R)) yes, (stay-slice (1 ∷ []) tt (ArrayOf (plain (λ _. u32)) (λ _. tt) 4), (stay-slice (2 ∷ []) tt (ArrayOf (plain (λ _. f32)) (λ _. tt) 4), (stay-slice (3 ∷ []) tt (ArrayOf (plain (λ _. i32)) (λ _. tt) 4), (stay-none-slice (4 ∷ []) tt (plain (λ _. u64)) yes, (stay-none-slice (5 ∷ []) tt (ArrayOf (plain (λ _. u64)) (λ _. tt) 2) yes, (stay-none-slice (6 ∷ []) tt (ArrayOf (plain (λ _. f32)) (λ _. tt) 2) yes, (stay-none-slice (7 ∷ []) tt (ArrayOf (plain (λ _. u64)) (λ _. tt) 2) yes, (stay-none (λ _. PT.the-row) yes, (stay-none (λ _. f32) yes, (stay-slice (8 ∷ []) tt (ArrayOf (plain (λ _. u32)) (λ _. tt) 2), (stay-slice (9 ∷ []) tt (ArrayOf (plain (λ _. f32)) (λ _. tt) 2), (stay-slice (10 ∷ []) tt (ArrayOf (plain (λ _. u32)) (λ _. tt) 2), tt)))))))))))))
 
-module _ {M : Type 1} (𝓤 : URA M) (H : Heap 𝓤) (A : Atoms 𝓤) (W : Given 𝓤 H A) (mem : Memory → SProp 𝓤) (run : Routine → Fun 𝓤) (κ₀ κ₁ κ₂ κ₃ κ₄ κ₅ κ₆ κ₇ κ₈ κ₉ κ₁₀ : Lft) (q₀ q₁ q₂ q₃ q₄ q₅ q₆ q₇ q₈ q₉ q₁₀ : Share) (b₀ o₀ : ℕ) (γ₀ : GName) (y₀ : List (Record)) (room₀ : Room R (length y₀)) (b₁ o₁ : ℕ) (γ₁ : GName) (y₁ : List (List ℕ)) (room₁ : Room N4 (length y₁)) (b₂ o₂ : ℕ) (γ₂ : GName) (y₂ : List (List Float)) (room₂ : Room F4 (length y₂)) (b₃ o₃ : ℕ) (γ₃ : GName) (y₃ : List (List ℤ)) (room₃ : Room Z4 (length y₃)) (b₄ o₄ : ℕ) (γ₄ : GName) (y₄ : List (ℕ)) (room₄ : Room u64 (length y₄)) (b₅ o₅ : ℕ) (γ₅ : GName) (y₅ : List (List ℕ)) (room₅ : Room N2 (length y₅)) (b₆ o₆ : ℕ) (γ₆ : GName) (y₆ : List (List Float)) (room₆ : Room F2 (length y₆)) (b₇ o₇ : ℕ) (γ₇ : GName) (y₇ : List (List ℕ)) (room₇ : Room N2 (length y₇)) (b₈ o₈ : ℕ) (γ₈ : GName) (y₈ : List (List ℕ)) (room₈ : Room U2 (length y₈)) (b₉ o₉ : ℕ) (γ₉ : GName) (y₉ : List (List Float)) (room₉ : Room F2 (length y₉)) (b₁₀ o₁₀ : ℕ) (γ₁₀ : GName) (y₁₀ : List (ℕ)) (room₁₀ : Room u32 (length y₁₀)) (v₀ : Position) (g₀ : Is PT.the-row v₀ (LL.vals PT.the-type PT′.the-laws v₀)) (v₁ : Float) (g₁ : fits binary32 v₁ ≡ true) where
-  abbrev x : (RefT (List (Record)) × (RefT (List (List ℕ)) × (RefT (List (List Float)) × (RefT (List (List ℤ)) × (RefT (List (ℕ)) × (RefT (List (List ℕ)) × (RefT (List (List Float)) × (RefT (List (List ℕ)) × (Position × (Float × (RefT (List (List ℕ)) × (RefT (List (List Float)) × (RefT (List (ℕ)) × Unit {0})))))))))))))
-  x = (to R b₀ o₀ γ₀ y₀, (to N4 b₁ o₁ γ₁ y₁, (to F4 b₂ o₂ γ₂ y₂, (to Z4 b₃ o₃ γ₃ y₃, (to u64 b₄ o₄ γ₄ y₄, (to N2 b₅ o₅ γ₅ y₅, (to F2 b₆ o₆ γ₆ y₆, (to N2 b₇ o₇ γ₇ y₇, (v₀, (v₁, (to U2 b₈ o₈ γ₈ y₈, (to F2 b₉ o₉ γ₉ y₉, (to u32 b₁₀ o₁₀ γ₁₀ y₁₀, tt)))))))))))))
+module _ {M : Type 1} (𝓤 : URA M) (H : Heap 𝓤) (A : Atoms 𝓤) (W : Given 𝓤 H A) (mem : Memory → SProp 𝓤) (run : Routine → Fun 𝓤) (κ₀ κ₁ κ₂ κ₃ κ₄ κ₅ κ₆ κ₇ κ₈ κ₉ κ₁₀ : Lft) (q₀ q₁ q₂ q₃ q₄ q₅ q₆ q₇ q₈ q₉ q₁₀ : Share) (b₀ o₀ : ℕ) (γ₀ : GName) (y₀ : List (Record)) (room₀ : Room R (length y₀)) (b₁ o₁ : ℕ) (γ₁ : GName) (y₁ : List (List ℕ)) (room₁ : Room N4 (length y₁)) (b₂ o₂ : ℕ) (γ₂ : GName) (y₂ : List (List Float)) (room₂ : Room F4 (length y₂)) (b₃ o₃ : ℕ) (γ₃ : GName) (y₃ : List (List ℤ)) (room₃ : Room Z4 (length y₃)) (b₄ o₄ : ℕ) (γ₄ : GName) (y₄ : List (ℕ)) (room₄ : Room u64 (length y₄)) (b₅ o₅ : ℕ) (γ₅ : GName) (y₅ : List (List ℕ)) (room₅ : Room N2 (length y₅)) (b₆ o₆ : ℕ) (γ₆ : GName) (y₆ : List (List Float)) (room₆ : Room F2 (length y₆)) (b₇ o₇ : ℕ) (γ₇ : GName) (y₇ : List (List ℕ)) (room₇ : Room N2 (length y₇)) (b₈ o₈ : ℕ) (γ₈ : GName) (y₈ : List (List ℕ)) (room₈ : Room U2 (length y₈)) (b₉ o₉ : ℕ) (γ₉ : GName) (y₉ : List (List Float)) (room₉ : Room F2 (length y₉)) (b₁₀ o₁₀ : ℕ) (γ₁₀ : GName) (y₁₀ : List (List ℕ)) (room₁₀ : Room U2 (length y₁₀)) (v₀ : Position) (g₀ : Is PT.the-row v₀ (LL.vals PT.the-type PT′.the-laws v₀)) (v₁ : Float) (g₁ : fits binary32 v₁ ≡ true) where
+  abbrev x : (RefT (List (Record)) × (RefT (List (List ℕ)) × (RefT (List (List Float)) × (RefT (List (List ℤ)) × (RefT (List (ℕ)) × (RefT (List (List ℕ)) × (RefT (List (List Float)) × (RefT (List (List ℕ)) × (Position × (Float × (RefT (List (List ℕ)) × (RefT (List (List Float)) × (RefT (List (List ℕ)) × Unit {0})))))))))))))
+  x = (to R b₀ o₀ γ₀ y₀, (to N4 b₁ o₁ γ₁ y₁, (to F4 b₂ o₂ γ₂ y₂, (to Z4 b₃ o₃ γ₃ y₃, (to u64 b₄ o₄ γ₄ y₄, (to N2 b₅ o₅ γ₅ y₅, (to F2 b₆ o₆ γ₆ y₆, (to N2 b₇ o₇ γ₇ y₇, (v₀, (v₁, (to U2 b₈ o₈ γ₈ y₈, (to F2 b₉ o₉ γ₉ y₉, (to U2 b₁₀ o₁₀ γ₁₀ y₁₀, tt)))))))))))))
 
   abbrev at : (List Val × (List Val × (List Val × (List Val × (List Val × (List Val × (List Val × (List Val × (List Val × (List Val × (List Val × (List Val × (List Val × Unit {0})))))))))))))
   at = ((pointer b₀ o₀ y₀) ∷ [], ((pointer b₁ o₁ y₁) ∷ [], ((pointer b₂ o₂ y₂) ∷ [], ((pointer b₃ o₃ y₃) ∷ [], ((pointer b₄ o₄ y₄) ∷ [], ((pointer b₅ o₅ y₅) ∷ [], ((pointer b₆ o₆ y₆) ∷ [], ((pointer b₇ o₇ y₇) ∷ [], ((LL.vals PT.the-type PT′.the-laws v₀), ((vfloat binary32 v₁ ∷ []), ((pointer b₈ o₈ y₈) ∷ [], ((pointer b₉ o₉ y₉) ∷ [], ((pointer b₁₀ o₁₀ y₁₀) ∷ [], tt)))))))))))))
@@ -79,10 +79,10 @@ module _ {M : Type 1} (𝓤 : URA M) (H : Heap 𝓤) (A : Atoms 𝓤) (W : Given
   abbrev Post : Val → SProp 𝓤
   Post = walkOf 𝓤 H A query-around.ended stayed (query-around.clauses 𝓤 H A mem run) .post bound
 
-  abbrev left : (r : Count) (zs : (Unit {0} × (Unit {0} × (Unit {0} × (Unit {0} × (Unit {0} × (Unit {0} × (Unit {0} × (Unit {0} × (Unit {0} × (Unit {0} × (List (List ℕ) × (List (List Float) × (List (ℕ) × Unit {0})))))))))))))) → List (Item 𝓤)
-  left r zs = ‵ (ShrSlice (named 0) κ₀ R .own (to R b₀ o₀ γ₀ (y₀)) ((pointer b₀ o₀ y₀) ∷ [])) ∷ ‵ (flft κ₀ q₀) ∷ ‵ (MutSlice (named 1) κ₁ N4 .own (to N4 b₁ o₁ γ₁ (laid numsOf y₀ y₁)) ((pointer b₁ o₁ y₁) ∷ [])) ∷ ‵ (flft κ₁ q₁) ∷ ‵ (MutSlice (named 2) κ₂ F4 .own (to F4 b₂ o₂ γ₂ (laid realsOf y₀ y₂)) ((pointer b₂ o₂ y₂) ∷ [])) ∷ ‵ (flft κ₂ q₂) ∷ ‵ (MutSlice (named 3) κ₃ Z4 .own (to Z4 b₃ o₃ γ₃ (laid intsOf y₀ y₃)) ((pointer b₃ o₃ y₃) ∷ [])) ∷ ‵ (flft κ₃ q₃) ∷ ‵ (ShrSlice (named 4) κ₄ u64 .own (to u64 b₄ o₄ γ₄ (y₄)) ((pointer b₄ o₄ y₄) ∷ [])) ∷ ‵ (flft κ₄ q₄) ∷ ‵ (ShrSlice (named 5) κ₅ N2 .own (to N2 b₅ o₅ γ₅ (y₅)) ((pointer b₅ o₅ y₅) ∷ [])) ∷ ‵ (flft κ₅ q₅) ∷ ‵ (ShrSlice (named 6) κ₆ F2 .own (to F2 b₆ o₆ γ₆ (y₆)) ((pointer b₆ o₆ y₆) ∷ [])) ∷ ‵ (flft κ₆ q₆) ∷ ‵ (ShrSlice (named 7) κ₇ N2 .own (to N2 b₇ o₇ γ₇ (y₇)) ((pointer b₇ o₇ y₇) ∷ [])) ∷ ‵ (flft κ₇ q₇) ∷ ‵ (MutSlice (named 8) κ₈ U2 .own (to U2 b₈ o₈ γ₈ (zs .1 .1 .1 .1 .1 .1 .1 .1 .1 .1 .0)) ((pointer b₈ o₈ y₈) ∷ [])) ∷ ‵ (flft κ₈ q₈) ∷ ‵ (MutSlice (named 9) κ₉ F2 .own (to F2 b₉ o₉ γ₉ (zs .1 .1 .1 .1 .1 .1 .1 .1 .1 .1 .1 .0)) ((pointer b₉ o₉ y₉) ∷ [])) ∷ ‵ (flft κ₉ q₉) ∷ ‵ (MutSlice (named 10) κ₁₀ u32 .own (to u32 b₁₀ o₁₀ γ₁₀ (zs .1 .1 .1 .1 .1 .1 .1 .1 .1 .1 .1 .1 .0)) ((pointer b₁₀ o₁₀ y₁₀) ∷ [])) ∷ ‵ (flft κ₁₀ q₁₀) ∷ ‵ (PT.the-row .own v₀ (LL.vals PT.the-type PT′.the-laws v₀)) ∷ ‵ (f32 .own v₁ (vfloat binary32 v₁ ∷ [])) ∷ []
+  abbrev left : (r : Count) (zs : (Unit {0} × (Unit {0} × (Unit {0} × (Unit {0} × (Unit {0} × (Unit {0} × (Unit {0} × (Unit {0} × (Unit {0} × (Unit {0} × (List (List ℕ) × (List (List Float) × (List (List ℕ) × Unit {0})))))))))))))) → List (Item 𝓤)
+  left r zs = ‵ (ShrSlice (named 0) κ₀ R .own (to R b₀ o₀ γ₀ (y₀)) ((pointer b₀ o₀ y₀) ∷ [])) ∷ ‵ (flft κ₀ q₀) ∷ ‵ (MutSlice (named 1) κ₁ N4 .own (to N4 b₁ o₁ γ₁ (laid numsOf y₀ y₁)) ((pointer b₁ o₁ y₁) ∷ [])) ∷ ‵ (flft κ₁ q₁) ∷ ‵ (MutSlice (named 2) κ₂ F4 .own (to F4 b₂ o₂ γ₂ (laid realsOf y₀ y₂)) ((pointer b₂ o₂ y₂) ∷ [])) ∷ ‵ (flft κ₂ q₂) ∷ ‵ (MutSlice (named 3) κ₃ Z4 .own (to Z4 b₃ o₃ γ₃ (laid intsOf y₀ y₃)) ((pointer b₃ o₃ y₃) ∷ [])) ∷ ‵ (flft κ₃ q₃) ∷ ‵ (ShrSlice (named 4) κ₄ u64 .own (to u64 b₄ o₄ γ₄ (y₄)) ((pointer b₄ o₄ y₄) ∷ [])) ∷ ‵ (flft κ₄ q₄) ∷ ‵ (ShrSlice (named 5) κ₅ N2 .own (to N2 b₅ o₅ γ₅ (y₅)) ((pointer b₅ o₅ y₅) ∷ [])) ∷ ‵ (flft κ₅ q₅) ∷ ‵ (ShrSlice (named 6) κ₆ F2 .own (to F2 b₆ o₆ γ₆ (y₆)) ((pointer b₆ o₆ y₆) ∷ [])) ∷ ‵ (flft κ₆ q₆) ∷ ‵ (ShrSlice (named 7) κ₇ N2 .own (to N2 b₇ o₇ γ₇ (y₇)) ((pointer b₇ o₇ y₇) ∷ [])) ∷ ‵ (flft κ₇ q₇) ∷ ‵ (MutSlice (named 8) κ₈ U2 .own (to U2 b₈ o₈ γ₈ (zs .1 .1 .1 .1 .1 .1 .1 .1 .1 .1 .0)) ((pointer b₈ o₈ y₈) ∷ [])) ∷ ‵ (flft κ₈ q₈) ∷ ‵ (MutSlice (named 9) κ₉ F2 .own (to F2 b₉ o₉ γ₉ (zs .1 .1 .1 .1 .1 .1 .1 .1 .1 .1 .1 .0)) ((pointer b₉ o₉ y₉) ∷ [])) ∷ ‵ (flft κ₉ q₉) ∷ ‵ (MutSlice (named 10) κ₁₀ U2 .own (to U2 b₁₀ o₁₀ γ₁₀ (zs .1 .1 .1 .1 .1 .1 .1 .1 .1 .1 .1 .1 .0)) ((pointer b₁₀ o₁₀ y₁₀) ∷ [])) ∷ ‵ (flft κ₁₀ q₁₀) ∷ ‵ (PT.the-row .own v₀ (LL.vals PT.the-type PT′.the-laws v₀)) ∷ ‵ (f32 .own v₁ (vfloat binary32 v₁ ∷ [])) ∷ []
 
-  exits : (r : Count) (zs : (Unit {0} × (Unit {0} × (Unit {0} × (Unit {0} × (Unit {0} × (Unit {0} × (Unit {0} × (Unit {0} × (Unit {0} × (Unit {0} × (List (List ℕ) × (List (List Float) × (List (ℕ) × Unit {0})))))))))))))) → length (zs .1 .1 .1 .1 .1 .1 .1 .1 .1 .1 .0) ≡ length (y₈) → length (zs .1 .1 .1 .1 .1 .1 .1 .1 .1 .1 .1 .0) ≡ length (y₉) → length (zs .1 .1 .1 .1 .1 .1 .1 .1 .1 .1 .1 .1 .0) ≡ length (y₁₀) → (findings r (outputs (zs .1 .1 .1 .1 .1 .1 .1 .1 .1 .1 .0) (zs .1 .1 .1 .1 .1 .1 .1 .1 .1 .1 .1 .0) (zs .1 .1 .1 .1 .1 .1 .1 .1 .1 .1 .1 .1 .0)) ≡ aroundFor (length y₀) (tabled (laid numsOf y₀ y₁) (laid realsOf y₀ y₂) (laid intsOf y₀ y₃) (y₄) (y₅) (y₆) (y₇)) v₀ v₁ (outputs (y₈) (y₉) (y₁₀))) → Is CT.the-row r (LL.vals CT.the-type CT′.the-laws r) → ent 𝓤 (⋆ 𝓤 H A (left r zs)) (Post (LL.val CT.the-type CT′.the-laws r))
+  exits : (r : Count) (zs : (Unit {0} × (Unit {0} × (Unit {0} × (Unit {0} × (Unit {0} × (Unit {0} × (Unit {0} × (Unit {0} × (Unit {0} × (Unit {0} × (List (List ℕ) × (List (List Float) × (List (List ℕ) × Unit {0})))))))))))))) → length (zs .1 .1 .1 .1 .1 .1 .1 .1 .1 .1 .0) ≡ length (y₈) → length (zs .1 .1 .1 .1 .1 .1 .1 .1 .1 .1 .1 .0) ≡ length (y₉) → length (zs .1 .1 .1 .1 .1 .1 .1 .1 .1 .1 .1 .1 .0) ≡ length (y₁₀) → (findings r (outputs (zs .1 .1 .1 .1 .1 .1 .1 .1 .1 .1 .0) (zs .1 .1 .1 .1 .1 .1 .1 .1 .1 .1 .1 .0) (zs .1 .1 .1 .1 .1 .1 .1 .1 .1 .1 .1 .1 .0)) ≡ aroundFor (length y₀) (tabled (laid numsOf y₀ y₁) (laid realsOf y₀ y₂) (laid intsOf y₀ y₃) (y₄) (y₅) (y₆) (y₇)) v₀ v₁ (outputs (y₈) (y₉) (y₁₀))) → Is CT.the-row r (LL.vals CT.the-type CT′.the-laws r) → ent 𝓤 (⋆ 𝓤 H A (left r zs)) (Post (LL.val CT.the-type CT′.the-laws r))
   exits r zs n₈ n₉ n₁₀ eq gr =
       qed W (left r zs) ∵ suffices ! _ (ends-at 𝓤 H A query-around.ended stayed (query-around.clauses 𝓤 H A mem run) W bound (LL.val CT.the-type CT′.the-laws r) (r) (tt, ((laid numsOf y₀ y₁), ((laid realsOf y₀ y₂), ((laid intsOf y₀ y₃), (tt, (tt, (tt, (tt, (tt, (tt, ((zs .1 .1 .1 .1 .1 .1 .1 .1 .1 .1 .0), ((zs .1 .1 .1 .1 .1 .1 .1 .1 .1 .1 .1 .0), ((zs .1 .1 .1 .1 .1 .1 .1 .1 .1 .1 .1 .1 .0), tt))))))))))))) (tt, ((laid-length numsOf y₀ y₁), ((laid-length realsOf y₀ y₂), ((laid-length intsOf y₀ y₃), (tt, (tt, (tt, (tt, (tt, (tt, (n₈, (n₉, (n₁₀, tt)))))))))))))) $ says ! (ap (λ (o : Findings). outcome o (tabled (laid numsOf y₀ y₁) (laid realsOf y₀ y₂) (laid intsOf y₀ y₃) (y₄) (y₅) (y₆) (y₇))) eq) $
       nothing ! $ move ! (22 ∷ 0 ∷ []) $ join ! $ move ! (20 ∷ 0 ∷ []) $ join ! $ move ! (18 ∷ 0 ∷ []) $ join ! $ move ! (16 ∷ 0 ∷ []) $ join ! $ move ! (14 ∷ 0 ∷ []) $ join ! $ move ! (12 ∷ 0 ∷ []) $ join ! $ move ! (10 ∷ 0 ∷ []) $ join ! $ move ! (8 ∷ 0 ∷ []) $ join ! $ move ! (6 ∷ 0 ∷ []) $ join ! $ move ! (4 ∷ 0 ∷ []) $ join ! $ move ! (2 ∷ 0 ∷ []) $ join ! $ frame ! $ nothing ! $ move ! (11 ∷ 0 ∷ []) $ fjoin ! $ move ! (10 ∷ 0 ∷ []) $ fjoin ! $ move ! (9 ∷ 0 ∷ []) $ fjoin ! $ move ! (10 ∷ 0 ∷ []) $ fjoin ! $ move ! (9 ∷ 0 ∷ []) $ fjoin ! $ move ! (8 ∷ 0 ∷ []) $ fjoin ! $ move ! (7 ∷ 0 ∷ []) $ fjoin ! $ move ! (6 ∷ 0 ∷ []) $ fjoin ! $ move ! (5 ∷ 0 ∷ []) $ fjoin ! $ move ! (4 ∷ 0 ∷ []) $ fjoin ! $ move ! (3 ∷ 0 ∷ []) $ fjoin ! $ move ! (2 ∷ 0 ∷ []) $ fjoin ! $ move ! (1 ∷ 0 ∷ []) $ fjoin ! $ frame ! $ owned ! CT.the-row (Is CT.the-row) (LL.makes CT.the-type CT′.the-plain 𝓤 H A) r _ gr $ done !
@@ -90,7 +90,7 @@ module _ {M : Type 1} (𝓤 : URA M) (H : Heap 𝓤) (A : Atoms 𝓤) (W : Given
   module _ (𝓣 : Tables 𝓤 H) (m-spread-own : Triple 𝓤 (𝓣 .C #records·spread) (Spread 𝓤 H A mem run)) (m-query-around-for : Triple 𝓤 (𝓣 .C #record-query·query-around-for) (QueryAroundFor 𝓤 H A mem run)) where
     walk : ent 𝓤 (onEntry 𝓤 H A query-around.signature (κ₀, (κ₁, (κ₂, (κ₃, (κ₄, (κ₅, (κ₆, (κ₇, (κ₈, (κ₉, (κ₁₀, tt))))))))))) (q₀, (q₁, (q₂, (q₃, (q₄, (q₅, (q₆, (q₇, (q₈, (q₉, (q₁₀, tt))))))))))) x at) (WpFn 𝓤 H (𝓣 .C) (𝓣 .Λ) code.function ((pointer b₀ o₀ y₀) ∷ (pointer b₁ o₁ y₁) ∷ (pointer b₂ o₂ y₂) ∷ (pointer b₃ o₃ y₃) ∷ (pointer b₄ o₄ y₄) ∷ (pointer b₅ o₅ y₅) ∷ (pointer b₆ o₆ y₆) ∷ (pointer b₇ o₇ y₇) ∷ LL.val PT.the-type PT′.the-laws v₀ ∷ vfloat binary32 v₁ ∷ (pointer b₈ o₈ y₈) ∷ (pointer b₉ o₉ y₉) ∷ (pointer b₁₀ o₁₀ y₁₀) ∷ []) Post)
     walk =
-        qed W ((‵ (flft κ₀ q₀) ⊛ ‵ (flft κ₁ q₁) ⊛ ‵ (flft κ₂ q₂) ⊛ ‵ (flft κ₃ q₃) ⊛ ‵ (flft κ₄ q₄) ⊛ ‵ (flft κ₅ q₅) ⊛ ‵ (flft κ₆ q₆) ⊛ ‵ (flft κ₇ q₇) ⊛ ‵ (flft κ₈ q₈) ⊛ ‵ (flft κ₉ q₉) ⊛ ‵ (flft κ₁₀ q₁₀) ⊛ ‵ ftrue) ∷ ‵ (owns (ShrSlice (named 0) κ₀ R ∷ MutSlice (named 1) κ₁ N4 ∷ MutSlice (named 2) κ₂ F4 ∷ MutSlice (named 3) κ₃ Z4 ∷ ShrSlice (named 4) κ₄ u64 ∷ ShrSlice (named 5) κ₅ N2 ∷ ShrSlice (named 6) κ₆ F2 ∷ ShrSlice (named 7) κ₇ N2 ∷ PT.the-row ∷ f32 ∷ MutSlice (named 8) κ₈ U2 ∷ MutSlice (named 9) κ₉ F2 ∷ MutSlice (named 10) κ₁₀ u32 ∷ []) x at) ∷ []) ∵ enter ! (𝓣 .C) (𝓣 .Λ) code.function ((pointer b₀ o₀ y₀) ∷ (pointer b₁ o₁ y₁) ∷ (pointer b₂ o₂ y₂) ∷ (pointer b₃ o₃ y₃) ∷ (pointer b₄ o₄ y₄) ∷ (pointer b₅ o₅ y₅) ∷ (pointer b₆ o₆ y₆) ∷ (pointer b₇ o₇ y₇) ∷ LL.val PT.the-type PT′.the-laws v₀ ∷ vfloat binary32 v₁ ∷ (pointer b₈ o₈ y₈) ∷ (pointer b₉ o₉ y₉) ∷ (pointer b₁₀ o₁₀ y₁₀) ∷ []) _ $
+        qed W ((‵ (flft κ₀ q₀) ⊛ ‵ (flft κ₁ q₁) ⊛ ‵ (flft κ₂ q₂) ⊛ ‵ (flft κ₃ q₃) ⊛ ‵ (flft κ₄ q₄) ⊛ ‵ (flft κ₅ q₅) ⊛ ‵ (flft κ₆ q₆) ⊛ ‵ (flft κ₇ q₇) ⊛ ‵ (flft κ₈ q₈) ⊛ ‵ (flft κ₉ q₉) ⊛ ‵ (flft κ₁₀ q₁₀) ⊛ ‵ ftrue) ∷ ‵ (owns (ShrSlice (named 0) κ₀ R ∷ MutSlice (named 1) κ₁ N4 ∷ MutSlice (named 2) κ₂ F4 ∷ MutSlice (named 3) κ₃ Z4 ∷ ShrSlice (named 4) κ₄ u64 ∷ ShrSlice (named 5) κ₅ N2 ∷ ShrSlice (named 6) κ₆ F2 ∷ ShrSlice (named 7) κ₇ N2 ∷ PT.the-row ∷ f32 ∷ MutSlice (named 8) κ₈ U2 ∷ MutSlice (named 9) κ₉ F2 ∷ MutSlice (named 10) κ₁₀ U2 ∷ []) x at) ∷ []) ∵ enter ! (𝓣 .C) (𝓣 .Λ) code.function ((pointer b₀ o₀ y₀) ∷ (pointer b₁ o₁ y₁) ∷ (pointer b₂ o₂ y₂) ∷ (pointer b₃ o₃ y₃) ∷ (pointer b₄ o₄ y₄) ∷ (pointer b₅ o₅ y₅) ∷ (pointer b₆ o₆ y₆) ∷ (pointer b₇ o₇ y₇) ∷ LL.val PT.the-type PT′.the-laws v₀ ∷ vfloat binary32 v₁ ∷ (pointer b₈ o₈ y₈) ∷ (pointer b₉ o₉ y₉) ∷ (pointer b₁₀ o₁₀ y₁₀) ∷ []) _ $
         alloc1 ! (λ l₀. alloc1 ! (λ l₁. alloc1 ! (λ l₂. alloc1 ! (λ l₃. alloc1 ! (λ l₄. alloc1 ! (λ l₅. alloc1 ! (λ l₆. alloc1 ! (λ l₇. alloc1 ! (λ l₈. alloc1 ! (λ l₉. alloc1 ! (λ l₁₀. alloc1 ! (λ l₁₁. alloc1 ! (λ l₁₂. alloc1 ! (λ l₁₃. alloc1 ! (λ l₁₄. alloc1 ! (λ l₁₅. alloc1 ! (λ l₁₆. alloc1 ! (λ l₁₇. alloc1 ! (λ l₁₈. alloc1 ! (λ l₁₉. alloc1 ! (λ l₂₀. alloc1 ! (λ l₂₁. alloc1 ! (λ l₂₂. alloc1 ! (λ l₂₃. alloc1 ! (λ l₂₄. alloc1 ! (λ l₂₅. alloc1 ! (λ l₂₆. alloc1 ! (λ l₂₇. alloc1 ! (λ l₂₈. alloc1 ! (λ l₂₉. alloc1 ! (λ l₃₀. alloc1 ! (λ l₃₁. alloc1 ! (λ l₃₂. alloc1 ! (λ l₃₃. alloc1 ! (λ l₃₄. alloc0 ! $ params1 ! $
         pass1 ! (init ! 66 refl (tt, (tt, (record { fits = room₀ .0 }, tt)))) $ pass1 ! (init ! 64 refl (tt, (tt, (record { fits = room₁ .0 }, tt)))) $ pass1 ! (init ! 62 refl (tt, (tt, (record { fits = room₂ .0 }, tt)))) $ pass1 ! (init ! 60 refl (tt, (tt, (record { fits = room₃ .0 }, tt)))) $ pass1 ! (init ! 58 refl (tt, (tt, (record { fits = room₄ .0 }, tt)))) $ pass1 ! (init ! 56 refl (tt, (tt, (record { fits = room₅ .0 }, tt)))) $ pass1 ! (init ! 54 refl (tt, (tt, (record { fits = room₆ .0 }, tt)))) $ pass1 ! (init ! 52 refl (tt, (tt, (record { fits = room₇ .0 }, tt)))) $ pass1 ! (init ! 50 refl (LL.lawful PT.the-type PT′.the-laws 𝓤 H A W .typed v₀ _ g₀ .0)) $ pass1 ! (init ! 48 refl ((tt, passes (fits binary32 v₁) g₁))) $ pass1 ! (init ! 46 refl (tt, (tt, (record { fits = room₈ .0 }, tt)))) $ pass1 ! (init ! 44 refl (tt, (tt, (record { fits = room₉ .0 }, tt)))) $ pass1 ! (init ! 42 refl (tt, (tt, (record { fits = room₁₀ .0 }, tt)))) $ pass0 ! $
         move ! (71 ∷ []) $ fsplit ! $ move ! (1 ∷ []) $ fsplit ! $ move ! (1 ∷ []) $ fsplit ! $ move ! (1 ∷ []) $ fsplit ! $ move ! (1 ∷ []) $ fsplit ! $ move ! (1 ∷ []) $ fsplit ! $ move ! (1 ∷ []) $ fsplit ! $ move ! (1 ∷ []) $ fsplit ! $ move ! (1 ∷ []) $ fsplit ! $ move ! (1 ∷ []) $ fsplit ! $ move ! (1 ∷ []) $ fsplit ! $ move ! (1 ∷ []) $ fsplit ! $ move ! (1 ∷ []) $ fsplit ! $ move ! (84 ∷ []) $ split ! $ move ! (1 ∷ []) $ split ! $ move ! (1 ∷ []) $ split ! $ move ! (1 ∷ []) $ split ! $ move ! (1 ∷ []) $ split ! $ move ! (1 ∷ []) $ split ! $ move ! (1 ∷ []) $ split ! $ move ! (1 ∷ []) $ split ! $ move ! (1 ∷ []) $ split ! $ move ! (1 ∷ []) $ split ! $ move ! (1 ∷ []) $ split ! $ keep ! (25 ∷ 11 ∷ 24 ∷ 10 ∷ 23 ∷ 9 ∷ 22 ∷ 8 ∷ 21 ∷ 7 ∷ 20 ∷ 6 ∷ 19 ∷ 5 ∷ 18 ∷ 4 ∷ 15 ∷ 3 ∷ 14 ∷ 2 ∷ 12 ∷ 0 ∷ 17 ∷ 16 ∷ 26 ∷ 27 ∷ 28 ∷ 29 ∷ 30 ∷ 31 ∷ 32 ∷ 33 ∷ 34 ∷ 35 ∷ 36 ∷ 37 ∷ 38 ∷ 39 ∷ 40 ∷ 41 ∷ 42 ∷ 43 ∷ 44 ∷ 45 ∷ 46 ∷ 47 ∷ 48 ∷ 49 ∷ 50 ∷ 51 ∷ 52 ∷ 53 ∷ 54 ∷ 55 ∷ 56 ∷ 57 ∷ 58 ∷ 59 ∷ 60 ∷ 61 ∷ 62 ∷ 63 ∷ 64 ∷ 65 ∷ 66 ∷ 67 ∷ 68 ∷ 69 ∷ 70 ∷ 71 ∷ 72 ∷ 73 ∷ 74 ∷ 75 ∷ 76 ∷ 77 ∷ 78 ∷ 79 ∷ 80 ∷ 81 ∷ 82 ∷ 83 ∷ 84 ∷ 85 ∷ 86 ∷ 87 ∷ 88 ∷ 89 ∷ 90 ∷ 91 ∷ 92 ∷ 93 ∷ 94 ∷ 95 ∷ []) $
@@ -125,11 +125,11 @@ module _ {M : Type 1} (𝓤 : URA M) (H : Heap 𝓤) (A : Atoms 𝓤) (W : Given
 
 module _ {M : Type 1} (𝓤 : URA M) (H : Heap 𝓤) (A : Atoms 𝓤) (W : Given 𝓤 H A) (mem : Memory → SProp 𝓤) (run : Routine → Fun 𝓤) (𝓣 : Tables 𝓤 H) (m-spread-own : Triple 𝓤 (𝓣 .C #records·spread) (Spread 𝓤 H A mem run)) (m-query-around-for : Triple 𝓤 (𝓣 .C #record-query·query-around-for) (QueryAroundFor 𝓤 H A mem run)) where
   query-around-walks : Walks 𝓤 H A query-around.ended stayed (WpFn 𝓤 H (𝓣 .C) (𝓣 .Λ) code.function) (query-around.clauses 𝓤 H A mem run)
-  query-around-walks = walked 𝓤 H A query-around.ended stayed (query-around.clauses 𝓤 H A mem run) (WpFn 𝓤 H (𝓣 .C) (𝓣 .Λ) code.function) (λ κs. (slice-vals, (slice-vals, (slice-vals, (slice-vals, (slice-vals, (slice-vals, (slice-vals, (slice-vals, (LL.vals PT.the-type PT′.the-laws, (float-vals binary32, (slice-vals, (slice-vals, (slice-vals, tt)))))))))))))) (λ κs. (shr-slice-tells (named 0) (κs .0) R, (mut-slice-tells (named 1) (κs .1 .0) N4, (mut-slice-tells (named 2) (κs .1 .1 .0) F4, (mut-slice-tells (named 3) (κs .1 .1 .1 .0) Z4, (shr-slice-tells (named 4) (κs .1 .1 .1 .1 .0) u64, (shr-slice-tells (named 5) (κs .1 .1 .1 .1 .1 .0) N2, (shr-slice-tells (named 6) (κs .1 .1 .1 .1 .1 .1 .0) F2, (shr-slice-tells (named 7) (κs .1 .1 .1 .1 .1 .1 .1 .0) N2, (LL.tells PT.the-type PT′.the-laws, (float-tells binary32, (mut-slice-tells (named 8) (κs .1 .1 .1 .1 .1 .1 .1 .1 .0) U2, (mut-slice-tells (named 9) (κs .1 .1 .1 .1 .1 .1 .1 .1 .1 .0) F2, (mut-slice-tells (named 10) (κs .1 .1 .1 .1 .1 .1 .1 .1 .1 .1 .0) u32, tt))))))))))))))
+  query-around-walks = walked 𝓤 H A query-around.ended stayed (query-around.clauses 𝓤 H A mem run) (WpFn 𝓤 H (𝓣 .C) (𝓣 .Λ) code.function) (λ κs. (slice-vals, (slice-vals, (slice-vals, (slice-vals, (slice-vals, (slice-vals, (slice-vals, (slice-vals, (LL.vals PT.the-type PT′.the-laws, (float-vals binary32, (slice-vals, (slice-vals, (slice-vals, tt)))))))))))))) (λ κs. (shr-slice-tells (named 0) (κs .0) R, (mut-slice-tells (named 1) (κs .1 .0) N4, (mut-slice-tells (named 2) (κs .1 .1 .0) F4, (mut-slice-tells (named 3) (κs .1 .1 .1 .0) Z4, (shr-slice-tells (named 4) (κs .1 .1 .1 .1 .0) u64, (shr-slice-tells (named 5) (κs .1 .1 .1 .1 .1 .0) N2, (shr-slice-tells (named 6) (κs .1 .1 .1 .1 .1 .1 .0) F2, (shr-slice-tells (named 7) (κs .1 .1 .1 .1 .1 .1 .1 .0) N2, (LL.tells PT.the-type PT′.the-laws, (float-tells binary32, (mut-slice-tells (named 8) (κs .1 .1 .1 .1 .1 .1 .1 .1 .0) U2, (mut-slice-tells (named 9) (κs .1 .1 .1 .1 .1 .1 .1 .1 .1 .0) F2, (mut-slice-tells (named 10) (κs .1 .1 .1 .1 .1 .1 .1 .1 .1 .1 .0) U2, tt))))))))))))))
       (λ κs qs bounds a g are. via 𝓤 _ (fst∗ 𝓤 _ (emp 𝓤)) (walk 𝓤 H A W mem run (κs .0) (κs .1 .0) (κs .1 .1 .0) (κs .1 .1 .1 .0) (κs .1 .1 .1 .1 .0) (κs .1 .1 .1 .1 .1 .0) (κs .1 .1 .1 .1 .1 .1 .0) (κs .1 .1 .1 .1 .1 .1 .1 .0) (κs .1 .1 .1 .1 .1 .1 .1 .1 .0) (κs .1 .1 .1 .1 .1 .1 .1 .1 .1 .0) (κs .1 .1 .1 .1 .1 .1 .1 .1 .1 .1 .0) (qs .0) (qs .1 .0) (qs .1 .1 .0) (qs .1 .1 .1 .0) (qs .1 .1 .1 .1 .0) (qs .1 .1 .1 .1 .1 .0) (qs .1 .1 .1 .1 .1 .1 .0) (qs .1 .1 .1 .1 .1 .1 .1 .0) (qs .1 .1 .1 .1 .1 .1 .1 .1 .0) (qs .1 .1 .1 .1 .1 .1 .1 .1 .1 .0) (qs .1 .1 .1 .1 .1 .1 .1 .1 .1 .1 .0) (a .0 .ptr .0) (a .0 .ptr .1) (a .0 .name) (a .0 .now) (are .0 .0 .1) (a .1 .0 .ptr .0) (a .1 .0 .ptr .1) (a .1 .0 .name) (a .1 .0 .now) (are .1 .0 .0 .1) (a .1 .1 .0 .ptr .0) (a .1 .1 .0 .ptr .1) (a .1 .1 .0 .name) (a .1 .1 .0 .now) (are .1 .1 .0 .0 .1) (a .1 .1 .1 .0 .ptr .0) (a .1 .1 .1 .0 .ptr .1) (a .1 .1 .1 .0 .name) (a .1 .1 .1 .0 .now) (are .1 .1 .1 .0 .0 .1) (a .1 .1 .1 .1 .0 .ptr .0) (a .1 .1 .1 .1 .0 .ptr .1) (a .1 .1 .1 .1 .0 .name) (a .1 .1 .1 .1 .0 .now) (are .1 .1 .1 .1 .0 .0 .1) (a .1 .1 .1 .1 .1 .0 .ptr .0) (a .1 .1 .1 .1 .1 .0 .ptr .1) (a .1 .1 .1 .1 .1 .0 .name) (a .1 .1 .1 .1 .1 .0 .now) (are .1 .1 .1 .1 .1 .0 .0 .1) (a .1 .1 .1 .1 .1 .1 .0 .ptr .0) (a .1 .1 .1 .1 .1 .1 .0 .ptr .1) (a .1 .1 .1 .1 .1 .1 .0 .name) (a .1 .1 .1 .1 .1 .1 .0 .now) (are .1 .1 .1 .1 .1 .1 .0 .0 .1) (a .1 .1 .1 .1 .1 .1 .1 .0 .ptr .0) (a .1 .1 .1 .1 .1 .1 .1 .0 .ptr .1) (a .1 .1 .1 .1 .1 .1 .1 .0 .name) (a .1 .1 .1 .1 .1 .1 .1 .0 .now) (are .1 .1 .1 .1 .1 .1 .1 .0 .0 .1) (a .1 .1 .1 .1 .1 .1 .1 .1 .1 .1 .0 .ptr .0) (a .1 .1 .1 .1 .1 .1 .1 .1 .1 .1 .0 .ptr .1) (a .1 .1 .1 .1 .1 .1 .1 .1 .1 .1 .0 .name) (a .1 .1 .1 .1 .1 .1 .1 .1 .1 .1 .0 .now) (are .1 .1 .1 .1 .1 .1 .1 .1 .1 .1 .0 .0 .1) (a .1 .1 .1 .1 .1 .1 .1 .1 .1 .1 .1 .0 .ptr .0) (a .1 .1 .1 .1 .1 .1 .1 .1 .1 .1 .1 .0 .ptr .1) (a .1 .1 .1 .1 .1 .1 .1 .1 .1 .1 .1 .0 .name) (a .1 .1 .1 .1 .1 .1 .1 .1 .1 .1 .1 .0 .now) (are .1 .1 .1 .1 .1 .1 .1 .1 .1 .1 .1 .0 .0 .1) (a .1 .1 .1 .1 .1 .1 .1 .1 .1 .1 .1 .1 .0 .ptr .0) (a .1 .1 .1 .1 .1 .1 .1 .1 .1 .1 .1 .1 .0 .ptr .1) (a .1 .1 .1 .1 .1 .1 .1 .1 .1 .1 .1 .1 .0 .name) (a .1 .1 .1 .1 .1 .1 .1 .1 .1 .1 .1 .1 .0 .now) (are .1 .1 .1 .1 .1 .1 .1 .1 .1 .1 .1 .1 .0 .0 .1) (a .1 .1 .1 .1 .1 .1 .1 .1 .0) (are .1 .1 .1 .1 .1 .1 .1 .1 .0) (a .1 .1 .1 .1 .1 .1 .1 .1 .1 .0) (are .1 .1 .1 .1 .1 .1 .1 .1 .1 .0 .1) 𝓣 m-spread-own m-query-around-for))
 
   query-around-meets : Meets 𝓤 H A query-around.signature (WpFn 𝓤 H (𝓣 .C) (𝓣 .Λ) code.function) (query-around.spec 𝓤 H A mem run)
-  query-around-meets = walk-meets 𝓤 H A query-around.ended stayed W (goes-none-slice 𝓤 H A W 11 (0 ∷ []) tt (plain (λ _. R)) yes, (goes-slice 𝓤 H A W 11 1 tt (ArrayOf (plain (λ _. u32)) (λ _. tt) 4), (goes-slice 𝓤 H A W 11 2 tt (ArrayOf (plain (λ _. f32)) (λ _. tt) 4), (goes-slice 𝓤 H A W 11 3 tt (ArrayOf (plain (λ _. i32)) (λ _. tt) 4), (goes-none-slice 𝓤 H A W 11 (4 ∷ []) tt (plain (λ _. u64)) yes, (goes-none-slice 𝓤 H A W 11 (5 ∷ []) tt (ArrayOf (plain (λ _. u64)) (λ _. tt) 2) yes, (goes-none-slice 𝓤 H A W 11 (6 ∷ []) tt (ArrayOf (plain (λ _. f32)) (λ _. tt) 2) yes, (goes-none-slice 𝓤 H A W 11 (7 ∷ []) tt (ArrayOf (plain (λ _. u64)) (λ _. tt) 2) yes, (goes-none 𝓤 H A W 11 (λ _. PT.the-row) yes (λ κs x f. refl), (goes-none 𝓤 H A W 11 (λ _. f32) yes (λ κs x f. refl), (goes-slice 𝓤 H A W 11 8 tt (ArrayOf (plain (λ _. u32)) (λ _. tt) 2), (goes-slice 𝓤 H A W 11 9 tt (ArrayOf (plain (λ _. f32)) (λ _. tt) 2), (goes-slice 𝓤 H A W 11 10 tt (plain (λ _. u32)), tt))))))))))))) (query-around.clauses 𝓤 H A mem run) (WpFn 𝓤 H (𝓣 .C) (𝓣 .Λ) code.function) (WpFn-mono 𝓤 H (W .laws) 𝓣 code.function) query-around-walks
+  query-around-meets = walk-meets 𝓤 H A query-around.ended stayed W (goes-none-slice 𝓤 H A W 11 (0 ∷ []) tt (plain (λ _. R)) yes, (goes-slice 𝓤 H A W 11 1 tt (ArrayOf (plain (λ _. u32)) (λ _. tt) 4), (goes-slice 𝓤 H A W 11 2 tt (ArrayOf (plain (λ _. f32)) (λ _. tt) 4), (goes-slice 𝓤 H A W 11 3 tt (ArrayOf (plain (λ _. i32)) (λ _. tt) 4), (goes-none-slice 𝓤 H A W 11 (4 ∷ []) tt (plain (λ _. u64)) yes, (goes-none-slice 𝓤 H A W 11 (5 ∷ []) tt (ArrayOf (plain (λ _. u64)) (λ _. tt) 2) yes, (goes-none-slice 𝓤 H A W 11 (6 ∷ []) tt (ArrayOf (plain (λ _. f32)) (λ _. tt) 2) yes, (goes-none-slice 𝓤 H A W 11 (7 ∷ []) tt (ArrayOf (plain (λ _. u64)) (λ _. tt) 2) yes, (goes-none 𝓤 H A W 11 (λ _. PT.the-row) yes (λ κs x f. refl), (goes-none 𝓤 H A W 11 (λ _. f32) yes (λ κs x f. refl), (goes-slice 𝓤 H A W 11 8 tt (ArrayOf (plain (λ _. u32)) (λ _. tt) 2), (goes-slice 𝓤 H A W 11 9 tt (ArrayOf (plain (λ _. f32)) (λ _. tt) 2), (goes-slice 𝓤 H A W 11 10 tt (ArrayOf (plain (λ _. u32)) (λ _. tt) 2), tt))))))))))))) (query-around.clauses 𝓤 H A mem run) (WpFn 𝓤 H (𝓣 .C) (𝓣 .Λ) code.function) (WpFn-mono 𝓤 H (W .laws) 𝓣 code.function) query-around-walks
 
 pub query-around-spec : {M : Type 1} → stated.statement M
 unfolding code.routine tablesOf

@@ -5,13 +5,13 @@ use Rattle.record_query.proofs.query_around_for.Statement.{statement}
 use Rattle.record_query.proofs.query_around_for.Tie as tie
 
 returns : tie.Need-returns
-returns c = let a = c .before .before .before .args in rows-other (a .n) (length (a .nums .now)) _ _ (c .if1 .taken)
+returns c = let a = c .before .before .args in rows-other (a .n) (length (a .nums .now)) _ _ (c .if1 .taken)
 
 returns-2 : tie.Need-returns-2
 returns-2 c =
-    let r = c .before .before .before .before in
+    let r = c .before .before .before in
     let i = r .before .before .before .before in
-    let a = i .before .before .before .args in
+    let a = i .before .before .args in
     r .query-around .ensures ∙ rows-same (a .n) (length (a .nums .now)) _ _ (i .if1 .left)
 
 pub query-around-for-spec : {M : Type 1} → statement M

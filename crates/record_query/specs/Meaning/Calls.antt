@@ -18,7 +18,7 @@ abbrev pub aroundOn : List Record → Tables → Position → Float → Outputs 
 aroundOn rs t c r o = readRecords (λ u. aroundOf u c r o) (findings (count 3 0) o) rs t
 
 -- what is returned, the outputs and the tables after the call are what `query` gives of records, tables and outputs before it
-abbrev pub FindsIn : (List Record → Tables → Outputs → Outcome Findings) → Count → Lent (List (List ℕ)) → Lent (List (List Float)) → Lent (List ℕ) → Lent (List Record)
+abbrev pub FindsIn : (List Record → Tables → Outputs → Outcome Findings) → Count → Lent (List (List ℕ)) → Lent (List (List Float)) → Lent (List (List ℕ)) → Lent (List Record)
     → Lent (List (List ℕ)) → Lent (List (List Float)) → Lent (List (List ℤ)) → Lent (List ℕ) → Lent (List (List ℕ)) → Lent (List (List Float)) → Lent (List (List ℕ)) → Type 0
 FindsIn query r found places objs records a b c d e f g =
     outcome (findings r (outputsAfter found places objs)) (after a b c d e f g) ≡ query (was records) (before a b c d e f g) (outputsBefore found places objs)

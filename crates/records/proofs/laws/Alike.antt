@@ -5,11 +5,11 @@ use Rattle.point_tables.specs.Meaning.Tables.{Tables}
 use Rattle.point_tables.specs.Meaning.Holds.{Holds}
 use Rattle.point_tables.specs.Meaning.Outcome.{Outcome}
 use Rattle.records.specs.Inner.Alike.{Alike}
-use Rattle.point_records.specs.Meaning.Columns.{tagAt}
+use Rattle.point_records.specs.Meaning.Word.{lastWord, wordAt}
 
--- every tag is one of four, as in columns that were spread
-abbrev pub Tagged : List (List ℕ) → Type 0
-Tagged ns = (s : ℕ) → tagAt ns s ≤ 3
+-- every word is of a tracker and a tag, as in columns that were spread
+abbrev pub Worded : List (List ℕ) → Type 0
+Worded ns = (s : ℕ) → wordAt ns s ≤ lastWord
 
 -- a call answers the same on tables of a grid that are alike, and leaves tables that are alike
 abbrev pub Respects : {R : Type 0} → (Tables → Outcome R) → Type 0

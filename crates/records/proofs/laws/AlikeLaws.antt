@@ -1,17 +1,19 @@
 -- Columns with the same records hold the same grid. Assumes nothing.
-use Rattle.basics.specs.Words.{ℕ, _+_, _*_, _≤_, _<_, _≡_, refl, sym, ap, subst, _∙_, getD}
+use Rattle.basics.specs.Words.{ℕ, _+_, _*_, _≤_, _<_, _≡_, refl, sym, ap, subst, _∙_, [], getD}
 use Rattle.cells.specs.Meaning.Key.{keyOf}
 use Rattle.slots.specs.Meaning.Map.{head, wordsFor, usable}
 use Rattle.slots.specs.Meaning.Slot.{phaseAt, good, gone, SlotHolds}
 use Rattle.storage.specs.Meaning.Packed.{second}
 use Rattle.point_records.specs.declared.Record.{Record}
 use Rattle.point_records.specs.Meaning.Columns.{tagOf}
+use Rattle.point_records.specs.Meaning.Word.{trackerAt}
+use Rattle.point_records.proofs.laws.WordLaws.{tracker-same}
 use Rattle.point_records.specs.Meaning.Occupied.{Occupied}
 use Rattle.point_tables.specs.Meaning.Tables.{Tables, sizeOf, slotsOf}
 use Rattle.point_tables.specs.Meaning.Holds.{Holds, EntryHolds, Pending}
 use Rattle.point_tables.specs.Meaning.Decide.{holds, holds-says}
 use Rattle.records.specs.Inner.Alike.{Alike, withColumns}
-use Rattle.records.proofs.laws.Alike.{Tagged}
+use Rattle.records.proofs.laws.Alike.{Worded}
 
 pub alike-itself : (t : Tables) → Alike t t
 alike-itself t = record { of-nums = refl; of-reals = refl; of-ints = refl; each = λ s. refl; rest = refl }
@@ -56,8 +58,8 @@ module _ (t u : Tables) (like : Alike t u) where
         at-y = h .at-y ∙ ap (λ (r : Record). r .position .y) (like .each s);
       }
 
-  holds-there : Tagged (u .nums) → Holds t → Holds v
-  holds-there tagged h =
+  holds-there : Worded (u .nums) → Holds t → Holds v
+  holds-there worded h =
       record {
         sized = record {
           some = subst (λ (m : ℕ). 1 ≤ m) (like .of-nums) (h .sized .some);
@@ -78,7 +80,7 @@ module _ (t u : Tables) (like : Alike t u) where
           each = λ s l. subst (λ (r : Record). SlotHolds (r .version) (r .phase) (usable (t .map) s)) (like .each s) (h .slots .each s (slot-back l));
           past = λ s l m. h .slots .past s (subst (λ (k : ℕ). s < wordsFor k * 64) (sym (like .of-nums)) l) (subst (λ (k : ℕ). k ≤ s) (sym (like .of-nums)) m);
         };
-        records = λ s l p. record { tagged = tagged s; occupied = subst (λ (r : Record). Occupied (sizeOf t) r) (like .each s) (h .records s (slot-back l) (phase-is s ∙ p) .occupied) };
+        records = λ s l p. record { worded = worded s; occupied = subst (λ (r : Record). Occupied (sizeOf t) r) (like .each s) (h .records s (slot-back l) (phase-is s ∙ p) .occupied) };
         packed = h .packed;
         lists = record {
           each = λ j l. entry-there (h .lists .each j l);
@@ -88,11 +90,16 @@ module _ (t u : Tables) (like : Alike t u) where
         dirty = λ s l p r m e. h .dirty s (slot-back l) (pending-back p) r m (e ∙ ap (λ (x : Record). keyOf (x .cell)) (sym (like .each s)));
       }
 
-  pub holds-alike : Tagged (u .nums) → Holds t → Holds u
-  holds-alike tagged h = subst Holds (like .rest) (holds-there tagged h)
+  pub holds-alike : Worded (u .nums) → Holds t → Holds u
+  holds-alike worded h = subst Holds (like .rest) (holds-there worded h)
 
   pub both-hold : Holds t → Holds u → holds t ≡ holds u
   both-hold h k = holds-says t .no h ∙ sym (holds-says u .no k)
+
+  -- every slot has the same tracker
+  pub tracker-alike : (s : ℕ) → trackerAt (t .nums) s ≡ trackerAt (u .nums) s
+  tracker-alike s =
+      tracker-same (getD (t .nums) s []) (getD (u .nums) s []) (ap (λ (r : Record). r .tracker) (like .each s))
 
   pub good-alike : (slot version : ℕ) → good (t .nums) slot version ≡ good (u .nums) slot version
   unfolding good

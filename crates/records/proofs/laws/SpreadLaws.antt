@@ -33,7 +33,7 @@ gathered-laid (n ∷ ns) (q ∷ qs) (z ∷ zs) (r ∷ rs) = cc (record-back r, g
 pub spread-gathered : (t : Tables) (rs : List Record) → recordsIn (besides rs t) rs ≡ rs
 spread-gathered t rs = gathered-laid (t .nums) (t .reals) (t .ints) rs
 
--- ---- spread after gathered. A row is plain if it repeats what its record says: the tag is 0 to 3, and where nothing is pending the places
+-- ---- spread after gathered. A row is plain if it repeats what its record says: the word is of a tracker and a tag, and where nothing is pending the places
 -- of the pending position and cell repeat the recorded ones. Rows that were spread are plain.
 abbrev pub Plain : List ℕ → List Float → List ℤ → Type 0
 Plain n q z = (numsOf (recordOf n q z) ≡ n) × (realsOf (recordOf n q z) ≡ q) × (intsOf (recordOf n q z) ≡ z)

@@ -1,10 +1,10 @@
 -- `records::put_nums` meets its contract. Assumes nothing.
-use Rattle.basics.specs.Words.{ℕ, sym, ap, [], _∷_, set, set-out, needs}
+use Rattle.basics.specs.Words.{sym, ap, set, set-out, needs}
 use Rattle.records.proofs.put_nums.Statement.{statement}
 use Rattle.records.proofs.put_nums.Tie as tie
 
 returns : tie.Need-returns
-returns c = let a = c .before .before .args in ap (λ (t : ℕ). set (a .nums .now) (a .i) (a .r .version ∷ a .r .phase ∷ a .r .obj ∷ t ∷ [])) (c .tag-of .ensures)
+returns c = let a = c .before .before .args in ap (set (a .nums .now) (a .i)) (c .nums-of .ensures)
 
 returns-2 : tie.Need-returns-2
 returns-2 c = let a = c .before .args in sym (set-out (a .nums .now) (a .i) _ (c .if1 .left))

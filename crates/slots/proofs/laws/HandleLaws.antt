@@ -54,6 +54,14 @@ not-refused nums h = go (good nums (h .slot) (h .version))
     go true e = refl
     go false e = absurd (why-some nums h e)
 
+-- a handle that is refused is not good
+pub not-good : (nums : List (List ℕ)) (h : Handle) (a : ℕ) → a ≡ handleRefusal nums h → (a ≡ 0 → ⊥) → good nums (h .slot) (h .version) ≡ false
+not-good nums h a e n = go (good nums (h .slot) (h .version)) e
+  where
+    go : (b : Bool) → a ≡ orElse b (whyNotGood nums h) 0 → b ≡ false
+    go true q = absurd (n q)
+    go false q = refl
+
 -- ---- emptying
 pub emptied-not-good : (nums : List (List ℕ)) (s v : ℕ) → good (emptiedNums nums s) s v ≡ false
 unfolding good emptiedNums

@@ -1,5 +1,5 @@
 -- `trace_answers::answer` meets its contract, line by line. Assumes nothing.
-use Rattle.basics.specs.Words.{_≡_, ap, List, needs}
+use Rattle.basics.specs.Words.{ℕ, _≡_, ap, List, needs}
 use lib.Ieee.{Float}
 use Rattle.point_tables.specs.Meaning.Tables as points
 use Rattle.box_tables.specs.Meaning.Tables as boxes
@@ -18,8 +18,8 @@ module _ {t : points.Tables} {b : boxes.Tables} {p : List (List Float)} where
   points-searched : {f g : point.Searched} → f ≡ g → answered (f .tells) (state t b (f .outputs .handles) (f .outputs .places) p (f .outputs .objs)) ≡ answered (g .tells) (state t b (g .outputs .handles) (g .outputs .places) p (g .outputs .objs))
   points-searched e = ap (λ (f : point.Searched). answered (f .tells) (state t b (f .outputs .handles) (f .outputs .places) p (f .outputs .objs))) e
 
-  boxes-searched : {f g : box.Searched} → f ≡ g → answered (f .tells) (state t b (f .handles) p (f .corners) (f .objs)) ≡ answered (g .tells) (state t b (g .handles) p (g .corners) (g .objs))
-  boxes-searched e = ap (λ (f : box.Searched). answered (f .tells) (state t b (f .handles) p (f .corners) (f .objs))) e
+  boxes-searched : {o : List (List ℕ)} {f g : box.Searched} → f ≡ g → answered (f .tells) (state t b (f .handles) p (f .corners) o) ≡ answered (g .tells) (state t b (g .handles) p (g .corners) o)
+  boxes-searched {o} e = ap (λ (f : box.Searched). answered (f .tells) (state t b (f .handles) p (f .corners) o)) e
 
 pub answer-spec : {M : Type 1} → statement M
 unfolding byLine
@@ -68,8 +68,8 @@ answer-spec =
     (λ c. search needs)
     (λ c. search needs)
     (λ c.
-    let r = c .before .before .before .before in
-    let s = r .before .before .before .before .before .before .before .before .before .before .before .before .before .before .before .before .before .before in
+    let r = c .before .before .before in
+    let s = r .before .before .before .before .before .before .before .before .before .before .before .before .before .before .before .before .before in
     let found = rw (toZ-ofZ w32 (s .args .r .far) (in-range-fits (s .args .r .far) (s .pre .1))) at (r .search-points .ensures) in
     rw (r .before .before .before .before .before .before .before .before .before .before .before .before .before .line2 .given .1) (points-searched found))
     (λ c. search needs)
@@ -83,8 +83,7 @@ answer-spec =
     (λ c. search needs)
     (λ c. search needs)
     (λ c. search needs)
-    (λ c. search needs)
     (λ c.
-    let r = c .before .before .before .before in
-    rw (r .before .before .before .before .before .before .before .before .enum-told2 .given .1) (boxes-searched (r .search-boxes .ensures)))
+    let r = c .before .before in
+    rw (r .before .before .before .before .before .before .before .enum-told2 .given .1) (boxes-searched (r .search-boxes .ensures)))
     (λ c. rw (c .enum-told3 .given .1)))

@@ -29,10 +29,10 @@ module _ (g : State) (few : length (g .handles) ≤ 256) (few′ : length (g .co
       let d = length (g .objs) in
       let b = box-new.newOf (g .boxes) (r .n) .result in
       told-tells h p c d (point-new.newOf (g .points) (r .n) .result) (doneOr b) (told-tells h p c d b Done tt)
-  by-line (PointChange k) r = point-told.told-change (length (g .handles)) (length (g .places)) (length (g .corners)) (length (g .objs)) (g .points) k (r .h) (r .p) (r .n)
+  by-line (PointChange k) r = point-told.told-change (length (g .handles)) (length (g .places)) (length (g .corners)) (length (g .objs)) (g .points) k (r .h) (r .p) (r .n) (r .k)
   by-line (PointSearch s) r = point-told.told (length (g .corners)) (outputs (g .handles) (g .places) (g .objs)) few (g .points) s (r .p) (r .q) (r .far)
   by-line (BoxChange k) r = box-told.told-change (length (g .handles)) (length (g .places)) (length (g .corners)) (length (g .objs)) (g .boxes) k (r .h) (r .p) (r .q) (r .n)
-  by-line BoxSearch r = box-told.told (length (g .places)) (g .handles) (g .corners) (g .objs) few′ (g .boxes) (r .p) (r .q)
+  by-line BoxSearch r = box-told.told (length (g .places)) (length (g .objs)) (g .handles) (g .corners) few′ (g .boxes) (r .p) (r .q)
   by-line Unreadable r = tt
 
   pub told : (r : Request) → IsTold (answerOf g r)

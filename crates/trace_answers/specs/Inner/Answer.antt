@@ -13,7 +13,7 @@ use Rattle.trace_answers.specs.Meaning.Answer.{answerOf}
 abbrev pub Answers : Request → Said
     → Lent (List (List ℕ)) → Lent (List (List Float)) → Lent (List (List ℤ)) → Lent (List ℕ) → Lent (List (List ℕ)) → Lent (List (List Float)) → Lent (List (List ℕ))
     → Lent (List (List ℕ)) → Lent (List (List Float)) → Lent (List ℕ) → Lent (List (List ℕ))
-    → Lent (List (List ℕ)) → Lent (List (List Float)) → Lent (List (List Float)) → Lent (List ℕ) → Type 0
+    → Lent (List (List ℕ)) → Lent (List (List Float)) → Lent (List (List Float)) → Lent (List (List ℕ)) → Type 0
 Answers r said a b c d e f g h i j k handles places corners objs =
     answered said (state (Points.after a b c d e f g) (Boxes.after h i j k) (is handles) (is places) (is corners) (is objs))
     ≡ answerOf (state (Points.before a b c d e f g) (Boxes.before h i j k) (was handles) (was places) (was corners) (was objs)) r

@@ -22,7 +22,7 @@ toCell g size = let o = buildBoth (g .points) (g .boxes) size in answered (o .sa
 -- the points, and the outputs of their queries
 abbrev pub changePoints : State → line-of-points.PointChange → Request → Answered
 changePoints g k r =
-    let o = point-changes.changeOf (g .points) k (r .h) (r .p) (r .n) in
+    let o = point-changes.changeOf (g .points) k (r .h) (r .p) (r .n) (r .k) in
     answered (o .result) (state (o .after) (g .boxes) (g .handles) (g .places) (g .corners) (g .objs))
 
 abbrev pub searchPoints : State → search-of-points.PointSearch → Request → Answered
@@ -38,8 +38,8 @@ changeBoxes g k r =
 
 abbrev pub searchBoxes : State → Request → Answered
 searchBoxes g r =
-    let f = box-searches.boxSearchOf (g .boxes) (r .p) (r .q) (g .handles) (g .corners) (g .objs) in
-    answered (f .tells) (state (g .points) (g .boxes) (f .handles) (g .places) (f .corners) (f .objs))
+    let f = box-searches.boxSearchOf (g .boxes) (r .p) (r .q) (g .handles) (g .corners) in
+    answered (f .tells) (state (g .points) (g .boxes) (f .handles) (g .places) (f .corners) (g .objs))
 
 unfoldable pub byLine : State → Line → Request → Answered
 byLine g Cell r = toCell g (r .n)

@@ -11,9 +11,9 @@ pub record State : Type 0 where
   pub handles : List (List ℕ)
   pub places : List (List Float)
   pub corners : List (List Float)
-  pub objs : List ℕ
+  pub objs : List (List ℕ)
 
-abbrev pub state : point.Tables → box.Tables → List (List ℕ) → List (List Float) → List (List Float) → List ℕ → State
+abbrev pub state : point.Tables → box.Tables → List (List ℕ) → List (List Float) → List (List Float) → List (List ℕ) → State
 state p b h l c o = record { points = p; boxes = b; handles = h; places = l; corners = c; objs = o }
 
 pub record Answered : Type 0 where

@@ -8,9 +8,9 @@ search-boxes-spec =
     tie.close
     (tie.spec
     (λ c κs. search needs)
+    (λ c. search needs)
     (λ c κs. search needs)
     (λ c κs. search needs)
     (λ c. search needs)
     (λ c. search needs)
-    (λ c. search needs)
-    (λ c. rw (c .boxes .ensures, ← (c .before .before .before .before .before .before .before .before .before .corners .ensures), ← (c .before .before .before .before .before .query .ensures))))
+    (λ c. rw (c .boxes .ensures, ← (c .before .before .before .before .before .before .before .before .corners .ensures), ← (c .before .before .before .before .query .ensures))))

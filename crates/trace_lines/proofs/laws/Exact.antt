@@ -132,15 +132,17 @@ module _ (k : Asks) where
   exact-arguments =
       exact-both
       (exact-both
+      (exact-both
       (exact-both (exact-if (k .handle) nobody exact-handle) (exact-both (exact-if (ltb 0 (k .places)) noSpot exact-spot) (exact-if (ltb 1 (k .places)) noSpot exact-spot)))
       (exact-if (k .radius) (pos 0) exact-count))
-      (exact-if (k .number) 0 exact-number)
+      (exact-if (k .number) 0 exact-number))
+      (exact-if (k .tracker) 0 exact-number)
 
   -- ---- a request of such arguments
   pub arguments-read : (r : Request) → r .line ≡ k .line → ArgumentsInRange k r → whole (argumentsOf k (argumentTexts k r)) ≡ r
   unfolding argumentsOf
   arguments-read r e h =
-      let a : Arguments = (((r .h, (r .p, r .q)), r .far), r .n) in
+      let a : Arguments = ((((r .h, (r .p, r .q)), r .far), r .n), r .k) in
       ap (λ (u : Taken Arguments). whole (bind u (λ b gs. taken (request (k .line) b) gs))) (ap (takeArguments k) (sym (append-nil (texts a))) ∙ exact-arguments .reads a [] h)
       ∙ ap (λ (l : Line). request l a) (sym e)
 

@@ -45,7 +45,7 @@ module _ (word : List ℕ) (r : Request) (h : Proper word r) (n : r .line ≡ Un
   known e = n (h .0 ∙ e)
 
   -- no text is too long
-  pub text-short : length (requestText word r) ≤ 97
+  pub text-short : length (requestText word r) ≤ 108
   unfolding requestText
   text-short = omega (arith, joined-length word (argumentTexts (askedBy word) r), is-word word known .short, arguments-size (askedBy word) r (h .1))
 

@@ -46,7 +46,9 @@ arguments-clear k r =
     let n = only (k .number) (number (r .n)) in
     let pq = all-clear-append p q (only-clear (ltb 0 (k .places)) (spot (r .p)) (spot-clear (r .p))) (only-clear (ltb 1 (k .places)) (spot (r .q)) (spot-clear (r .q))) in
     let hpq = all-clear-append h (p ++ q) (only-clear (k .handle) (handle (r .h)) (handle-clear (r .h))) pq in
-    all-clear-append ((h ++ (p ++ q)) ++ far) n (all-clear-append (h ++ (p ++ q)) far hpq (only-clear (k .radius) (count (r .far)) (signed-clear (r .far), tt))) (only-clear (k .number) (number (r .n)) (decimal-clear (r .n), tt))
+    let hpqf = all-clear-append (h ++ (p ++ q)) far hpq (only-clear (k .radius) (count (r .far)) (signed-clear (r .far), tt)) in
+    let hpqfn = all-clear-append ((h ++ (p ++ q)) ++ far) n hpqf (only-clear (k .number) (number (r .n)) (decimal-clear (r .n), tt)) in
+    all-clear-append (((h ++ (p ++ q)) ++ far) ++ n) (only (k .tracker) (number (r .k))) hpqfn (only-clear (k .tracker) (number (r .k)) (decimal-clear (r .k), tt))
 
 -- ---- how long
 count-length : (k : ℤ) → CountInRange k → length (signedText k) ≤ 11
@@ -70,11 +72,12 @@ only-size : {A : Type 0} (s : A → List (List ℕ)) (R : A → Type 0) {most : 
 only-size s R each true none a h = each a h
 only-size s R each false none a h = omega arith
 
-pub arguments-size : (k : Asks) (r : Request) → ArgumentsInRange k r → size (argumentTexts k r) ≤ 93
+pub arguments-size : (k : Asks) (r : Request) → ArgumentsInRange k r → size (argumentTexts k r) ≤ 104
 arguments-size k r i =
     let h = only (k .handle) (handle (r .h)) in
     let p = only (ltb 0 (k .places)) (spot (r .p)) in
     let q = only (ltb 1 (k .places)) (spot (r .q)) in
     let far = only (k .radius) (count (r .far)) in
     let n = only (k .number) (number (r .n)) in
-    omega (arith, size-append ((h ++ (p ++ q)) ++ far) n, size-append (h ++ (p ++ q)) far, size-append h (p ++ q), size-append p q, only-size handle HandleInRange handle-size (k .handle) nobody (r .h) (i .0 .0 .0), only-size spot SpotInRange spot-size (ltb 0 (k .places)) noSpot (r .p) (i .0 .0 .1 .0), only-size spot SpotInRange spot-size (ltb 1 (k .places)) noSpot (r .q) (i .0 .0 .1 .1), only-size count CountInRange count-size (k .radius) (pos 0) (r .far) (i .0 .1), only-size number NumberInRange number-size (k .number) 0 (r .n) (i .1))
+    let t = only (k .tracker) (number (r .k)) in
+    omega (arith, size-append (((h ++ (p ++ q)) ++ far) ++ n) t, size-append ((h ++ (p ++ q)) ++ far) n, size-append (h ++ (p ++ q)) far, size-append h (p ++ q), size-append p q, only-size handle HandleInRange handle-size (k .handle) nobody (r .h) (i .0 .0 .0 .0), only-size spot SpotInRange spot-size (ltb 0 (k .places)) noSpot (r .p) (i .0 .0 .0 .1 .0), only-size spot SpotInRange spot-size (ltb 1 (k .places)) noSpot (r .q) (i .0 .0 .0 .1 .1), only-size count CountInRange count-size (k .radius) (pos 0) (r .far) (i .0 .0 .1), only-size number NumberInRange number-size (k .number) 0 (r .n) (i .0 .1), only-size number NumberInRange number-size (k .tracker) 0 (r .k) (i .1))

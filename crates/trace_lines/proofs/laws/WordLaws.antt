@@ -53,7 +53,7 @@ pub record Word (w : List ℕ) : Type 0 where
 
 pub is-word : (w : List ℕ) → (askedBy w .line ≡ Unreadable → ⊥) → Word w
 unfolding askedBy
-is-word w n = go (clear w) (leb (length w) 4) refl refl (found-good table w (asks Unreadable false 0 false false) refl all-good n)
+is-word w n = go (clear w) (leb (length w) 4) refl refl (found-good table w (asks Unreadable false 0 false false false) refl all-good n)
   where
     go : (s t : Bool) → clear w ≡ s → leb (length w) 4 ≡ t → (s && t) ≡ true → Word w
     go true true c l e = record { no-comma = c; short = leb-true (length w) 4 l }

@@ -28,7 +28,9 @@ only asked fs = pick asked fs []
 
 abbrev pub argumentTexts : Asks → Request → List (List ℕ)
 argumentTexts k r =
-    ((only (k .handle) (handle (r .h)) ++ (only (ltb 0 (k .places)) (spot (r .p)) ++ only (ltb 1 (k .places)) (spot (r .q)))) ++ only (k .radius) (count (r .far))) ++ only (k .number) (number (r .n))
+    (((only (k .handle) (handle (r .h)) ++ (only (ltb 0 (k .places)) (spot (r .p)) ++ only (ltb 1 (k .places)) (spot (r .q)))) ++ only (k .radius) (count (r .far)))
+    ++ only (k .number) (number (r .n)))
+    ++ only (k .tracker) (number (r .k))
 
 -- with this word
 unfoldable pub requestText : List ℕ → Request → List ℕ
@@ -53,7 +55,9 @@ AsAsked false R none a = a ≡ none
 
 abbrev pub ArgumentsInRange : Asks → Request → Type 0
 ArgumentsInRange k r =
-    ((AsAsked (k .handle) HandleInRange nobody (r .h) × (AsAsked (ltb 0 (k .places)) SpotInRange noSpot (r .p) × AsAsked (ltb 1 (k .places)) SpotInRange noSpot (r .q))) × AsAsked (k .radius) CountInRange (pos 0) (r .far)) × AsAsked (k .number) NumberInRange 0 (r .n)
+    (((AsAsked (k .handle) HandleInRange nobody (r .h) × (AsAsked (ltb 0 (k .places)) SpotInRange noSpot (r .p) × AsAsked (ltb 1 (k .places)) SpotInRange noSpot (r .q))) × AsAsked (k .radius) CountInRange (pos 0) (r .far))
+    × AsAsked (k .number) NumberInRange 0 (r .n))
+    × AsAsked (k .tracker) NumberInRange 0 (r .k)
 
 -- a request of this word, with its numbers in range
 abbrev pub Proper : List ℕ → Request → Type 0

@@ -13,20 +13,23 @@ use Rattle.trace_lines.specs.Meaning.Words.{askedBy}
 use Rattle.trace_lines.specs.Meaning.Taken.{Taken, taken, missing, Taker, both, made, takeNumber, takeCount, takeHandle, ifAsked, nobody, noSpot}
 use Rattle.trace_lines.specs.Meaning.Taken.{takePlaces}
 
--- a handle, two places, a radius and a number
+-- a handle, two places, a radius, a number and a tracker
 abbrev pub Arguments : Type 0
-Arguments = ((Handle × (Spot × Spot)) × ℤ) × ℕ
+Arguments = (((Handle × (Spot × Spot)) × ℤ) × ℕ) × ℕ
 
 abbrev pub request : Line → Arguments → Request
-request line a = record { line = line; h = a .0 .0 .0; p = a .0 .0 .1 .0; q = a .0 .0 .1 .1; far = a .0 .1; n = a .1 }
+request line a =
+    record { line = line; h = a .0 .0 .0 .0; p = a .0 .0 .0 .1 .0; q = a .0 .0 .0 .1 .1; far = a .0 .0 .1; n = a .0 .1; k = a .1 }
 
 abbrev pub unreadable : Request
-unreadable = request Unreadable (((nobody, (noSpot, noSpot)), pos 0), 0)
+unreadable = request Unreadable ((((nobody, (noSpot, noSpot)), pos 0), 0), 0)
 
 -- what is asked for, in this order
 abbrev pub takeArguments : Asks → Taker Arguments
 takeArguments k =
-    both (both (both (ifAsked (k .handle) nobody takeHandle) (takePlaces (k .places))) (ifAsked (k .radius) (pos 0) takeCount)) (ifAsked (k .number) 0 takeNumber)
+    both
+    (both (both (both (ifAsked (k .handle) nobody takeHandle) (takePlaces (k .places))) (ifAsked (k .radius) (pos 0) takeCount)) (ifAsked (k .number) 0 takeNumber))
+    (ifAsked (k .tracker) 0 takeNumber)
 
 unfoldable pub argumentsOf : Asks → Taker Request
 argumentsOf k = made (request (k .line)) (takeArguments k)

@@ -21,19 +21,19 @@ find-spec =
     (λ c. search needs)
     (λ c. search needs)
     (λ c. search needs)
-    (λ c. let r = c .before .before .before .before in rw (r .before .before .before .before .enum-told .given .1) (r .query-around .ensures))
+    (λ c. let r = c .before .before .before in rw (r .before .before .before .before .enum-told .given .1) (r .query-around .ensures))
     (λ c. search needs)
     (λ c. search needs)
     (λ c. search needs)
-    (λ c. let r = c .before .before .before .before in rw (r .before .before .before .before .enum-told2 .given .1) (r .query-aabb .ensures))
+    (λ c. let r = c .before .before .before in rw (r .before .before .before .before .enum-told2 .given .1) (r .query-aabb .ensures))
     (λ c. search needs)
     (λ c. search needs)
     (λ c. search needs)
-    (λ c. let r = c .before .before .before .before in rw (r .before .before .before .before .enum-told3 .given .1) (r .query .ensures))
+    (λ c. let r = c .before .before .before in rw (r .before .before .before .before .enum-told3 .given .1) (r .query .ensures))
     (λ c. search needs)
     (λ c. search needs)
     (λ c. search needs)
     (λ c.
-    let r = c .before .before .before .before in
+    let r = c .before .before .before in
     let n = r .before .before .before .before in
     rw (n .before .enum-told4 .given .1, ← (n .nearest .ensures)) (r .near .ensures)))

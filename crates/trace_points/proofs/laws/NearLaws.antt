@@ -2,7 +2,7 @@
 use Rattle.basics.specs.Words.{ℕ, min, _<_, _≡_, refl, sym, Bool, true, false, _||_, [], length, set, eqb, arith, eq-eqb, eqb-false, eqb-true, ne-eqb}
 use Rattle.basics.specs.Meaning.Refusals.{pick}
 use Rattle.storage.proofs.laws.WrittenLaws.{written-next}
-use Rattle.point_search.specs.Meaning.Searches.{handleRow, placeRow, Outputs, outputs, room, findings}
+use Rattle.point_search.specs.Meaning.Searches.{handleRow, placeRow, objRow, Outputs, outputs, room, findings}
 use Rattle.replies.specs.declared.Count.{Count}
 use Rattle.replies.specs.declared.Nearest.{Nearest}
 use Rattle.replies.specs.Meaning.Replies.{count}
@@ -39,12 +39,12 @@ module _ (r : Nearest) (o : Outputs) where
   too-short one h = rw (ne-eqb (r .count) 0 one, h)
 
   module _ (has : eqb (room o) 0 ≡ false) where
-    pub one-put : (r .count ≡ 0 → ⊥) → findings said (outputs (set (o .handles) 0 (handleRow (findingIn r))) (set (o .places) 0 (placeRow (findingIn r))) (set (o .objs) 0 (r .obj))) ≡ nearestFinds r o
+    pub one-put : (r .count ≡ 0 → ⊥) → findings said (outputs (set (o .handles) 0 (handleRow (findingIn r))) (set (o .places) 0 (placeRow (findingIn r))) (set (o .objs) 0 (objRow (findingIn r)))) ≡ nearestFinds r o
     unfolding nearestFinds
     one-put one =
         let f = findingIn r in
         let p = placed o has in
-        rw (ne-eqb (r .count) 0 one, has, written-next (handleRow f) [] (o .handles) (handleRow f) (p .0), written-next (placeRow f) [] (o .places) (placeRow f) (p .1), written-next (f .obj) [] (o .objs) (f .obj) (p .2))
+        rw (ne-eqb (r .count) 0 one, has, written-next (handleRow f) [] (o .handles) (handleRow f) (p .0), written-next (placeRow f) [] (o .places) (placeRow f) (p .1), written-next (objRow f) [] (o .objs) (objRow f) (p .2))
 
     -- 9 is said of outputs without a place alone
     pub says-nearest : nearestFinds r o .returned ≡ said

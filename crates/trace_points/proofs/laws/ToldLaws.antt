@@ -53,7 +53,7 @@ module _ (boxes : ℕ) (o : searches.Outputs) (few : length (o .handles) ≤ 256
       let d = length (o .objs) in
       let i : length es ≤ length (o .handles) = omega (arith, min-le-left (length (o .handles)) (min p d)) in
       let r : length es ≤ min p d = omega (arith, min-le-right (length (o .handles)) (min p d)) in
-      (omega arith, in-column es (λ e. searches.handleRow (report e)) (o .handles) i, in-column es (λ e. searches.placeRow (report e)) (o .places) (omega (arith, min-le-left p d)), in-column es (λ e. report e .obj) (o .objs) (omega (arith, min-le-right p d)))
+      (omega arith, in-column es (λ e. searches.handleRow (report e)) (o .handles) i, in-column es (λ e. searches.placeRow (report e)) (o .places) (omega (arith, min-le-left p d)), in-column es (λ e. searches.objRow (report e)) (o .objs) (omega (arith, min-le-right p d)))
 
   module _ (t : Tables) (ok : Bool) (ll ur : Position) (test : Test) where
     told-search : IsTold boxes (pointSearchSaid (searches.searchOf t ok ll ur test o))
@@ -98,10 +98,10 @@ module _ (boxes : ℕ) (o : searches.Outputs) (few : length (o .handles) ≤ 256
 
 -- a change has no findings to tell
 module _ (handles places boxes objs : ℕ) where
-  pub told-change : (t : Tables) (k : PointChange) (h : Handle) (p : Spot) (n : ℕ) → Told (changeOf t k h p n .result) handles places boxes objs
+  pub told-change : (t : Tables) (c : PointChange) (h : Handle) (p : Spot) (n k : ℕ) → Told (changeOf t c h p n k .result) handles places boxes objs
   unfolding changeOf
-  told-change t Ins h p n = let r = insertOf t (placeOf p) n .result in told-tells handles places boxes objs (r .answer) (Two (r .handle .slot) (r .handle .version)) tt
-  told-change t Pos h p n = let r = setPositionOf t h (placeOf p) .result in told-tells handles places boxes objs (r .answer) Done tt
-  told-change t Rem h p n = let r = removeOf t h .result in told-tells handles places boxes objs (r .answer) (One (r .obj)) tt
-  told-change t Now h p n = let r = removeMaintainOf t h .result in told-tells handles places boxes objs (r .answer) (One (r .obj)) tt
-  told-change t Mnt h p n = let r = maintainOf t .result in told-tells handles places boxes objs (r .answer) (Two (r .moved) (r .removed)) tt
+  told-change t Ins h p n k = let r = insertOf t (placeOf p) n k .result in told-tells handles places boxes objs (r .answer) (Two (r .handle .slot) (r .handle .version)) tt
+  told-change t Pos h p n k = let r = setPositionOf t h (placeOf p) k .result in told-tells handles places boxes objs (r .answer) Done tt
+  told-change t Rem h p n k = let r = removeOf t h k .result in told-tells handles places boxes objs (r .answer) (One (r .obj)) tt
+  told-change t Now h p n k = let r = removeMaintainOf t h k .result in told-tells handles places boxes objs (r .answer) (One (r .obj)) tt
+  told-change t Mnt h p n k = let r = maintainOf t .result in told-tells handles places boxes objs (r .answer) (Two (r .moved) (r .removed)) tt

@@ -19,6 +19,6 @@ search-points-spec =
     (λ c. search needs)
     (λ c. search needs)
     (λ c.
-    let p = c .before .before .before .before .before .before .before .before .before .before .before in
-    let far = c .before .before .before .before .before .before .before .before .before .from-sixteenths .ensures ∙ ap sixteenth (toZ-ofZ w32 (p .before .before .before .args .far) (p .before .before .before .fits .far)) in
-    rw (c .points .ensures, ← (p .place .ensures), ← (c .before .before .before .before .before .before .before .before .before .before .place2 .ensures), ← far, ← (c .before .before .before .before .before .find .ensures))))
+    let p = c .before .before .before .before .before .before .before .before .before .before in
+    let far = c .before .before .before .before .before .before .before .before .from-sixteenths .ensures ∙ ap sixteenth (toZ-ofZ w32 (p .before .before .args .far) (p .before .before .fits .far)) in
+    rw (c .points .ensures, ← (p .place .ensures), ← (c .before .before .before .before .before .before .before .before .before .place2 .ensures), ← far, ← (c .before .before .before .before .find .ensures))))

@@ -1,4 +1,5 @@
--- The lines that change the points: each is a call of the grid, and says its answer and what it returned. Assumes nothing.
+-- The lines that change the points: each is a call of the grid, and says its answer and what it returned; k is the number of the tracker that
+-- makes the call. Assumes nothing.
 use Rattle.basics.specs.Words.{ℕ}
 use Rattle.slots.specs.declared.Handle.{Handle}
 use Rattle.point_tables.specs.Meaning.Tables.{Tables}
@@ -19,28 +20,28 @@ abbrev pub pointCallSaid : {R : Type 0} → (R → Said) → Outcome R → Outco
 pointCallSaid tell o = outcome (tell (o .result)) (o .after)
 
 -- `ins`: slot and version
-abbrev pub insertedOf : Tables → Spot → ℕ → Outcome Said
-insertedOf t p d = pointCallSaid (λ r. twoOr (r .answer) (r .handle .slot) (r .handle .version)) (insertOf t (placeOf p) d)
+abbrev pub insertedOf : Tables → Spot → ℕ → ℕ → Outcome Said
+insertedOf t p d k = pointCallSaid (λ r. twoOr (r .answer) (r .handle .slot) (r .handle .version)) (insertOf t (placeOf p) d k)
 
 -- `pos`: nothing more
-abbrev pub movedOf : Tables → Handle → Spot → Outcome Said
-movedOf t h p = pointCallSaid (λ r. doneOr (r .answer)) (setPositionOf t h (placeOf p))
+abbrev pub movedOf : Tables → Handle → Spot → ℕ → Outcome Said
+movedOf t h p k = pointCallSaid (λ r. doneOr (r .answer)) (setPositionOf t h (placeOf p) k)
 
 -- `rem` and `now`: the data
-abbrev pub markedOf : Tables → Handle → Outcome Said
-markedOf t h = pointCallSaid (λ r. oneOr (r .answer) (r .obj)) (removeOf t h)
+abbrev pub markedOf : Tables → Handle → ℕ → Outcome Said
+markedOf t h k = pointCallSaid (λ r. oneOr (r .answer) (r .obj)) (removeOf t h k)
 
-abbrev pub takenOf : Tables → Handle → Outcome Said
-takenOf t h = pointCallSaid (λ r. oneOr (r .answer) (r .obj)) (removeMaintainOf t h)
+abbrev pub takenOf : Tables → Handle → ℕ → Outcome Said
+takenOf t h k = pointCallSaid (λ r. oneOr (r .answer) (r .obj)) (removeMaintainOf t h k)
 
 -- `mnt`: how many moved, and how many were removed
 abbrev pub maintainedOf : Tables → Outcome Said
 maintainedOf t = pointCallSaid (λ r. twoOr (r .answer) (r .moved) (r .removed)) (maintainOf t)
 
 -- the line, with what its record says
-unfoldable pub changeOf : Tables → PointChange → Handle → Spot → ℕ → Outcome Said
-changeOf t Ins h p n = insertedOf t p n
-changeOf t Pos h p n = movedOf t h p
-changeOf t Rem h p n = markedOf t h
-changeOf t Now h p n = takenOf t h
-changeOf t Mnt h p n = maintainedOf t
+unfoldable pub changeOf : Tables → PointChange → Handle → Spot → ℕ → ℕ → Outcome Said
+changeOf t Ins h p n k = insertedOf t p n k
+changeOf t Pos h p n k = movedOf t h p k
+changeOf t Rem h p n k = markedOf t h k
+changeOf t Now h p n k = takenOf t h k
+changeOf t Mnt h p n k = maintainedOf t

@@ -31,7 +31,7 @@ pointSearchSaid f = searched (pointsOr (f .returned .answer) (f .returned .count
 
 -- ---- `nearest` as a search that finds at most one
 abbrev pub findingIn : Nearest → Finding
-findingIn r = record { handle = r .handle; position = r .position; obj = r .obj }
+findingIn r = record { handle = r .handle; position = r .position; obj = r .obj; tracker = r .tracker }
 
 -- its answer and its count, and the finding at place 0 of the outputs; as for every search, an output that is too short is 9 and the count
 unfoldable pub nearestFinds : Nearest → Outputs → Findings

@@ -21,7 +21,7 @@ inserted : recordText (Two 0 1) [] [] [] [] ≡ 48 ∷ 44 ∷ 48 ∷ 44 ∷ 49 �
 unfolding recordText decimal
 inserted = refl
 
--- 0,1,0,1,-160,0,7
-found : recordText (Points 1) ((0 ∷ 1 ∷ []) ∷ []) ((sixteenth (negsuc 159) ∷ sixteenth (pos 0) ∷ []) ∷ []) [] (7 ∷ []) ≡ 48 ∷ 44 ∷ 49 ∷ 44 ∷ 48 ∷ 44 ∷ 49 ∷ 44 ∷ 45 ∷ 49 ∷ 54 ∷ 48 ∷ 44 ∷ 48 ∷ 44 ∷ 55 ∷ 13 ∷ 10 ∷ []
+-- 0,1,0,1,-160,0,7,3
+found : recordText (Points 1) ((0 ∷ 1 ∷ []) ∷ []) ((sixteenth (negsuc 159) ∷ sixteenth (pos 0) ∷ []) ∷ []) [] ((7 ∷ 3 ∷ []) ∷ []) ≡ 48 ∷ 44 ∷ 49 ∷ 44 ∷ 48 ∷ 44 ∷ 49 ∷ 44 ∷ 45 ∷ 49 ∷ 54 ∷ 48 ∷ 44 ∷ 48 ∷ 44 ∷ 55 ∷ 44 ∷ 51 ∷ 13 ∷ 10 ∷ []
 unfolding recordText signedText
 found = simp (count-back (negsuc 159) (omega arith), count-back (pos 0) (omega arith))

@@ -7,7 +7,7 @@ use Rattle.trace_printing.specs.declared.Said.the-variants.{Refused, Don
 use Rattle.trace_printing.specs.Meaning.Said.{numberField, pointsText, boxesText, saidText}
 use Rattle.trace_printing.specs.Inner.Said.{Told}
 
-module _ {said : Said} (handles : List (List ℕ)) (places boxes : List (List Float)) (objs : List ℕ) where
+module _ {said : Said} (handles : List (List ℕ)) (places boxes : List (List Float)) (objs : List (List ℕ)) where
   text-of : {s : Said} → said ≡ s → saidText s handles places boxes objs ≡ saidText said handles places boxes objs
   text-of e = ap (λ (s : Said). saidText s handles places boxes objs) (sym e)
 

@@ -7,7 +7,7 @@ use Rattle.trace_printing.proofs.put_box.Tie as tie
 returns : tie.Need-returns
 returns c =
     let p = c .before .before .before .before .before .before in
-    puts-then (p .put-handle .ensures) (omega arith) (c .before .before .put-corners .ensures)
+    puts-then (p .put-pair .ensures) (omega arith) (c .before .before .put-corners .ensures)
 
 pub put-box-spec : {M : Type 1} → statement M
 put-box-spec = tie.close (tie.spec (λ c κs. search needs) (λ c κs. search needs) (λ c. search needs) returns)

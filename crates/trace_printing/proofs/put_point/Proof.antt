@@ -8,7 +8,7 @@ returns : tie.Need-returns
 returns c =
     let p = c .before .before .before .before .before .before in
     let h = p .before .before .before .before in
-    puts-then (h .put-handle .ensures) (omega arith) (puts-then (p .put-corner .ensures) (omega arith) (c .before .before .put-number .ensures))
+    puts-then (h .put-pair .ensures) (omega arith) (puts-then (p .put-corner .ensures) (omega arith) (c .before .before .put-pair2 .ensures))
 
 pub put-point-spec : {M : Type 1} → statement M
 put-point-spec =

@@ -7,7 +7,7 @@ use Rattle.trace_printing.proofs.put_points.Statement.{statement}
 use Rattle.trace_printing.proofs.put_points.Tie as tie
 
 abbrev Inv-loop : tie.InvT-loop
-Inv-loop out₀ at handles places objs n next₀ i₀ out next i = (i ≤ n) × Puts out₀ at out next (pointsText handles places objs i) (i * 57)
+Inv-loop out₀ at handles places objs n next₀ i₀ out next i = (i ≤ n) × Puts out₀ at out next (pointsText handles places objs i) (i * 68)
 
 abbrev μ-loop : tie.MeasureT-loop
 μ-loop out₀ at handles places objs n next₀ i₀ out next i = n - i
@@ -20,13 +20,13 @@ put-point-requires c κs =
 loop-again : tie.Need-loop-again Inv-loop μ-loop
 loop-again c =
     let l = c .before .before .before .before .before .before .before .before in
-    let s = l .before .before .before in
+    let s = l .before .before in
     (omega arith, puts-as (puts-then (l .loop .inv .1) (omega arith) (c .before .before .put-point .ensures)) (ap (pointsText (s .args .handles .now) (s .args .places .now) (s .args .objs .now)) (sym (add-one (l .loop .i)))) (omega arith))
 
 returns : tie.Need-returns Inv-loop μ-loop
 returns c =
     let l = c .before in
-    let s = l .before .before .before in
+    let s = l .before .before in
     let e : l .loop .i ≡ s .args .n = omega arith in
     puts-as (l .loop .inv .1) (ap (pointsText (s .args .handles .now) (s .args .places .now) (s .args .objs .now)) e) (omega (arith, e))
 

@@ -1,5 +1,5 @@
 -- The record that tells an answer: a refusal is its number alone; after 0 come the numbers that there are to tell, and for a query its
--- count and then slot, version, coordinates and data of each finding of points; slot, version and corners of boxes. Assumes nothing.
+-- count and then slot, version, coordinates, data and tracker of each finding of points; slot, version and corners of boxes. Assumes nothing.
 -- Here: what only inner contracts cite.
 use Rattle.basics.specs.Words.{ℕ, _-_, _≤_}
 use Rattle.trace_printing.specs.declared.Said.{Said}

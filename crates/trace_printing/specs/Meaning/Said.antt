@@ -1,5 +1,5 @@
 -- The record that tells an answer: a refusal is its number alone; after 0 come the numbers that there are to tell, and for a query its
--- count and then slot, version, coordinates and data of each finding of points; slot, version and corners of boxes. Assumes nothing.
+-- count and then slot, version, coordinates, data and tracker of each finding of points; slot, version and corners of boxes. Assumes nothing.
 use Rattle.basics.specs.Words.{ℕ, zero, suc, List, [], _∷_, _++_, getD}
 use lib.Ieee.{Float, nan}
 use Rattle.trace_decimals.specs.Meaning.Text.{decimal, signedText}
@@ -15,8 +15,9 @@ abbrev pub coordinateField : Float → List ℕ
 coordinateField x = 44 ∷ signedText (sixteenthsOf x)
 
 -- ---- findings
-abbrev pub handleText : List ℕ → List ℕ
-handleText h = numberField (getD h 0 0) ++ numberField (getD h 1 0)
+-- slot and version, or data and tracker
+abbrev pub pairText : List ℕ → List ℕ
+pairText h = numberField (getD h 0 0) ++ numberField (getD h 1 0)
 
 abbrev pub placeText : List Float → List ℕ
 placeText p = coordinateField (getD p 0 nan) ++ coordinateField (getD p 1 nan)
@@ -25,16 +26,16 @@ abbrev pub cornersText : List Float → List ℕ
 cornersText b = placeText b ++ (coordinateField (getD b 2 nan) ++ coordinateField (getD b 3 nan))
 
 -- the first n findings of the point queries, and of the box query
-abbrev pub pointsText : List (List ℕ) → List (List Float) → List ℕ → ℕ → List ℕ
+abbrev pub pointsText : List (List ℕ) → List (List Float) → List (List ℕ) → ℕ → List ℕ
 pointsText handles places objs zero = []
-pointsText handles places objs (suc n) = pointsText handles places objs n ++ (handleText (getD handles n []) ++ (placeText (getD places n []) ++ numberField (getD objs n 0)))
+pointsText handles places objs (suc n) = pointsText handles places objs n ++ (pairText (getD handles n []) ++ (placeText (getD places n []) ++ pairText (getD objs n [])))
 
 abbrev pub boxesText : List (List ℕ) → List (List Float) → ℕ → List ℕ
 boxesText handles boxes zero = []
-boxesText handles boxes (suc n) = boxesText handles boxes n ++ (handleText (getD handles n []) ++ cornersText (getD boxes n []))
+boxesText handles boxes (suc n) = boxesText handles boxes n ++ (pairText (getD handles n []) ++ cornersText (getD boxes n []))
 
 -- ---- the whole record
-unfoldable pub saidText : Said → List (List ℕ) → List (List Float) → List (List Float) → List ℕ → List ℕ
+unfoldable pub saidText : Said → List (List ℕ) → List (List Float) → List (List Float) → List (List ℕ) → List ℕ
 saidText (Refused a) handles places boxes objs = decimal a
 saidText Done handles places boxes objs = decimal 0
 saidText (One x) handles places boxes objs = decimal 0 ++ numberField x
@@ -45,10 +46,10 @@ saidText (Boxes n) handles places boxes objs = decimal 0 ++ (numberField n ++ bo
 abbrev pub crlf : List ℕ
 crlf = 13 ∷ 10 ∷ []
 
-unfoldable pub recordText : Said → List (List ℕ) → List (List Float) → List (List Float) → List ℕ → List ℕ
+unfoldable pub recordText : Said → List (List ℕ) → List (List Float) → List (List Float) → List (List ℕ) → List ℕ
 unfolding saidText
 recordText said handles places boxes objs = saidText said handles places boxes objs ++ crlf
 
--- no record is longer: 256 findings with five numbers each need 14,615 bytes at most, and with one more number each 17,431
+-- no record is longer: 256 findings with six numbers each need 17,431 bytes at most
 abbrev pub longest : ℕ
 longest = 18000

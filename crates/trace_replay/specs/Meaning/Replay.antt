@@ -23,10 +23,10 @@ grids p b = record { points = p; boxes = b }
 abbrev pub naught : Float
 naught = fin false 0 (pos 0)
 
--- the outputs of the queries before a request: 256 findings of points, 64 of boxes; the data of both share one
+-- the outputs of the queries before a request: 256 findings of points, with data and tracker, and 64 of boxes
 abbrev pub freshState : Grids → State
 freshState g =
-    state (g .points) (g .boxes) (replicate 256 (replicate 2 0)) (replicate 256 (replicate 2 naught)) (replicate 64 (replicate 4 naught)) (replicate 256 0)
+    state (g .points) (g .boxes) (replicate 256 (replicate 2 0)) (replicate 256 (replicate 2 naught)) (replicate 64 (replicate 4 naught)) (replicate 256 (replicate 2 0))
 
 -- what the grids answer to the bytes of a record
 unfoldable pub answerTo : Grids → List ℕ → Answered

@@ -23,7 +23,7 @@ zero-in-range = omega arith
 asked-in-range : (k : Asks) (r : Request) → ArgumentsInRange k r → InRange r
 asked-in-range k r h =
     let o : SpotInRange noSpot = (zero-in-range, zero-in-range) in
-    ((as-asked SpotInRange (ltb 0 (k .places)) noSpot (r .p) o (h .0 .0 .1 .0), as-asked SpotInRange (ltb 1 (k .places)) noSpot (r .q) o (h .0 .0 .1 .1)), as-asked CountInRange (k .radius) (pos 0) (r .far) zero-in-range (h .0 .1))
+    ((as-asked SpotInRange (ltb 0 (k .places)) noSpot (r .p) o (h .0 .0 .0 .1 .0), as-asked SpotInRange (ltb 1 (k .places)) noSpot (r .q) o (h .0 .0 .0 .1 .1)), as-asked CountInRange (k .radius) (pos 0) (r .far) zero-in-range (h .0 .0 .1))
 
 -- whatever is read is in range
 pub read-in-range : (bytes : List ℕ) → InRange (requestOf bytes)

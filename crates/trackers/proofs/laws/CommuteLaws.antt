@@ -1,16 +1,15 @@
--- Two deferred calls with different handles: neither changes what the other replies, and the tables are the same in either order.
--- Assumes nothing.
-use Rattle.basics.specs.Words.{ℕ, _<_, _≡_, refl, sym, ap, ap₂, _∙_, Bool, true, false, not, List, ⊎-elim, getD, eqb, arith}
+-- Two deferred calls of different trackers, with any handles: neither changes what the other replies, and the tables are the same in either
+-- order. An accepted call's slot has its tracker's number, so that two accepted calls have two slots. Assumes nothing.
+use Rattle.basics.specs.Words.{ℕ, _≡_, refl, sym, ap, _∙_, false, not, List, ⊎-elim, getD, eqb, arith, ne-eqb}
 use Rattle.basics.proofs.laws.Says.{d-eq}
 use Rattle.basics.specs.Meaning.Refusals.{orElse, pick}
 use Rattle.geometry.specs.Meaning.Domain.{positionInDomain}
-use Rattle.slots.specs.declared.Handle.{Handle}
-use Rattle.slots.specs.Meaning.Slot.{versionAt, good, gone, whyNotGood}
-use Rattle.slots.proofs.laws.HandleLaws.{why-some}
 use Rattle.storage.proofs.laws.FilterLaws.{by-test}
 use Rattle.point_records.specs.declared.State.{State}
 use Rattle.point_records.specs.declared.Record.{Record}
-use Rattle.point_tables.specs.Meaning.Tables.{Tables, sizeOf, slotsOf, recordOn}
+use Rattle.point_records.specs.Meaning.Word.{trackerAt}
+use Rattle.point_records.proofs.laws.OwnLaws.{ownRefusal, own-passed, own-zero}
+use Rattle.point_tables.specs.Meaning.Tables.{Tables, sizeOf, recordOn}
 use Rattle.point_tables.specs.Meaning.Holds.{Holds}
 use Rattle.point_tables.specs.Meaning.Decide.{holds, holds-says}
 use Rattle.point_tables.specs.Meaning.Outcome.{Outcome}
@@ -19,43 +18,45 @@ use Rattle.point_deferred.specs.Meaning.Moves.{pended}
 use Rattle.point_deferred.specs.Meaning.Calls.{Call, callOf}
 use Rattle.point_deferred.specs.Inner.Ready.{Ready}
 use Rattle.point_deferred.proofs.laws.ReadyLaws.{holds-ready}
-use Rattle.point_deferred.proofs.laws.PendedLaws.{map-kept, record-other, kept, nums-long}
-use Rattle.point_deferred.proofs.laws.MovesLaws.{named}
+use Rattle.point_deferred.proofs.laws.PendedLaws.{map-kept, record-other}
+use Rattle.point_deferred.proofs.laws.TrackerLaws.{own-kept}
+use Rattle.point_deferred.proofs.laws.MovesLaws.{past-own, set-tests}
 use Rattle.point_deferred.proofs.laws.MovesKeeps.{call-keeps}
 use Rattle.point_deferred.proofs.laws.AnswerLaws.{call-unheld, call-refused}
 use Rattle.point_deferred.specs.Inner.Held.{setRefusal, removeRefusal, refusalOf, heldAnswer, nextState, returned, worked, heldOf}
-use Rattle.point_deferred.proofs.laws.HeldLaws.{call-held, held-accepted, held-refused, held-done}
+use Rattle.point_deferred.proofs.laws.HeldLaws.{call-held, held-own, held-accepted, held-refused, held-done}
 use Rattle.trackers.proofs.laws.PendedCommuteLaws.{pended-commute}
 use Rattle.replies.specs.Meaning.Replies.{reply}
 
--- ---- what a call looks at in the tables: the head of the map, whether its handle is good and else why not, and the record of a good handle
+-- ---- what a call looks at in the tables: the head of the map, what its tracker's tests say, and past them the record of its slot
+abbrev ownOf : Tables → Call → ℕ
+ownOf t c = ownRefusal (t .nums) (c .handle) (c .tracker)
+
 record Unseen (t u : Tables) (c : Call) : Type 0 where
   map : u .map ≡ t .map
-  handle : good (u .nums) (c .handle .slot) (c .handle .version) ≡ good (t .nums) (c .handle .slot) (c .handle .version)
-  why : whyNotGood (u .nums) (c .handle) ≡ whyNotGood (t .nums) (c .handle)
-  object : good (t .nums) (c .handle .slot) (c .handle .version) ≡ true → recordOn u (c .handle .slot) ≡ recordOn t (c .handle .slot)
+  tests : ownOf u c ≡ ownOf t c
+  object : ownOf t c ≡ 0 → recordOn u (c .handle .slot) ≡ recordOn t (c .handle .slot)
 
-refusal-same : (nums ons : List (List ℕ)) (x y : State) (c : Call) (b : Bool) → good ons (c .handle .slot) (c .handle .version) ≡ b → good nums (c .handle .slot) (c .handle .version) ≡ b → whyNotGood ons (c .handle) ≡ whyNotGood nums (c .handle)
-    → (b ≡ true → y ≡ x) → refusalOf ons y c ≡ refusalOf nums x c
+refusal-by : (nums : List (List ℕ)) (x : State) (c : Call)
+    → let n = ownRefusal nums (c .handle) (c .tracker) in
+    refusalOf nums x c ≡ pick (eqb (c .kind) 0) (orElse (positionInDomain (c .at)) 6 (past-own n x)) n
 unfolding setRefusal removeRefusal
-refusal-same nums ons x y c true e f w h = rw (e, f, h refl)
-refusal-same nums ons x y c false e f w h = rw (e, f, w)
+refusal-by nums x c = ap (λ (n : ℕ). pick (eqb (c .kind) 0) n (ownRefusal nums (c .handle) (c .tracker))) (set-tests nums x (c .handle) (c .at) (c .tracker))
+
+past-same : (n : ℕ) (x y : State) → (n ≡ 0 → y ≡ x) → past-own n y ≡ past-own n x
+past-same n x y h = ⊎-elim (λ z. ap (past-own n) (h z)) (λ z. rw (ne-eqb n 0 z)) (d-eq n 0)
 
 unseen-answer : (t u : Tables) (c : Call) → Unseen t u c → heldAnswer u c ≡ heldAnswer t c
 unseen-answer t u c e =
-    refusal-same (t .nums) (u .nums) (recordOn t (c .handle .slot) .state) (recordOn u (c .handle .slot) .state) c (good (t .nums) (c .handle .slot) (c .handle .version)) (e .handle) refl (e .why)
-    (λ g. ap (λ (r : Record). r .state) (e .object g))
+    let x = recordOn t (c .handle .slot) .state in
+    let y = recordOn u (c .handle .slot) .state in
+    refusal-by (u .nums) y c
+    ∙ ap (λ (n : ℕ). pick (eqb (c .kind) 0) (orElse (positionInDomain (c .at)) 6 (past-own n y)) n) (e .tests)
+    ∙ ap (λ (m : ℕ). pick (eqb (c .kind) 0) (orElse (positionInDomain (c .at)) 6 m) (ownOf t c)) (past-same (ownOf t c) x y (λ z. ap (λ (r : Record). r .state) (e .object z)))
+    ∙ sym (refusal-by (t .nums) x c)
 
--- an accepted call: its handle is good
-bad-refused : (k d : Bool) (n : ℕ) → (n ≡ 0 → ⊥) → pick k (orElse d 6 n) n ≡ 0 → ⊥
-bad-refused true true n z e = z e
-bad-refused true false n z e = omega arith
-bad-refused false d n z e = z e
-
-accepted-good : (t : Tables) (c : Call) → heldAnswer t c ≡ 0 → good (t .nums) (c .handle .slot) (c .handle .version) ≡ true
-unfolding setRefusal removeRefusal
-accepted-good t c e =
-    by-test (good (t .nums) (c .handle .slot) (c .handle .version)) (λ q. q) (λ q. absurd (bad-refused (eqb (c .kind) 0) (positionInDomain (c .at)) (whyNotGood (t .nums) (c .handle)) (why-some (t .nums) (c .handle)) (rw q at e)))
+accepted-own : (t : Tables) (c : Call) → heldAnswer t c ≡ 0 → ownOf t c ≡ 0
+accepted-own t c e = own-zero (t .nums) (c .handle) (c .tracker) (held-own t c e)
 
 -- what is returned, and what becomes pending, is the same
 module _ (t u : Tables) (c : Call) (e : Unseen t u c) where
@@ -64,7 +65,7 @@ module _ (t u : Tables) (c : Call) (e : Unseen t u c) where
   unseen-reply =
       let a = unseen-answer t u c e in
       ⊎-elim
-      (λ q. rw (held-done t c q, held-done u c (a ∙ q)) (ap (λ (r : Record). reply 0 (returned r (c .kind))) (e .object (accepted-good t c q))))
+      (λ q. rw (held-done t c q, held-done u c (a ∙ q)) (ap (λ (r : Record). reply 0 (returned r (c .kind))) (e .object (accepted-own t c q))))
       (λ n. rw (held-refused t c n, held-refused u c (λ q. n (sym a ∙ q))) (ap (λ (k : ℕ). reply k 0) a))
       (d-eq (heldAnswer t c) 0)
 
@@ -75,30 +76,19 @@ module _ (t u : Tables) (c : Call) (e : Unseen t u c) where
   unfolding worked
   unseen-done q =
       ap (λ (o : Outcome Reply). o .after) (held-done u c (unseen-answer t u c e ∙ q))
-      ∙ ap (λ (r : Record). pended u (c .handle .slot) (nextState (sizeOf u) r (c .kind) (c .at))) (e .object (accepted-good t c q))
+      ∙ ap (λ (r : Record). pended u (c .handle .slot) (nextState (sizeOf u) r (c .kind) (c .at))) (e .object (accepted-own t c q))
       ∙ ap (λ (m : List ℕ). pended u (c .handle .slot) (nextState (getD m 0 0) (recordOn t (c .handle .slot)) (c .kind) (c .at))) (e .map)
 
 unseen-self : (t : Tables) (c : Call) → Unseen t t c
-unseen-self t c = record { map = refl; handle = refl; why = refl; object = λ g. refl }
+unseen-self t c = record { map = refl; tests = refl; object = λ z. refl }
 
--- ---- two versions of a slot are not both good, so that good handles that differ have different slots
-same-handle : (g h : Handle) → g .slot ≡ h .slot → g .version ≡ h .version → g ≡ h
-same-handle g h e f = ap₂ {C = Handle} (λ (s v : ℕ). record { slot = s; version = v }) e f
+-- ---- a slot has one tracker: those of two accepted calls of two trackers differ
+other-slot : (t : Tables) (c d : Call) → ownOf t c ≡ 0 → ownOf t d ≡ 0 → (c .tracker ≡ d .tracker → ⊥) → c .handle .slot ≡ d .handle .slot → ⊥
+other-slot t c d p q n e =
+    n (sym (own-passed (t .nums) (c .handle) (c .tracker) p .owner) ∙ ap (trackerAt (t .nums)) e ∙ own-passed (t .nums) (d .handle) (d .tracker) q .owner)
 
-other-slot : (t : Tables) (g h : Handle) → good (t .nums) (g .slot) (g .version) ≡ true → good (t .nums) (h .slot) (h .version) ≡ true → (g ≡ h → ⊥) → g .slot ≡ h .slot → ⊥
-other-slot t g h a b n e = n (same-handle g h e (sym (named t g a .version) ∙ ap (versionAt (t .nums)) e ∙ named t h b .version))
-
--- a pending state touches no version and no phase, so it changes no handle: what is good stays good, what is gone stays gone
-good-kept : (t : Tables) (s : ℕ) (x : State) → Ready t → s < slotsOf t → (j v : ℕ) → good (pended t s x .nums) j v ≡ good (t .nums) j v
-unfolding good
-good-kept t s x ready l j v = rw (nums-long t s x, kept t s x ready l (λ (r : Record). r .phase) refl j, kept t s x ready l (λ (r : Record). r .version) refl j)
-
-gone-kept : (t : Tables) (s : ℕ) (x : State) → Ready t → s < slotsOf t → (j v : ℕ) → gone (pended t s x .nums) j v ≡ gone (t .nums) j v
-unfolding gone
-gone-kept t s x ready l j v = rw (nums-long t s x, kept t s x ready l (λ (r : Record). r .phase) refl j, kept t s x ready l (λ (r : Record). r .version) refl j)
-
--- ---- a call with another handle changes nothing that a call looks at
-unseen : (t : Tables) → Ready t → (c d : Call) → (c .handle ≡ d .handle → ⊥) → Unseen t (heldOf t d .after) c
+-- so that a call of another tracker changes nothing that a call looks at
+unseen : (t : Tables) → Ready t → (c d : Call) → (c .tracker ≡ d .tracker → ⊥) → Unseen t (heldOf t d .after) c
 unseen t ready c d n =
     ⊎-elim
     (λ q.
@@ -108,15 +98,14 @@ unseen t ready c d n =
     rw (unseen-done t t d (unseen-self t d) q)
     (record {
       map = map-kept t s x;
-      handle = good-kept t s x ready l (c .handle .slot) (c .handle .version);
-      why = ap (λ (b : Bool). pick b 12 11) (gone-kept t s x ready l (c .handle .slot) (c .handle .version));
-      object = λ g. record-other t s x ready l (c .handle .slot) (other-slot t (c .handle) (d .handle) g (accepted-good t d q) n);
+      tests = own-kept t s x ready l (c .handle) (c .tracker);
+      object = λ p. record-other t s x ready l (c .handle .slot) (other-slot t c d p (accepted-own t d q) n);
     }))
     (λ m. rw (unseen-refused t t d (unseen-self t d) m) (unseen-self t c))
     (d-eq (heldAnswer t d) 0)
 
-module _ (t : Tables) (ready : Ready t) (c d : Call) (n : c .handle ≡ d .handle → ⊥) where
-  swapped : d .handle ≡ c .handle → ⊥
+module _ (t : Tables) (ready : Ready t) (c d : Call) (n : c .tracker ≡ d .tracker → ⊥) where
+  swapped : d .tracker ≡ c .tracker → ⊥
   swapped e = n (sym e)
 
   both-done : heldAnswer t c ≡ 0 → heldAnswer t d ≡ 0 → heldOf (heldOf t c .after) d .after ≡ heldOf (heldOf t d .after) c .after
@@ -129,7 +118,7 @@ module _ (t : Tables) (ready : Ready t) (c d : Call) (n : c .handle ≡ d .handl
       let b = held-accepted t d q in
       unseen-done t (heldOf t c .after) d (unseen t ready d c swapped) q
       ∙ ap (λ (u : Tables). pended u s y) (unseen-done t t c (unseen-self t c) p)
-      ∙ pended-commute t ready r s (other-slot t (d .handle) (c .handle) (accepted-good t d q) (accepted-good t c p) swapped) x y (a .inside) (a .occupied) (b .inside) (b .occupied)
+      ∙ pended-commute t ready r s (other-slot t d c (accepted-own t d q) (accepted-own t c p) swapped) x y (a .inside) (a .occupied) (b .inside) (b .occupied)
       ∙ ap (λ (u : Tables). pended u r x) (sym (unseen-done t t d (unseen-self t d) q))
       ∙ sym (unseen-done t (heldOf t d .after) c (unseen t ready c d n) p)
 
@@ -153,7 +142,7 @@ module _ (t : Tables) (c d : Call) where
       call-held (callOf t c .after) (holds-says (callOf t c .after) .no (call-keeps t c h)) d
       ∙ ap (λ (o : Outcome Reply). heldOf (o .after) d) (call-held t (holds-says t .no h) c)
 
-module _ (t : Tables) (c d : Call) (n : c .handle ≡ d .handle → ⊥) where
+module _ (t : Tables) (c d : Call) (n : c .tracker ≡ d .tracker → ⊥) where
   pub reply-same : callOf (callOf t d .after) c .result ≡ callOf t c .result
   reply-same =
       by-test (holds t)

@@ -15,6 +15,7 @@ use Rattle.point_records.specs.declared.Record.{Record}
 use Rattle.point_records.specs.Meaning.Columns.{pendingOf}
 use Rattle.point_records.specs.Inner.Decide.{d-cell}
 use Rattle.point_records.specs.Meaning.States.{isRemoved, aimed, withState}
+use Rattle.point_records.specs.Meaning.Word.{trackerAt}
 use Rattle.point_tables.specs.Meaning.Tables.{Tables, sizeOf, slotsOf, recordOn}
 use Rattle.point_tables.specs.Meaning.Holds.{Holds}
 use Rattle.point_tables.specs.Meaning.Outcome.{Outcome}
@@ -39,14 +40,15 @@ module _ (t : Tables) (c : Call) where
     pub state : State
     pub after : callOf t c .after ≡ pended t (c .handle .slot) state
     pub names : Named t (c .handle)
+    pub owner : trackerAt (t .nums) (c .handle .slot) ≡ c .tracker
     pub moves : eqb (c .kind) 0 ≡ true → (isRemoved (recordOn t (c .handle .slot) .state) ≡ false) × (state ≡ aimed (sizeOf t) (recordOn t (c .handle .slot) .cell) (c .at))
     pub removes : eqb (c .kind) 0 ≡ false → state ≡ Removed
 
-  is-set : eqb (c .kind) 0 ≡ true → callOf t c ≡ setPositionOf t (c .handle) (c .at)
+  is-set : eqb (c .kind) 0 ≡ true → callOf t c ≡ setPositionOf t (c .handle) (c .at) (c .tracker)
   unfolding callOf
   is-set q = rw q
 
-  is-remove : eqb (c .kind) 0 ≡ false → callOf t c ≡ removeOf t (c .handle)
+  is-remove : eqb (c .kind) 0 ≡ false → callOf t c ≡ removeOf t (c .handle) (c .tracker)
   unfolding callOf
   is-remove q = rw q
 
@@ -55,23 +57,26 @@ module _ (t : Tables) (c : Call) where
     where
       by-set : eqb (c .kind) 0 ≡ true → Given
       by-set q =
-          let e = sym (set-answer-is t (c .handle) (c .at)) ∙ ap (λ (o : Outcome Reply). o .result .answer) (sym (is-set q)) ∙ a in
-          let s = set-accepted t (c .handle) (c .at) e in
+          let e = sym (set-answer-is t (c .handle) (c .at) (c .tracker)) ∙ ap (λ (o : Outcome Reply). o .result .answer) (sym (is-set q)) ∙ a in
+          let s = set-accepted t (c .handle) (c .at) (c .tracker) e in
           record {
             state = aimed (sizeOf t) (recordOn t (c .handle .slot) .cell) (c .at);
-            after = ap (λ (o : Outcome Reply). o .after) (is-set q ∙ set-done t (c .handle) (c .at) e);
+            after = ap (λ (o : Outcome Reply). o .after) (is-set q ∙ set-done t (c .handle) (c .at) (c .tracker) e);
             names = s .names;
+            owner = s .own .owner;
             moves = λ k. (s .present, refl);
             removes = λ k. absurd (apart (sym k ∙ q));
           }
 
       by-remove : eqb (c .kind) 0 ≡ false → Given
       by-remove q =
-          let e = sym (remove-answer-is t (c .handle)) ∙ ap (λ (o : Outcome Reply). o .result .answer) (sym (is-remove q)) ∙ a in
+          let e = sym (remove-answer-is t (c .handle) (c .tracker)) ∙ ap (λ (o : Outcome Reply). o .result .answer) (sym (is-remove q)) ∙ a in
+          let s = remove-accepted t (c .handle) (c .tracker) e in
           record {
             state = Removed;
-            after = ap (λ (o : Outcome Reply). o .after) (is-remove q ∙ remove-done t (c .handle) e);
-            names = remove-accepted t (c .handle) e .names;
+            after = ap (λ (o : Outcome Reply). o .after) (is-remove q ∙ remove-done t (c .handle) (c .tracker) e);
+            names = s .names;
+            owner = s .own .owner;
             moves = λ k. absurd (apart (sym q ∙ k));
             removes = λ k. refl;
           }

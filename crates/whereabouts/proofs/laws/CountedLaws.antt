@@ -63,9 +63,9 @@ aimed-moves : (size : ℕ) (c : Cell) (p q : Position) → movesFrom q (aimed si
 unfolding aimed
 aimed-moves size c p q = by-test (said (d-cell (cellAt size p) c)) (λ e. rw e) (λ e. rw e)
 
-module _ (t : Tables) (g : Handle) (p : Position) (accepted : setPositionOf t g p .result .answer ≡ 0) where
+module _ (t : Tables) (g : Handle) (p : Position) (k : ℕ) (accepted : setPositionOf t g p k .result .answer ≡ 0) where
   abbrev sent : Tables
-  sent = setPositionOf t g p .after
+  sent = setPositionOf t g p k .after
 
   abbrev next : Tables
   next = maintainOf sent .after
@@ -76,17 +76,17 @@ module _ (t : Tables) (g : Handle) (p : Position) (accepted : setPositionOf t g 
   abbrev state : State
   state = aimed (sizeOf t) (recordOn t s .cell) p
 
-  answered : setPositionAnswer t g p ≡ 0
-  answered = sym (set-answer-is t g p) ∙ accepted
+  answered : setPositionAnswer t g p k ≡ 0
+  answered = sym (set-answer-is t g p k) ∙ accepted
 
-  passed : Settable t g p
-  passed = set-accepted t g p answered
+  passed : Settable t g p k
+  passed = set-accepted t g p k answered
 
   sent-is : sent ≡ pended t s state
-  sent-is = ap (λ (o : Outcome Reply). o .after) (set-done t g p answered)
+  sent-is = ap (λ (o : Outcome Reply). o .after) (set-done t g p k answered)
 
   sent-holds : Holds sent
-  sent-holds = set-position-keeps t g p (passed .held)
+  sent-holds = set-position-keeps t g p k (passed .held)
 
   sent-slots : slotsOf sent ≡ slotsOf t
   sent-slots = ap slotsOf sent-is ∙ nums-long t s state

@@ -1,6 +1,6 @@
 -- A point that was accepted as moved is found where it was last sent: it is not lost, and not looked for where it was. Assumes nothing.
 -- Here: the laws.
-use Rattle.basics.specs.Words.{_≡_, refl, sym, ap, _∙_, Bool, true, false, not, _&&_, _||_, List, [], _∷_, _++_, eqb, eq-eqb}
+use Rattle.basics.specs.Words.{_≡_, refl, sym, ap, _∙_, Bool, true, false, not, _&&_, _||_, List, [], _∷_, _++_, getD, eqb, eq-eqb}
 use lib.Ieee.{Float}
 use Rattle.basics.specs.Meaning.Refusals.{pick}
 use Rattle.geometry.specs.declared.Position.{Position}
@@ -9,6 +9,8 @@ use Rattle.slots.specs.declared.Handle.{Handle}
 use Rattle.slots.specs.Meaning.Slot.{good}
 use Rattle.slots.proofs.laws.HandleLaws.{good-says}
 use Rattle.storage.specs.Meaning.Keyed.{All}
+use Rattle.point_records.specs.Meaning.Word.{trackerAt}
+use Rattle.point_records.proofs.laws.WordLaws.{tracker-same}
 use Rattle.point_tables.specs.Meaning.Tables.{Tables, recordOn}
 use Rattle.replies.specs.declared.Reply.{Reply}
 use Rattle.point_deferred.specs.Meaning.Calls.{Call, callOf, tablesAfter, replies}
@@ -103,9 +105,13 @@ module _ (t : Tables) (s : Settled t) (xs : List Call) (c : Call) (ys : List Cal
       ∙ (λ i. before i || ((is-for i && not (is-kind i)) || removedBy g ys (replies (callOf u c .after) ys)))
       ∙ others-removed g (callOf u c .after) ys last
 
+  -- the point is the mover's from before
+  its-own : c .tracker ≡ trackerAt (t .nums) (g .slot)
+  its-own = sym (z .owner) ∙ tracker-same (getD (u .nums) (g .slot) []) (getD (t .nums) (g .slot) []) (calls-kept (λ r. r .tracker) (λ r st. refl) t (s .holds) xs (g .slot))
+
   pub moved-found : (centre : Position) (r : Float) (o : Outputs) → aroundOf (nextMaintain t all .after) centre r o .returned .answer ≡ 0
-      → inCircle (c .at) centre r ≡ true → Reports (aroundOf (nextMaintain t all .after) centre r o) g (c .at) (recordOn t (g .slot) .obj)
+      → inCircle (c .at) centre r ≡ true → Reports (aroundOf (nextMaintain t all .after) centre r o) g (c .at) (recordOn t (g .slot) .obj) (c .tracker)
   moved-found centre r o a n =
       let obj = recordOn t (g .slot) .obj in
-      let d : Due t all centre r g (c .at) obj = record { was-live = was-live; not-removed = not-removed; at-last = sym sent-last; has-data = refl; near = n } in
-      circle-reports t s all centre r o a g (c .at) obj .1 d
+      let d : Due t all centre r g (c .at) obj (c .tracker) = record { was-live = was-live; not-removed = not-removed; at-last = sym sent-last; has-data = refl; has-tracker = its-own; near = n } in
+      circle-reports t s all centre r o a g (c .at) obj (c .tracker) .1 d

@@ -17,6 +17,7 @@ use Rattle.slots.specs.Meaning.Slot.{versionAt}
 use Rattle.storage.specs.Meaning.Keyed.{All}
 use Rattle.storage.specs.Meaning.Entries.{Entry}
 use Rattle.storage.proofs.laws.FilterLaws.{all-at, filter-passes}
+use Rattle.point_records.specs.Meaning.Word.{trackerAt}
 use Rattle.point_tables.specs.Meaning.Tables.{Tables, sizeOf, recordOn, entriesIn, slotOf}
 use Rattle.point_tables.specs.Meaning.Holds.{Holds}
 use Rattle.point_deferred.specs.Meaning.Calls.{Call}
@@ -86,26 +87,26 @@ module _ (m : Tables) (h : Holds m) (c : Position) (r : Float) (o : Outputs) (a 
   abbrev at : ℕ → Entry
   at = entryOf es
 
-  abbrev Shows : ℕ → Handle → Position → ℕ → Type 0
+  abbrev Shows : ℕ → Handle → Position → ℕ → ℕ → Type 0
   Shows = Shown m es
 
   stood : All (Standing m) es
   stood = found-standing m h low high rl ru (Circle c r)
 
   -- what is shown stands in the tables, and is in the circle
-  record Sound (g : Handle) (p : Position) (d : ℕ) : Type 0 where
-    stands-there : Stands m g p d
+  record Sound (g : Handle) (p : Position) (d k : ℕ) : Type 0 where
+    stands-there : Stands m g p d k
     near : inCircle p c r ≡ true
 
-  sound : (j : ℕ) (g : Handle) (p : Position) (d : ℕ) → Shows j g p d → Sound g p d
-  sound j g p d w =
+  sound : (j : ℕ) (g : Handle) (p : Position) (d k : ℕ) → Shows j g p d k → Sound g p d k
+  sound j g p d k w =
       record {
-        stands-there = shown-stands m es h stood j g p d w;
+        stands-there = shown-stands m es h stood j g p d k w;
         near = sym (ap (λ (q : Position). inCircle q c r) (w .place)) ∙ all-at (λ e. inCircle (positionOf e) c r ≡ true) noEntry es j (w .filled) all-near;
       }
 
   -- and every such handle is shown
-  module _ (g : Handle) (p : Position) (d : ℕ) (s : Sound g p d) where
+  module _ (g : Handle) (p : Position) (d k : ℕ) (s : Sound g p d k) where
     abbrev n : Named m g
     n = named m g (s .stands-there .good-handle)
 
@@ -120,7 +121,7 @@ module _ (m : Tables) (h : Holds m) (c : Position) (r : Float) (o : Outputs) (a 
         let inside = h .records (g .slot) (n .inside) (n .occupied) .occupied .in-domain in
         circle-cover (sizeOf m) (h .counted .size .0) q c r inside dc dr q-near
 
-    shown-at : (j : ℕ) → j < length es → slotOf (at j) ≡ g .slot → Shows j g p d
+    shown-at : (j : ℕ) → j < length es → slotOf (at j) ≡ g .slot → Shows j g p d k
     shown-at j l v =
         let w = all-at (Standing m) noEntry es j l stood in
         record {
@@ -129,9 +130,10 @@ module _ (m : Tables) (h : Holds m) (c : Position) (r : Float) (o : Outputs) (a 
           version = ap (versionAt (m .nums)) v ∙ n .version;
           place = w .recorded ∙ ap (λ (i : ℕ). recordOn m i .position) v ∙ sym (s .stands-there .recorded);
           obj = ap (λ (i : ℕ). recordOn m i .obj) v ∙ sym (s .stands-there .has-data);
+          tracker = ap (trackerAt (m .nums)) v ∙ sym (s .stands-there .has-tracker);
         }
 
-    complete : (j : ℕ) × Shows j g p d
+    complete : (j : ℕ) × Shows j g p d k
     complete =
         let (e, b, w) = finds m h low high rl ru (Circle c r) (g .slot) (n .inside) (n .occupied) q-near q-covered in
         let (j, l, z) = member-at e noEntry es b in
@@ -156,29 +158,29 @@ module _ (t : Tables) (s : Settled t) (cs : List Call) (c : Position) (r : Float
   abbrev o′ : Findings
   o′ = aroundOf m′ c r o
 
-  seen : (j : ℕ) (g : Handle) (p : Position) (d : ℕ) → ReportedAt o′ j g p d → Shows m′ hm c r o a j g p d
+  seen : (j : ℕ) (g : Handle) (p : Position) (d k : ℕ) → ReportedAt o′ j g p d k → Shows m′ hm c r o a j g p d k
   seen = shown m′ (es m′ hm c r o a) o o′ (is-done m′ hm c r o a)
 
   -- exactly the points that are due
-  pub circle-reports : (g : Handle) (p : Position) (d : ℕ) → (Reports o′ g p d → Due t cs c r g p d) × (Due t cs c r g p d → Reports o′ g p d)
-  circle-reports g p d = (
+  pub circle-reports : (g : Handle) (p : Position) (d k : ℕ) → (Reports o′ g p d k → Due t cs c r g p d k) × (Due t cs c r g p d k → Reports o′ g p d k)
+  circle-reports g p d k = (
     λ (j, w).
-        let v = sound m′ hm c r o a j g p d (seen j g p d w) in
+        let v = sound m′ hm c r o a j g p d k (seen j g p d k w) in
         let b = v .stands-there in
         let (x, y) = stands t s cs g .yes (b .good-handle) in
-        let (was, at) = stands-at t s cs g x y in
-        record { was-live = x; not-removed = y; at-last = b .recorded ∙ at; has-data = b .has-data ∙ was; near = v .near },
+        let (was, at, own) = stands-at t s cs g x y in
+        record { was-live = x; not-removed = y; at-last = b .recorded ∙ at; has-data = b .has-data ∙ was; has-tracker = b .has-tracker ∙ own; near = v .near },
     λ u.
         let x = stands t s cs g .no (u .was-live, u .not-removed) in
-        let (was, at) = stands-at t s cs g (u .was-live) (u .not-removed) in
-        let b : Stands m′ g p d = record { good-handle = x; recorded = u .at-last ∙ sym at; has-data = u .has-data ∙ sym was } in
-        let (j, w) = complete m′ hm c r o a g p d (record { stands-there = b; near = u .near }) in
-        (j, reported m′ (es m′ hm c r o a) o o′ (is-done m′ hm c r o a) j g p d w),
+        let (was, at, own) = stands-at t s cs g (u .was-live) (u .not-removed) in
+        let b : Stands m′ g p d k = record { good-handle = x; recorded = u .at-last ∙ sym at; has-data = u .has-data ∙ sym was; has-tracker = u .has-tracker ∙ sym own } in
+        let (j, w) = complete m′ hm c r o a g p d k (record { stands-there = b; near = u .near }) in
+        (j, reported m′ (es m′ hm c r o a) o o′ (is-done m′ hm c r o a) j g p d k w),
   )
 
   -- once each
-  pub reports-once : (i j : ℕ) (g k : Handle) (p q : Position) (d e : ℕ) → ReportedAt o′ i g p d → ReportedAt o′ j k q e → g .slot ≡ k .slot → i ≡ j
-  reports-once i j g k p q d e x y f =
-      let v = seen i g p d x in
-      let w = seen j k q e y in
+  pub reports-once : (i j : ℕ) (g h : Handle) (p q : Position) (d e k l : ℕ) → ReportedAt o′ i g p d k → ReportedAt o′ j h q e l → g .slot ≡ h .slot → i ≡ j
+  reports-once i j g h p q d e k l x y f =
+      let v = seen i g p d k x in
+      let w = seen j h q e l y in
       once m′ hm c r o a i j (v .filled) (w .filled) (v .slot ∙ f ∙ sym (w .slot))

@@ -1,7 +1,7 @@
--- After deferred calls and maintain the points are those that were there before and were not removed, with their data, each where its last
--- accepted call sent it, or where it was. Assumes nothing.
+-- After deferred calls and maintain the points are those that were there before and were not removed, with their data and trackers, each where
+-- its last accepted call sent it, or where it was. Assumes nothing.
 -- Here: the laws.
-use Rattle.basics.specs.Words.{ℕ, _<_, _≡_, refl, sym, ap, _∙_, true, false, _||_, List, eqb-true, eq-eqb}
+use Rattle.basics.specs.Words.{ℕ, _<_, _≡_, refl, sym, ap, _∙_, true, false, _||_, List, [], getD, eqb-true, eq-eqb}
 use Rattle.basics.specs.Meaning.Says.{Says}
 use Rattle.slots.specs.declared.Handle.{Handle}
 use Rattle.slots.specs.Meaning.Slot.{live, phaseAt, good}
@@ -11,6 +11,8 @@ use Rattle.point_records.specs.declared.State.the-variants.{Unchanged}
 use Rattle.point_records.specs.declared.Record.{Record}
 use Rattle.point_records.specs.Meaning.Columns.{pendingOf, targetOf}
 use Rattle.point_records.specs.Meaning.States.{isRemoved}
+use Rattle.point_records.specs.Meaning.Word.{trackerAt}
+use Rattle.point_records.proofs.laws.WordLaws.{tracker-same}
 use Rattle.point_tables.specs.Meaning.Tables.{Tables, slotsOf, recordOn}
 use Rattle.point_tables.specs.Meaning.Holds.{Holds}
 use Rattle.point_tables.specs.Inner.Count.{isLive}
@@ -98,11 +100,16 @@ module _ (t : Tables) (s : Settled t) (cs : List Call) where
             rw is-after (good-says (maintained u .nums) (g .slot) (g .version) .no (rw (maintained-slots u u-holds) (m .inside), ap (λ (r : Record). r .phase) o ∙ m .occupied, ap (λ (r : Record). r .version) o ∙ m .version));
       }
 
-  -- with the data of before, and at the last accepted position
+  -- with the data and the tracker of before, and at the last accepted position
   pub stands-at : (g : Handle) → good (t .nums) (g .slot) (g .version) ≡ true → removedBy g cs (replies t cs) ≡ false
       → (recordOn (nextMaintain t cs .after) (g .slot) .obj ≡ recordOn t (g .slot) .obj)
       × (recordOn (nextMaintain t cs .after) (g .slot) .position ≡ lastAt g cs (replies t cs) (recordOn t (g .slot) .position))
+      × (trackerAt (nextMaintain t cs .after .nums) (g .slot) ≡ trackerAt (t .nums) (g .slot))
   stands-at g e k =
       let n = named t g e in
       let o = placed-is g n k in
-      rw is-after (ap (λ (r : Record). r .obj) o ∙ calls-kept (λ r. r .obj) (λ r st. refl) t (s .holds) cs (g .slot), ap (λ (r : Record). r .position) o ∙ headed-is g n k)
+      rw is-after (
+        ap (λ (r : Record). r .obj) o ∙ calls-kept (λ r. r .obj) (λ r st. refl) t (s .holds) cs (g .slot),
+        ap (λ (r : Record). r .position) o ∙ headed-is g n k,
+        tracker-same (getD (maintained u .nums) (g .slot) []) (getD (t .nums) (g .slot) []) (ap (λ (r : Record). r .tracker) o ∙ calls-kept (λ r. r .tracker) (λ r st. refl) t (s .holds) cs (g .slot)),
+      )

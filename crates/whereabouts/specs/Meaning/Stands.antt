@@ -1,5 +1,5 @@
--- After deferred calls and maintain the points are those that were there before and were not removed, with their data, each where its last
--- accepted call sent it, or where it was. Assumes nothing.
+-- After deferred calls and maintain the points are those that were there before and were not removed, with their data and trackers, each where
+-- its last accepted call sent it, or where it was. Assumes nothing.
 use Rattle.basics.specs.Words.{List}
 use Rattle.point_tables.specs.Meaning.Tables.{Tables}
 use Rattle.point_tables.specs.Meaning.Outcome.{Outcome}

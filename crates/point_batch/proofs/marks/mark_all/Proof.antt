@@ -5,7 +5,7 @@ use Rattle.point_batch.specs.Inner.Marks.{Walkable, MarkedTo}
 use Rattle.point_batch.proofs.laws.MarkLaws.{Ahead, start, ahead-start, in-rows, ahead-entry, ahead-row, key-kept, passed-by, set-row}
 use Rattle.point_batch.proofs.marks.mark_all.Statement.{statement}
 use Rattle.point_batch.proofs.marks.mark_all.Tie as tie
-use Rattle.point_records.specs.Meaning.Columns.{tagAt}
+use Rattle.point_records.specs.Meaning.Word.{tagAt}
 
 abbrev Inv-loop : tie.InvT-loop
 Inv-loop nums pool used cells₀ rows c₀ j₀ cells c j =

@@ -14,7 +14,7 @@ abbrev at-entry : tie.Start → Tables
 at-entry s = poolless (s .args .nums .now) (s .args .reals .now) (s .args .ints .now) (s .args .map .now) (s .args .cells .now)
 
 abbrev asked : tie.Start → Call
-asked s = call (s .args .kind) (s .args .h) (s .args .at)
+asked s = call (s .args .kind) (s .args .h) (s .args .at) (s .args .tracker)
 
 returns : tie.Need-returns
 returns c = let s = c .before .before .before .before .before .before in refused (at-entry s) (asked s) _ (c .before .refusal .ensures) (c .if1 .taken)

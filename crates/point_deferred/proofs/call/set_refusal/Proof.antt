@@ -1,22 +1,23 @@
 -- `point_deferred::call::set_refusal` meets its contract. Assumes nothing.
-use Rattle.basics.specs.Words.{ℕ, _<_, _≡_, ap, sym, _∙_, Bool, true, false, [], length, getD, arith, not-true, not-false, needs}
-use Rattle.basics.specs.Meaning.Refusals.{orElse}
+use Rattle.basics.specs.Words.{ℕ, _<_, _≡_, ap, sym, _∙_, true, false, [], length, getD, arith, not-true, not-false, ne-eqb, needs}
 use Rattle.geometry.specs.Meaning.Domain.{positionInDomain}
-use Rattle.slots.specs.Meaning.Slot.{good, whyNotGood}
-use Rattle.slots.proofs.laws.HandleLaws.{good-says, not-refused}
-use Rattle.point_records.specs.Meaning.Columns.{tagIn, recordAt}
+use Rattle.slots.proofs.laws.HandleLaws.{good-says}
+use Rattle.point_records.proofs.laws.OwnLaws.{ownRefusal, own-passed}
+use Rattle.point_records.specs.Meaning.Columns.{recordAt}
+use Rattle.point_records.specs.Meaning.Word.{tagIn}
 use Rattle.point_records.specs.Meaning.States.{isRemoved}
 use Rattle.point_deferred.specs.Inner.Held.{setRefusal}
-use Rattle.point_deferred.proofs.Shared.{above-two, up-to-two, not-good}
+use Rattle.point_deferred.proofs.Shared.{above-two, up-to-two}
+use Rattle.point_deferred.proofs.laws.MovesLaws.{set-tests}
 use Rattle.point_deferred.proofs.call.set_refusal.Statement.{statement}
 use Rattle.point_deferred.proofs.call.set_refusal.Tie as tie
 
--- past the first test, and past the second
+-- past the first test, and past the tracker's
 near : (c : tie.Else1) → positionInDomain (c .before .before .args .at) ≡ true
 near c = sym (c .before .position-in-domain .ensures) ∙ not-false _ (c .if1 .left)
 
-fine : (c : tie.Else2) → good (c .before .before .before .before .args .nums .now) (c .before .before .before .before .args .h .slot) (c .before .before .before .before .args .h .version) ≡ true
-fine c = let a = c .before .before .before .before .args in not-refused (a .nums .now) (a .h) (sym (c .before .refusal-of .ensures) ∙ c .if2 .left)
+passed : (c : tie.Else2) → let a = c .before .before .before .before .args in ownRefusal (a .nums .now) (a .h) (a .tracker) ≡ 0
+passed c = sym (c .before .own-refusal .ensures) ∙ c .if2 .left
 
 -- the tag that was read is that of the handle's slot
 tag-is : (c : tie.After-tag-in) → let a = c .before .before .before .before .before .before .before .args in c .tag-in .result ≡ tagIn (getD (a .nums .now) (a .h .slot) [])
@@ -25,7 +26,8 @@ tag-is c = c .tag-in .ensures ∙ ap (λ (s : ℕ). tagIn (getD (c .before .befo
 inside : (c : tie.After-wide) → c .wide .result < length (c .before .before .before .before .before .args .nums .now)
 inside c =
     let a = c .before .before .before .before .before .args in
-    omega (arith, good-says (a .nums .now) (a .h .slot) (a .h .version) .yes (fine (c .before)) .0, c .wide .ensures)
+    let o = own-passed (a .nums .now) (a .h) (a .tracker) (passed (c .before)) in
+    omega (arith, good-says (a .nums .now) (a .h .slot) (a .h .version) .yes (o .is-good) .0, c .wide .ensures)
 
 returns : tie.Need-returns
 unfolding setRefusal
@@ -34,10 +36,10 @@ returns c = simp (sym (c .before .position-in-domain .ensures) ∙ not-true _ (c
 returns-2 : tie.Need-returns-2
 unfolding setRefusal
 returns-2 c =
-    let q = c .before .refusal-of .ensures in
+    let q = c .before .own-refusal .ensures in
     let a = c .before .before .before .before .args in
-    let f : good (a .nums .now) (a .h .slot) (a .h .version) ≡ false = not-good (a .nums .now) (a .h) _ q (c .if2 .taken) in
-    rw (near (c .before .before), f) (q ∙ ap (λ (b : Bool). orElse b (whyNotGood (a .nums .now) (a .h)) 0) f)
+    let n : ownRefusal (a .nums .now) (a .h) (a .tracker) ≡ 0 → ⊥ = λ z. c .if2 .taken (q ∙ z) in
+    rw (set-tests (a .nums .now) _ (a .h) (a .at) (a .tracker), near (c .before .before), ne-eqb _ 0 n) q
 
 returns-3 : tie.Need-returns-3
 unfolding setRefusal
@@ -45,7 +47,7 @@ returns-3 c =
     let a = c .before .before .before .before .before .before .before .before .args in
     let r = isRemoved (recordAt (a .nums .now) (a .reals .now) (a .ints .now) (a .h .slot) .state) in
     let e : r ≡ true = above-two (tagIn (getD (a .nums .now) (a .h .slot) [])) _ _ (omega (arith, tag-is (c .before), c .if3 .taken)) in
-    simp (near (c .before .before .before .before .before .before), fine (c .before .before .before .before), e)
+    rw (set-tests (a .nums .now) _ (a .h) (a .at) (a .tracker), near (c .before .before .before .before .before .before), passed (c .before .before .before .before), e)
 
 returns-4 : tie.Need-returns-4
 unfolding setRefusal
@@ -53,7 +55,7 @@ returns-4 c =
     let a = c .before .before .before .before .before .before .before .before .args in
     let r = isRemoved (recordAt (a .nums .now) (a .reals .now) (a .ints .now) (a .h .slot) .state) in
     let e : r ≡ false = up-to-two (tagIn (getD (a .nums .now) (a .h .slot) [])) _ _ (omega (arith, tag-is (c .before), c .if3 .left)) in
-    simp (near (c .before .before .before .before .before .before), fine (c .before .before .before .before), e)
+    rw (set-tests (a .nums .now) _ (a .h) (a .at) (a .tracker), near (c .before .before .before .before .before .before), passed (c .before .before .before .before), e)
 
 pub set-refusal-spec : {M : Type 1} → statement M
 set-refusal-spec =

@@ -21,14 +21,14 @@ choose-requires : tie.Need-choose-requires
 choose-requires c κs =
     let k = c .before .before in
     let s = start k in
-    choose-asks (at-entry s) (s .args .at) (s .args .obj) (k .check .result) (k .check .ensures)
+    choose-asks (at-entry s) (s .args .at) (s .args .obj) (s .args .tracker) (k .check .result) (k .check .ensures)
 
 returns : tie.Need-returns
 returns c =
     let f = c .before .before in
     let k = checked f in
     let s = start k in
-    refused (at-entry s) (s .args .at) (s .args .obj) (k .check .result) (k .check .ensures) (f .choose .result .answer) (f .choose .ensures .0) (c .before .if1 .taken)
+    refused (at-entry s) (s .args .at) (s .args .obj) (s .args .tracker) (k .check .result) (k .check .ensures) (f .choose .result .answer) (f .choose .ensures .0) (c .before .if1 .taken)
     (c .refused-insert .result) (c .refused-insert .ensures)
 
 -- the slot that was chosen
@@ -37,7 +37,7 @@ fresh e =
     let f = e .before in
     let k = checked f in
     let s = start k in
-    chosen (at-entry s) (s .args .at) (s .args .obj) (k .check .result) (k .check .ensures) (f .choose .result .answer) (f .choose .ensures .0) (e .if1 .left) (f .choose .result .slot) (f .choose .ensures .1 (e .if1 .left))
+    chosen (at-entry s) (s .args .at) (s .args .obj) (s .args .tracker) (k .check .result) (k .check .ensures) (f .choose .result .answer) (f .choose .ensures .0) (e .if1 .left) (f .choose .result .slot) (f .choose .ensures .1 (e .if1 .left))
 
 returns-2 : tie.Need-returns-2
 returns-2 c =
@@ -47,7 +47,7 @@ returns-2 c =
     let f = e .before in
     let k = checked f in
     let s = start k in
-    done (at-entry s) (s .args .at) (s .args .obj) (k .check .result) (k .check .ensures) (f .choose .result .answer) (f .choose .ensures .0) (e .if1 .left) (f .choose .result .slot) (f .choose .ensures .1 (e .if1 .left))
+    done (at-entry s) (s .args .at) (s .args .obj) (s .args .tracker) (k .check .result) (k .check .ensures) (f .choose .result .answer) (f .choose .ensures .0) (e .if1 .left) (f .choose .result .slot) (f .choose .ensures .1 (e .if1 .left))
     (r .accepted .result) _ (r .accepted .ensures) (p .put .ensures)
 
 pub insert-spec : {M : Type 1} → statement M

@@ -64,7 +64,7 @@ returns c =
     let k = e .before .before in
     let d = k .before in
     let s = start e in
-    put-is (at-entry s) (s .args .s) (s .args .at) (s .pre) (s .args .obj)
+    put-is (at-entry s) (s .args .s) (s .args .at) (s .pre) (s .args .obj) (s .args .tracker)
     (used-read e .index-of .result) (rows-read e .index-of2 .result) (d .cell-at .result) (k .key-of .result) (e .before .entry-row .result) (e .entry-spot .result)
     (used-read e .index-of .ensures) (rows-read e .index-of2 .ensures) (d .cell-at .ensures) (k .key-of .ensures) (e .before .entry-row .ensures) (e .entry-spot .ensures)
     _ _ _ _ _ _ _ (g .enter-cell .result)

@@ -10,7 +10,7 @@ use Rattle.point_search.proofs.fill.fill.Tie as tie
 -- what was met, where the outputs have room for all entries in use
 module _ (p : tie.After-put-range) where
   abbrev start : tie.Start
-  start = p .before .before .before .before .before .before .before
+  start = p .before .before .before .before .before .before
 
   abbrev js : List ℕ
   js = let a = start .args in placesOf (a .a) (a .b) (a .test) (a .pool .now) (a .spots .now) (a .used)
@@ -20,13 +20,13 @@ module _ (p : tie.After-put-range) where
 
 cast-count : tie.Need-cast-t29
 cast-count c =
-    let p = c .before .before .before .before in
+    let p = c .before .before .before in
     let most : p .put-range .result ≤ 4096 = omega (arith, p .put-range .ensures .0, few p, start p .pre .0 .most) in
     search needs
 
 returns-2 : tie.Need-returns-2
 returns-2 c =
-    let p = c .before .before .before .before in
+    let p = c .before .before .before in
     let e = p .before .before .before .before in
     let a = start p .args in
     let g = p .put-range .ensures in

@@ -10,14 +10,14 @@ use Rattle.point_search.proofs.fill.fill_few.Tie as tie
 
 gather-requires : tie.Need-gather-requires
 gather-requires c κs =
-    let s = c .before .before in
+    let s = c .before in
     let a = s .args in
     (s .pre .0, s .pre .1, s .pre .2, search needs, begun-none (a .a) (a .b) (a .test) (a .pool .now) (a .spots .now) _, search needs)
 
 -- what was gathered
 module _ (g : tie.After-gather) where
   abbrev start : tie.Start
-  start = g .before .before .before
+  start = g .before .before
 
   abbrev last : List ℕ
   last = g .gather .last .1 .1 .1 .1 .1 .1 .1 .0
@@ -43,7 +43,7 @@ report-requires c κs =
 
 returns : tie.Need-returns
 returns c =
-    let p = c .before .before .before .before in
+    let p = c .before .before .before in
     let t = p .before .before .before .before .before in
     let g = t .before .before .before in
     let a = start g .args in

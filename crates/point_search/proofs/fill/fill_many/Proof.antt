@@ -10,7 +10,7 @@ use Rattle.point_search.proofs.fill.fill_many.Tie as tie
 
 copy-requires : tie.Need-copy-requires
 copy-requires c κs =
-    let s = c .before .before .before in
+    let s = c .before .before in
     let a = s .args in
     let few = begun-few (a .a) (a .b) (a .test) (a .pool .now) (a .spots .now) (a .part .number) (a .part .place) (a .few .now) (s .pre .2) in
     let room = begun-room (a .a) (a .b) (a .test) (a .pool .now) (a .spots .now) (a .part .number) (a .part .place) (a .few .now) (s .pre .2) in
@@ -20,7 +20,7 @@ copy-requires c κs =
 gather-requires : tie.Need-gather-requires
 gather-requires c κs =
     let k = c .before .before in
-    let s = k .before .before .before .before in
+    let s = k .before .before .before in
     let a = s .args in (
       s .pre .0 .0,
       s .pre .0 .1,
@@ -36,7 +36,7 @@ module _ (g : tie.After-gather) where
   copied = g .before .before .before
 
   abbrev start : tie.Start
-  start = copied .before .before .before .before
+  start = copied .before .before .before
 
   abbrev last : List ℕ
   last = g .gather .last .1 .1 .1 .1 .1 .1 .1 .0
@@ -68,7 +68,7 @@ report-requires c κs =
 
 returns : tie.Need-returns
 returns c =
-    let p = c .before .before .before .before in
+    let p = c .before .before .before in
     let g = p .before .before .before .before .before .before in
     let a = start g .args in
     p .report .ensures ∙ ap (λ (js : List ℕ). filled (a .nums .now) (a .pool .now) (a .spots .now) js (outputs (a .handles .now) (a .places .now) (a .objs .now))) (all g)

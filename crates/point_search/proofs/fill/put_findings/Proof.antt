@@ -1,9 +1,8 @@
 -- `point_search::fill::put_findings` meets its contract: the rows of the places passed stand in the first places of the outputs. Assumes nothing.
 use Rattle.basics.specs.Words.{_<_, _-_, _≡_, sym, ap, _∙_, subst, length, getD, take, arith, needs}
 use Rattle.point_records.specs.declared.Entry.{Entry}
-use Rattle.point_search.specs.declared.Finding.{Finding}
-use Rattle.point_search.specs.Meaning.Searches.{handleRow, placeRow, outputs}
-use Rattle.point_search.specs.Inner.Fill.{findingOf, findingAt, handleRowAt, placeRowAt, findingObjAt, Findable}
+use Rattle.point_search.specs.Meaning.Searches.{handleRow, placeRow, objRow, outputs}
+use Rattle.point_search.specs.Inner.Fill.{findingOf, findingAt, handleRowAt, placeRowAt, objRowAt, Findable}
 use Rattle.storage.proofs.laws.PutLaws.{Rows, rows-none, rows-kept, rows-room, put-next, put-done}
 use Rattle.point_search.proofs.fill.put_findings.Statement.{statement}
 use Rattle.point_search.proofs.fill.put_findings.Tie as tie
@@ -12,13 +11,13 @@ abbrev Inv-loop : tie.InvT-loop
 Inv-loop nums pool spots found r handles₀ places₀ objs₀ k₀ handles places objs k =
     Rows (handleRowAt nums pool spots) (take k found) r handles₀ handles k
     × Rows (placeRowAt nums pool spots) (take k found) r places₀ places k
-    × Rows (findingObjAt nums pool spots) (take k found) r objs₀ objs k
+    × Rows (objRowAt nums pool spots) (take k found) r objs₀ objs k
 
 abbrev μ-loop : tie.MeasureT-loop
 μ-loop nums pool spots found r handles₀ places₀ objs₀ k₀ handles places objs k = r - k
 
 abbrev start : tie.At-loop Inv-loop μ-loop → tie.Start Inv-loop μ-loop
-start l = l .before .before .before
+start l = l .before .before
 
 -- the place at hand is one of an entry
 here : (w : tie.After-wide Inv-loop μ-loop)
@@ -56,7 +55,7 @@ in-outputs c κs =
 
 loop-again : tie.Need-loop-again Inv-loop μ-loop
 loop-again c =
-    let p = c .before .before .before .before in
+    let p = c .before .before .before in
     let f = p .before .before .before .before in
     let i = f .before .before .before .before in
     let l = i .before in
@@ -67,7 +66,7 @@ loop-again c =
     let h = i .loop-test .taken in (
       put-next found (v .0) (s .pre .0 .0) (room .0) h (p .put-finding .ensures .0) (ap handleRow (reported f)),
       put-next found (v .1) (s .pre .0 .0) (room .1) h (p .put-finding .ensures .1 .0) (ap placeRow (reported f)),
-      put-next found (v .2) (s .pre .0 .0) (room .2) h (p .put-finding .ensures .1 .1) (ap (λ (r : Finding). r .obj) (reported f)),
+      put-next found (v .2) (s .pre .0 .0) (room .2) h (p .put-finding .ensures .1 .1) (ap objRow (reported f)),
     )
 
 returns : tie.Need-returns Inv-loop μ-loop

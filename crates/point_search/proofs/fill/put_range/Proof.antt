@@ -9,7 +9,7 @@ use Rattle.storage.proofs.laws.WrittenLaws.{length-written}
 use Rattle.storage.proofs.laws.RunLaws.{run-onward}
 use Rattle.point_search.specs.Meaning.Searches.{outputs, filling}
 use Rattle.point_search.specs.Inner.Places.{placesIn, spotPasses, placesOf}
-use Rattle.point_search.specs.Inner.Fill.{findingAt, handleRowAt, placeRowAt, findingObjAt}
+use Rattle.point_search.specs.Inner.Fill.{findingAt, handleRowAt, placeRowAt, objRowAt}
 use Rattle.point_search.proofs.laws.StretchLaws.{places-most, places-run}
 use Rattle.point_search.proofs.laws.RowLaws.{rows-behind}
 use Rattle.point_search.proofs.fill.put_range.Statement.{statement}
@@ -23,7 +23,7 @@ Inv-loop nums pool spots used test handles₀ places₀ objs₀ low high n₀ i�
     → (n ≡ length (placesOf a b test pool spots i))
     × (handles ≡ written (map (handleRowAt nums pool spots) (placesOf a b test pool spots i)) handles₀)
     × (places ≡ written (map (placeRowAt nums pool spots) (placesOf a b test pool spots i)) places₀)
-    × (objs ≡ written (map (findingObjAt nums pool spots) (placesOf a b test pool spots i)) objs₀))
+    × (objs ≡ written (map (objRowAt nums pool spots) (placesOf a b test pool spots i)) objs₀))
 
 abbrev μ-loop : tie.MeasureT-loop
 μ-loop nums pool spots used test handles₀ places₀ objs₀ low high n₀ i₀ handles places objs n i = used - i
@@ -31,7 +31,7 @@ abbrev μ-loop : tie.MeasureT-loop
 -- what is met up to the loop's head, and what is written of it
 module _ (l : tie.At-loop Inv-loop μ-loop) where
   abbrev start : tie.Start Inv-loop μ-loop
-  start = l .before .before .before .before
+  start = l .before .before .before
 
   abbrev js : List ℕ
   js = let a = start .args in placesOf (a .a) (a .b) (a .test) (a .pool .now) (a .spots .now) (l .loop .i)
@@ -42,8 +42,8 @@ module _ (l : tie.At-loop Inv-loop μ-loop) where
   abbrev place : ℕ → List Float
   place = let a = start .args in placeRowAt (a .nums .now) (a .pool .now) (a .spots .now)
 
-  abbrev obj : ℕ → ℕ
-  obj = let a = start .args in findingObjAt (a .nums .now) (a .pool .now) (a .spots .now)
+  abbrev obj : ℕ → List ℕ
+  obj = let a = start .args in objRowAt (a .nums .now) (a .pool .now) (a .spots .now)
 
   met : (l .loop .n ≡ length js)
       × (l .loop .handles ≡ written (map handle js) (start .args .handles .now))
@@ -90,13 +90,13 @@ put-run-requires c κs =
 
 loop-less : tie.Need-loop-less Inv-loop μ-loop
 loop-less c =
-    let x = c .before .before .before .before .before .before .before .before in
+    let x = c .before .before .before .before .before .before .before in
     let n = x .next-run .ensures in
     omega (arith, run-onward _ _ (x .before .before .loop .i) _ _ _ _ _ n (x .before .loop-test .taken), n .within)
 
 loop-again : tie.Need-loop-again Inv-loop μ-loop
 loop-again c =
-    let p = c .before .before .before .before in
+    let p = c .before .before .before in
     let x = p .before .before .before .before in
     let l = x .before .before in
     let y = start l .args in

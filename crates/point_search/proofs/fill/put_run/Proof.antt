@@ -4,10 +4,9 @@ use Rattle.basics.specs.Words.{needs}
 use lib.Ieee.{Float}
 use Rattle.storage.specs.Meaning.Keyed.{written}
 use Rattle.point_records.specs.declared.Entry.{Entry}
-use Rattle.point_search.specs.declared.Finding.{Finding}
-use Rattle.point_search.specs.Meaning.Searches.{passes, handleRow, placeRow}
+use Rattle.point_search.specs.Meaning.Searches.{passes, handleRow, placeRow, objRow}
 use Rattle.point_search.specs.Inner.Places.{spotPasses}
-use Rattle.point_search.specs.Inner.Fill.{findingOf, handleRowAt, placeRowAt, findingObjAt}
+use Rattle.point_search.specs.Inner.Fill.{findingOf, handleRowAt, placeRowAt, objRowAt}
 use Rattle.point_search.proofs.laws.PlacesLaws.{passed, passed-more, passed-same, places-length}
 use Rattle.point_search.proofs.laws.RowLaws.{rowsTo, rows-none, rows-kept, rows-taken, rows-passed}
 use Rattle.point_search.proofs.fill.put_run.Statement.{statement}
@@ -20,7 +19,7 @@ Inv-loop nums pool spots from to test n handles₀ places₀ objs₀ k₀ j₀ h
     × (k ≡ n + length (passed (spotPasses test spots) from j))
     × (handles ≡ written (take n handles₀ ++ map (handleRowAt nums pool spots) (passed (spotPasses test spots) from j)) handles₀)
     × (places ≡ written (take n places₀ ++ map (placeRowAt nums pool spots) (passed (spotPasses test spots) from j)) places₀)
-    × (objs ≡ written (take n objs₀ ++ map (findingObjAt nums pool spots) (passed (spotPasses test spots) from j)) objs₀)
+    × (objs ≡ written (take n objs₀ ++ map (objRowAt nums pool spots) (passed (spotPasses test spots) from j)) objs₀)
 
 abbrev μ-loop : tie.MeasureT-loop
 μ-loop nums pool spots from to test n handles₀ places₀ objs₀ k₀ j₀ handles places objs k j = to - j
@@ -36,8 +35,8 @@ module _ (s : tie.Start Inv-loop μ-loop) where
   abbrev place : ℕ → List Float
   place = placeRowAt (s .args .nums .now) (s .args .pool .now) (s .args .spots .now)
 
-  abbrev obj : ℕ → ℕ
-  obj = findingObjAt (s .args .nums .now) (s .args .pool .now) (s .args .spots .now)
+  abbrev obj : ℕ → List ℕ
+  obj = objRowAt (s .args .nums .now) (s .args .pool .now) (s .args .spots .now)
 
   handles-size : s .args .n ≤ length (s .args .handles .now)
   handles-size = omega (arith, s .pre)
@@ -49,7 +48,7 @@ module _ (s : tie.Start Inv-loop μ-loop) where
   objs-size = omega (arith, s .pre)
 
 abbrev start : tie.At-loop Inv-loop μ-loop → tie.Start Inv-loop μ-loop
-start l = l .before .before
+start l = l .before
 
 handles-kept : (l : tie.At-loop Inv-loop μ-loop) → length (l .loop .handles) ≡ length (start l .args .handles .now)
 handles-kept l =
@@ -70,8 +69,7 @@ few : (l : tie.At-loop Inv-loop μ-loop) → l .loop .k ≤ start l .args .n + (
 few l = let s = start l in omega (arith, l .loop .inv .2, places-length (test-of s) (s .args .from) (l .loop .j - s .args .from))
 
 loop-holds : tie.Need-loop-holds Inv-loop μ-loop
-loop-holds c =
-    let s = c .before in
+loop-holds s =
     let a = s .args in (
       omega arith,
       s .pre .1,
@@ -105,7 +103,7 @@ in-outputs c κs =
 
 add-k : tie.Need-add-k Inv-loop μ-loop
 add-k c =
-    let i = c .before .before .before .before .before .before .before .before .before .before .before .before .before in
+    let i = c .before .before .before .before .before .before .before .before .before .before .before .before in
     let l = i .before in
     let h : l .loop .k < 4096 = omega (arith, few l, i .loop-test .taken, l .loop .inv .0, start l .pre) in
     search needs
@@ -133,10 +131,10 @@ loop-again c =
     let f = w .1 .ensures ∙ ap (findingOf (a .nums .now)) (e .entry-at .ensures) in (
       omega arith,
       omega arith,
-      omega (arith, w .13, v .2, ap length (passed-more t (a .from) j (v .0) y) ∙ length-append (passed t (a .from) j) (j ∷ [])),
-      w .10 ∙ w .5 .ensures .0 ∙ rows-taken (handle s) t (a .from) (a .n) (a .handles .now) (handles-size s) j (l .loop .k) (l .loop .handles) (v .0) (v .2) (v .3) _ y (ap handleRow f) (omega (arith, more, v .0, s .pre)),
-      w .11 ∙ w .5 .ensures .1 .0 ∙ rows-taken (place s) t (a .from) (a .n) (a .places .now) (places-size s) j (l .loop .k) (l .loop .places) (v .0) (v .2) (v .4) _ y (ap placeRow f) (omega (arith, more, v .0, s .pre)),
-      w .12 ∙ w .5 .ensures .1 .1 ∙ rows-taken (obj s) t (a .from) (a .n) (a .objs .now) (objs-size s) j (l .loop .k) (l .loop .objs) (v .0) (v .2) (v .5) _ y (ap (λ (r : Finding). r .obj) f) (omega (arith, more, v .0, s .pre)),
+      omega (arith, w .12, v .2, ap length (passed-more t (a .from) j (v .0) y) ∙ length-append (passed t (a .from) j) (j ∷ [])),
+      w .9 ∙ w .5 .ensures .0 ∙ rows-taken (handle s) t (a .from) (a .n) (a .handles .now) (handles-size s) j (l .loop .k) (l .loop .handles) (v .0) (v .2) (v .3) _ y (ap handleRow f) (omega (arith, more, v .0, s .pre)),
+      w .10 ∙ w .5 .ensures .1 .0 ∙ rows-taken (place s) t (a .from) (a .n) (a .places .now) (places-size s) j (l .loop .k) (l .loop .places) (v .0) (v .2) (v .4) _ y (ap placeRow f) (omega (arith, more, v .0, s .pre)),
+      w .11 ∙ w .5 .ensures .1 .1 ∙ rows-taken (obj s) t (a .from) (a .n) (a .objs .now) (objs-size s) j (l .loop .k) (l .loop .objs) (v .0) (v .2) (v .5) _ y (ap objRow f) (omega (arith, more, v .0, s .pre)),
     ))
     (λ w.
     let y = sym (tested (c .before)) ∙ w .0 .left in (

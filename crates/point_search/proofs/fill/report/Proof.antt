@@ -24,9 +24,9 @@ module _ (s : tie.Start) where
 
 returns-2 : tie.Need-returns-2
 returns-2 c =
-    let p = c .before .before .before .before in
+    let p = c .before .before .before in
     let e = p .before .before .before .before in
-    let s = e .before .before .before .before in
+    let s = e .before .before .before in
     let a = s .args in
     filled-put (a .nums .now) (a .pool .now) (a .spots .now) (js s) (lent s) (a .r) _ (number s) (p .put-findings .ensures) (omega (arith, e .before .room .ensures, e .if1 .left))
 
@@ -36,7 +36,7 @@ report-spec =
     (tie.spec
     (λ c. search needs)
     (λ c κs. search needs)
-    (λ c. short (c .before .before .before .before) (omega (arith, c .before .room .ensures, c .if1 .taken)))
+    (λ c. short (c .before .before .before) (omega (arith, c .before .room .ensures, c .if1 .taken)))
     (λ c κs. search needs)
     (λ c. search needs)
     (λ c. search needs)

@@ -64,14 +64,16 @@ arguments-spec =
       c .before .enum-told4 .given .1,
     ))
     (λ c κs. search needs)
+    (λ c. search needs)
+    (λ c. search needs)
+    (λ c κs. search needs)
     (λ c.
-    let n = c .before .before in
+    let n = c .before .before .before .before .before in
     let f = n .before .before .before .before in
     let p = f .before .before .before .before in
     let h = p .before .before .before .before in
     rw (
-      c .whole .ensures,
-      toZ-ofZ (record { sfits = c .before .before .before .before .before .known-told3 .given .0 .1 }),
+      c .unreadable5 .ensures,
       ← (h .before .before .handle-if .ensures),
       h .first .given .1,
       ← (p .before .before .spots-if .ensures),
@@ -80,4 +82,27 @@ arguments-spec =
       f .radius .given .1,
       ← (n .before .before .number-if .ensures),
       n .number .given .1,
+      ← (c .before .before .before .number-if2 .ensures),
+      c .before .enum-told5 .given .1,
+    ))
+    (λ c κs. search needs)
+    (λ c.
+    let t = c .before .before in
+    let n = t .before .before .before .before in
+    let f = n .before .before .before .before in
+    let p = f .before .before .before .before in
+    let h = p .before .before .before .before in
+    rw (
+      c .whole .ensures,
+      toZ-ofZ (record { sfits = c .before .before .before .before .before .before .before .before .before .known-told3 .given .0 .1 }),
+      ← (h .before .before .handle-if .ensures),
+      h .first .given .1,
+      ← (p .before .before .spots-if .ensures),
+      p .places .given .1,
+      ← (f .before .before .count-if .ensures),
+      f .radius .given .1,
+      ← (n .before .before .number-if .ensures),
+      n .number .given .1,
+      ← (t .before .before .number-if2 .ensures),
+      t .tracker .given .1,
     )))

@@ -29,7 +29,7 @@ unfolding ofBits
 slice-aggregate-put-record-3 c = sym (c .before .before .before .before .before .before .before .before .before .before .before .before .before .before .before .before .before .before .before .before .before .answer .kept .1 .1 .1 .1 .1 .1 .1 .1 .1 .1 .1 .1 .1 .0 ∙ length-replicate 64 (replicate 4 naught))
 
 slice-aggregate-put-record-4 : tie.Need-slice-aggregate-put-record-4
-slice-aggregate-put-record-4 c = sym (c .before .before .before .before .before .before .before .before .before .before .before .before .before .before .before .before .before .before .before .before .before .before .answer .kept .1 .1 .1 .1 .1 .1 .1 .1 .1 .1 .1 .1 .1 .1 .0 ∙ length-replicate {A = ℕ} 256 0)
+slice-aggregate-put-record-4 c = sym (c .before .before .before .before .before .before .before .before .before .before .before .before .before .before .before .before .before .before .before .before .before .before .answer .kept .1 .1 .1 .1 .1 .1 .1 .1 .1 .1 .1 .1 .1 .1 .0 ∙ length-replicate 256 (replicate {A = ℕ} 2 0))
 
 put-record-requires : tie.Need-put-record-requires
 unfolding ofBits
