@@ -1,5 +1,4 @@
 -- What must be believed: what the public calls and the demands cite.
-pub mod Lent
 pub mod Limits
 pub mod Outcome
 pub mod Refusals

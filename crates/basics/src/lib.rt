@@ -1,5 +1,7 @@
 // The limits of document 01, and numbers taken from one width to a wider one: an index asks for a usize.
-ghost use Rattle.basics.specs.Words.{◌≡◌};
+#![tactic(auto)]
+
+ghost use Rattle.std.specs.Prelude.{◌≡◌};
 
 // The most slots of a point grid, the most slots and entries of a box grid, and the most cells of a query's range and of one box.
 pub const MOST_SLOTS: usize = 4096;

@@ -1,7 +1,9 @@
 // Slots that are all free: what building a grid starts from, whatever the tables held.
-ghost use Rattle.basics.specs.Words.{◌+◌, ◌≤◌, ◌≡◌, ◌∷◌, ◌++◌, length, take, drop};
+#![tactic(auto)]
+
+ghost use Rattle.std.specs.Prelude.{◌+◌, ◌≤◌, ◌≡◌, ◌∷◌, ◌++◌};
+ghost use Rattle.basics.specs.Words.{length, take, drop};
 ghost use Rattle.basics.specs.Meaning.Limits.{most_slots};
-ghost use Rattle.basics.specs.Meaning.Lent.{was, is};
 ghost use Rattle.basics.specs.Meaning.Refusals.{first_of};
 ghost use Rattle.slots.specs.Meaning.Map.{words_for};
 ghost use Rattle.blank.specs.Meaning.Blank.{free_word, free_words, blank_nums, blank_map, build_tests};
@@ -23,7 +25,7 @@ pub fn answer(sized: bool, size: u32) -> u32
 
 // Every slot is free at version 1.
 pub fn free_slots(nums: &mut [Row])
-    ensures { is nums ≡ blank_nums (length (was nums)) }
+    ensures { nums.new ≡ blank_nums (length nums.old) }
 {
     let mut i = 0;
     while i < nums.len() {
@@ -45,7 +47,7 @@ fn free_word(n: usize) -> u64
 // The words of n slots, behind the head words.
 fn free_words(map: &mut [u64], n: usize)
     requires { (length map.old ≡ 3 + words_for n) × (n ≤ most_slots) }
-    ensures { is map ≡ take 3 (was map) ++ free_words (words_for n) n }
+    ensures { map.new ≡ take 3 map.old ++ free_words (words_for n) n }
 {
     let words = slots::words_for(n);
     let mut w = 0;
@@ -58,7 +60,7 @@ fn free_words(map: &mut [u64], n: usize)
 // The head words of a grid with no entry.
 fn new_head(map: &mut [u64], size: u32)
     requires { 3 ≤ length map.old }
-    ensures { is map ≡ size ∷ 0 ∷ 0 ∷ drop 3 (was map) }
+    ensures { map.new ≡ size ∷ 0 ∷ 0 ∷ drop 3 map.old }
 {
     map[0] = size as u64;
     map[1] = 0;
@@ -68,7 +70,7 @@ fn new_head(map: &mut [u64], size: u32)
 // The map of n slots that are all free.
 pub fn new_map(map: &mut [u64], n: usize, size: u32)
     requires { (length map.old ≡ 3 + words_for n) × (n ≤ most_slots) }
-    ensures { is map ≡ blank_map n size }
+    ensures { map.new ≡ blank_map n size }
 {
     free_words(map, n);
     new_head(map, size);

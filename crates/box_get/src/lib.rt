@@ -1,19 +1,21 @@
 // Reading a box grid: `get`, `len`, `handles`. Each checks the tables first.
-ghost use Rattle.basics.specs.Words.{◌≤◌, ◌≡◌, true, length};
+#![tactic(auto)]
+
+ghost use Rattle.std.specs.Prelude.{◌≤◌, ◌≡◌};
+ghost use Rattle.basics.specs.Words.{true, length};
 ghost use Rattle.basics.specs.Meaning.Limits.{most_boxes};
-ghost use Rattle.basics.specs.Meaning.Lent.{was, is};
-ghost use Rattle.box_tables.specs.Meaning.Lent.{before};
 ghost use Rattle.slot_walks.specs.Meaning.Live.{live_from};
 ghost use Rattle.box_get.specs.Inner.Live.{count_by};
 ghost use Rattle.box_get.specs.Meaning.Reads.{got, get_of, len_of, handles_of, listing};
 ghost use Rattle.geometry.specs.Meaning.Zero.{zero-aabb};
+ghost use Rattle.box_tables.specs.Meaning.Tables.{tables};
 
 use geometry::{Aabb, Position};
 use replies::Count;
 use slots::{Handle, Row};
 
 // The box and the data of an object beside the answer.
-#[derive(Drop)]
+#[derive(Clone, Copy)]
 pub struct Got {
     pub answer: u32,
     pub aabb: Aabb,
@@ -33,7 +35,7 @@ fn no_box(answer: u32) -> Got
 }
 
 pub fn get(nums: &[Row], reals: &[[f32; 4]], map: &[u64], pool: &[[u64; 2]], h: Handle) -> Got
-    ensures { result ≡ get_of (before nums reals map pool) h }
+    ensures { result ≡ get_of (tables nums.now reals.now map.now pool.now) h }
 {
     if !box_tables::check(nums, reals, map, pool) {
         return no_box(3);
@@ -56,7 +58,7 @@ pub fn get(nums: &[Row], reals: &[[f32; 4]], map: &[u64], pool: &[[u64; 2]], h: 
 
 // The number of objects: they are the live slots.
 pub fn len(nums: &[Row], reals: &[[f32; 4]], map: &[u64], pool: &[[u64; 2]]) -> Count
-    ensures { result ≡ len_of (before nums reals map pool) }
+    ensures { result ≡ len_of (tables nums.now reals.now map.now pool.now) }
 {
     if !box_tables::check(nums, reals, map, pool) {
         return Count {
@@ -74,7 +76,7 @@ pub fn len(nums: &[Row], reals: &[[f32; 4]], map: &[u64], pool: &[[u64; 2]]) -> 
 // The answer of a call that writes a row for each object into outputs of so many places, with the number of objects.
 pub fn list_answer(nums: &[Row], held: bool, room: usize) -> Count
     requires { held ≡ true → length nums.now ≤ most_boxes }
-    ensures { result ≡ count_by held (length (live_from 0 (was nums))) room }
+    ensures { result ≡ count_by held (length (live_from 0 nums.now)) room }
 {
     if !held {
         return Count {
@@ -103,7 +105,7 @@ pub fn handles(
     pool: &[[u64; 2]],
     out: &mut [[u32; 2]],
 ) -> Count
-    ensures { listing result (is out) ≡ handles_of (before nums reals map pool) (was out) }
+    ensures { listing result out.new ≡ handles_of (tables nums.now reals.now map.now pool.now) out.old }
 {
     let held = box_tables::check(nums, reals, map, pool);
     let c = list_answer(nums, held, out.len());

@@ -78,7 +78,7 @@ module _ (t : Tables) (b : Aabb) (d : ℕ) (held : Bool) (eh : held ≡ holds t)
           let k = all_passed held (aabb_in_domain b) (few_cells (size_of t) b) (lowest_usable t.map (slots_of t)) (has_room t b) (sym ea ∙ z) in
           let h = (holds_says t).yes (sym eh ∙ k.0) in
           let f = lowest_free t.nums t.map h.slots s u in
-          record { holds = h; inside = f.0; is_free = f.1; in_domain_lem = (says_t (aabb_in_domain b)).yes k.1; few = (few_says t b).yes k.2; room = (room_says t b).yes k.3 }
+          record { holds = h; inside = f.0; is_free = f.1; within_domain = (says_t (aabb_in_domain b)).yes k.1; few = (few_says t b).yes k.2; room = (room_says t b).yes k.3 }
 
       pub done : (r : Inserted) (w : Tables) → r ≡ inserted 0 s (version_at t.nums s) → w ≡ put t s b d → outcome r w ≡ insert_of t b d
-      done r w e q = rw (e, q) (sym (insert-done t b d s chosen.holds chosen.in_domain_lem chosen.few u chosen.room))
+      done r w e q = rw (e, q) (sym (insert-done t b d s chosen.holds chosen.within_domain chosen.few u chosen.room))

@@ -26,8 +26,8 @@ module _ (t : Tables) (s : ℕ) (b : Aabb) (f : Fresh t s b) (u : ℕ) (eu : u �
   enter_asks = (
     omega (arith, ap (λ (q : Span). cells_in q.low q.high) ep, f.room),
     subst (λ (n : ℕ). Sorted row_key (take n t.pool)) (sym eu) (entries_sorted t f.holds),
-    subst (λ (q : Span). Near q.low) (sym ep) (low_near b f.in_domain_lem (size_of t)),
-    subst (λ (q : Span). Near q.high) (sym ep) (high-near b f.in_domain_lem (size_of t)),
+    subst (λ (q : Span). Near q.low) (sym ep) (low_near b f.within_domain (size_of t)),
+    subst (λ (q : Span). Near q.high) (sym ep) (high-near b f.within_domain (size_of t)),
   )
 
   pub few-more : u + p.cells ≤ 8192

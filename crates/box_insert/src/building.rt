@@ -1,8 +1,8 @@
 // Building: every slot is free at version 1, and no list has an entry.
-ghost use Rattle.basics.specs.Words.{◌≡◌};
-ghost use Rattle.box_tables.specs.Meaning.Lent.{after, before};
+ghost use Rattle.std.specs.Prelude.{◌≡◌};
 ghost use Rattle.box_tables.specs.Meaning.Outcome.{outcome};
 ghost use Rattle.box_insert.specs.Meaning.New.{new_of};
+ghost use Rattle.box_tables.specs.Meaning.Tables.{tables};
 
 use slots::Row;
 
@@ -14,7 +14,7 @@ pub fn new(
     pool: &[[u64; 2]],
     size: u32,
 ) -> u32
-    ensures { outcome result (after nums reals map pool) ≡ new_of (before nums reals map pool) size }
+    ensures { outcome result (tables nums.new reals.now map.new pool.now) ≡ new_of (tables nums.old reals.now map.old pool.now) size }
 {
     let sized = box_tables::lengths_ok(nums.len(), reals.len(), map.len(), pool.len());
     let a = blank::answer(sized, size);

@@ -1,13 +1,12 @@
 // `insert`: the lowest usable slot takes the box, which goes to the end of the list of every cell that it covers.
-ghost use Rattle.basics.specs.Words.{◌+◌, ◌/◌, ◌≤◌, ◌<◌, ◌≡◌, true, [], ◌∷◌, length, get_or, set};
+ghost use Rattle.std.specs.Prelude.{◌+◌, ◌/◌, ◌≤◌, ◌<◌, ◌≡◌, ◌∷◌};
+ghost use Rattle.basics.specs.Words.{true, [], length, get_or, set};
 ghost use Rattle.basics.specs.Meaning.Limits.{most_boxes};
-ghost use Rattle.basics.specs.Meaning.Lent.{was, is};
 ghost use Rattle.basics.specs.Meaning.Refusals.{or_else};
 ghost use Rattle.slots.specs.declared.Usable.TheVariants.{At};
 ghost use Rattle.slots.specs.Meaning.Map.{taken, is_some};
 ghost use Rattle.slots.specs.Meaning.Slot.{live, version_at};
-ghost use Rattle.box_tables.specs.Meaning.Tables.{counting, corners_of};
-ghost use Rattle.box_tables.specs.Meaning.Lent.{after, before, lent};
+ghost use Rattle.box_tables.specs.Meaning.Tables.{counting, corners_of, tables};
 ghost use Rattle.box_tables.specs.Meaning.Outcome.{outcome};
 ghost use Rattle.box_tables.specs.Inner.Way.{span_of};
 ghost use Rattle.box_insert.specs.Meaning.Insert;
@@ -23,7 +22,7 @@ use replies::Inserted;
 use slots::{Handle, Row, Usable};
 
 // The answer, and where it is 0 the slot and the range of cells.
-#[derive(Drop)]
+#[derive(Clone, Copy)]
 struct Choice {
     answer: u32,
     slot: usize,
@@ -75,7 +74,7 @@ fn slot_for(u: Usable, fits: bool, p: Span) -> Choice
 // The first refusal that applies, or the lowest usable slot. The pool has `room` entries.
 fn choose(nums: &[Row], map: &[u64], room: usize, held: bool, b: Aabb) -> Choice
     requires { held ≡ true → Ready nums.now map.now }
-    ensures { Chosen (was nums) (was map) room held b result.answer result.slot result.span }
+    ensures { Chosen nums.now map.now room held b result.answer result.slot result.span }
 {
     if !held {
         return refusal(3);
@@ -96,7 +95,7 @@ fn choose(nums: &[Row], map: &[u64], room: usize, held: bool, b: Aabb) -> Choice
 // The object is in slot s, at the version that the slot has.
 fn accepted(nums: &[Row], s: usize) -> Inserted
     requires { (s < length nums.now) × (length nums.now ≤ most_boxes) }
-    ensures { result ≡ inserted 0 s (version_at (was nums) s) }
+    ensures { result ≡ inserted 0 s (version_at nums.now s) }
 {
     let row = nums[s];
     let version = row[0];
@@ -112,7 +111,7 @@ fn accepted(nums: &[Row], s: usize) -> Inserted
 // Slot s takes the object: its version stays.
 fn occupy(nums: &mut [Row], s: usize, obj: u32)
     requires { s < length nums.old }
-    ensures { is nums ≡ set (was nums) s (version_at (was nums) s ∷ live ∷ obj ∷ 0 ∷ []) }
+    ensures { nums.new ≡ set nums.old s (version_at nums.old s ∷ live ∷ obj ∷ 0 ∷ []) }
 {
     let row = nums[s];
     nums[s] = [row[0], slots::LIVE, obj, 0];
@@ -121,7 +120,7 @@ fn occupy(nums: &mut [Row], s: usize, obj: u32)
 // The row of slot s has the corners of b.
 pub fn store_box(reals: &mut [[f32; 4]], s: usize, b: Aabb)
     requires { s < length reals.old }
-    ensures { is reals ≡ set (was reals) s (corners_of b) }
+    ensures { reals.new ≡ set reals.old s (corners_of b) }
 {
     let ll = b.ll;
     let ur = b.ur;
@@ -131,7 +130,7 @@ pub fn store_box(reals: &mut [[f32; 4]], s: usize, b: Aabb)
 // The map has slot s no more, and its head word has the count.
 fn count(map: &mut [u64], s: usize, used: usize)
     requires { 3 + s / 64 < length map.old }
-    ensures { is map ≡ counting (taken (was map) s) used }
+    ensures { map.new ≡ counting (taken map.old s) used }
 {
     slots::take(map, s);
     map[1] = basics::word_of(used);
@@ -148,8 +147,8 @@ fn put(
     p: Span,
     obj: u32,
 )
-    requires { Fresh (lent nums reals map pool) s b × (p ≡ span_of (get_or map.old 0 0) b) }
-    ensures { after nums reals map pool ≡ Insert.put (before nums reals map pool) s b obj }
+    requires { Fresh (tables nums.old reals.old map.old pool.old) s b × (p ≡ span_of (get_or map.old 0 0) b) }
+    ensures { tables nums.new reals.new map.new pool.new ≡ Insert.put (tables nums.old reals.old map.old pool.old) s b obj }
 {
     let used = basics::index_of(map[1]);
     let low = p.low;
@@ -170,7 +169,7 @@ pub fn insert(
     b: Aabb,
     obj: u32,
 ) -> Inserted
-    ensures { outcome result (after nums reals map pool) ≡ insert_of (before nums reals map pool) b obj }
+    ensures { outcome result (tables nums.new reals.new map.new pool.new) ≡ insert_of (tables nums.old reals.old map.old pool.old) b obj }
 {
     let held = box_tables::check(nums, reals, map, pool);
     let c = choose(nums, map, pool.len(), held, b);

@@ -1,4 +1,6 @@
 // Building a box grid, and inserting into it.
+#![tactic(auto)]
+
 mod building;
 mod inserting;
 

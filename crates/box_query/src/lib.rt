@@ -1,10 +1,12 @@
 // The queries of a box grid: `query_broad` and `query`. Each checks the tables first.
-ghost use Rattle.basics.specs.Words.{min, ◌≡◌, length};
+#![tactic(auto)]
+
+ghost use Rattle.std.specs.Prelude.{◌≡◌};
+ghost use Rattle.basics.specs.Words.{min, length};
 ghost use Rattle.basics.specs.Meaning.Limits.{most_boxes};
-ghost use Rattle.basics.specs.Meaning.Lent.{was, is};
-ghost use Rattle.box_tables.specs.Meaning.Lent.{before};
 ghost use Rattle.box_query.specs.Meaning.Queries.{handles_of, broad_of, findings, query_of};
 ghost use Rattle.box_query.specs.Inner.Look.{Looked};
+ghost use Rattle.box_tables.specs.Meaning.Tables.{tables};
 
 use box_search::{gather, keep, put_findings, put_handles};
 use box_tables::span_of;
@@ -23,9 +25,10 @@ fn look(
     found: &mut [u32; basics::MOST_BOXES],
 ) -> Count
     requires { length found.old ≡ most_boxes }
-    ensures { Looked (before nums reals map pool) q result (is found) }
+    ensures { Looked (tables nums.now reals.now map.now pool.now) q result found.new }
 {
-    if !box_tables::check(nums, reals, map, pool) {
+    let held = box_tables::check(nums, reals, map, pool);
+    if !held {
         return replies::refused(3);
     }
     if !aabb_in_domain(q) {
@@ -55,7 +58,7 @@ pub fn query_broad(
     q: Aabb,
     handles: &mut [[u32; 2]],
 ) -> Count
-    ensures { handles_of result (is handles) ≡ broad_of (before nums reals map pool) q (was handles) }
+    ensures { handles_of result handles.new ≡ broad_of (tables nums.now reals.now map.now pool.now) q handles.old }
 {
     let mut found: [u32; basics::MOST_BOXES] = [0; basics::MOST_BOXES];
     let seen = look(nums, reals, map, pool, q, &mut found);
@@ -90,7 +93,7 @@ pub fn query(
     boxes: &mut [[f32; 4]],
     objs: &mut [u32],
 ) -> Count
-    ensures { findings result (is handles) (is boxes) (is objs) ≡ query_of (before nums reals map pool) q (was handles) (was boxes) (was objs) }
+    ensures { findings result handles.new boxes.new objs.new ≡ query_of (tables nums.now reals.now map.now pool.now) q handles.old boxes.old objs.old }
 {
     let mut found: [u32; basics::MOST_BOXES] = [0; basics::MOST_BOXES];
     let seen = look(nums, reals, map, pool, q, &mut found);

@@ -1,10 +1,11 @@
 // `remove`: the box leaves all its lists at once, and its slot is emptied. It checks the tables first.
-ghost use Rattle.basics.specs.Words.{◌+◌, ◌/◌, ◌<◌, ◌≡◌, [], ◌∷◌, length};
-ghost use Rattle.basics.specs.Meaning.Lent.{was, is};
+#![tactic(auto)]
+
+ghost use Rattle.std.specs.Prelude.{◌+◌, ◌/◌, ◌<◌, ◌≡◌, ◌∷◌};
+ghost use Rattle.basics.specs.Words.{[], length};
 ghost use Rattle.basics.specs.Meaning.Refusals.{unless, first_of};
 ghost use Rattle.slots.specs.Meaning.Slot.{handle_test, emptied_nums, emptied_map};
-ghost use Rattle.box_tables.specs.Meaning.Tables.{counting, obj_on};
-ghost use Rattle.box_tables.specs.Meaning.Lent.{after, before, lent};
+ghost use Rattle.box_tables.specs.Meaning.Tables.{counting, obj_on, tables};
 ghost use Rattle.box_tables.specs.Meaning.Outcome.{outcome};
 ghost use Rattle.box_remove.specs.Meaning.Remove.{taken_out, remove_of};
 ghost use Rattle.box_remove.specs.Inner.Steps.{Object};
@@ -14,7 +15,7 @@ use slots::{Handle, Row};
 
 // The answer: the first refusal that applies, or 0.
 fn answer(nums: &[Row], held: bool, h: Handle) -> u32
-    ensures { result ≡ first_of (unless held 3 ∷ handle_test (was nums) h ∷ []) }
+    ensures { result ≡ first_of (unless held 3 ∷ handle_test nums.now h ∷ []) }
 {
     if !held {
         return 3;
@@ -25,8 +26,8 @@ fn answer(nums: &[Row], held: bool, h: Handle) -> u32
 // Slot s is emptied, and the head word of the map has the count.
 fn empty(nums: &mut [Row], map: &mut [u64], s: usize, used: usize)
     requires { (s < length nums.old) × (3 + s / 64 < length map.old) }
-    ensures nums { is nums ≡ emptied_nums (was nums) s }
-    ensures map { is map ≡ counting (emptied_map (was nums) (was map) s) used }
+    ensures nums { nums.new ≡ emptied_nums nums.old s }
+    ensures map { map.new ≡ counting (emptied_map nums.old map.old s) used }
 {
     slots::empty(nums, map, s);
     map[1] = basics::word_of(used);
@@ -40,8 +41,8 @@ fn take_out(
     pool: &mut [[u64; 2]],
     s: usize,
 ) -> u32
-    requires { Object (lent nums reals map pool) s }
-    ensures { outcome result (after nums reals map pool) ≡ outcome (obj_on (before nums reals map pool) s) (taken_out (before nums reals map pool) s) }
+    requires { Object (tables nums.old reals.now map.old pool.old) s }
+    ensures { outcome result (tables nums.new reals.now map.new pool.new) ≡ outcome (obj_on (tables nums.old reals.now map.old pool.old) s) (taken_out (tables nums.old reals.now map.old pool.old) s) }
 {
     let row = nums[s];
     let used = basics::index_of(map[1]);
@@ -63,7 +64,7 @@ pub fn remove(
     pool: &mut [[u64; 2]],
     h: Handle,
 ) -> Reply
-    ensures { outcome result (after nums reals map pool) ≡ remove_of (before nums reals map pool) h }
+    ensures { outcome result (tables nums.new reals.now map.new pool.new) ≡ remove_of (tables nums.old reals.now map.old pool.old) h }
 {
     let held = box_tables::check(nums, reals, map, pool);
     let a = answer(nums, held, h);

@@ -1,7 +1,7 @@
 // Collecting the slots that the entries of a range name, each once.
-ghost use Rattle.basics.specs.Words.{◌≤◌, ◌≡◌, map, length, take};
+ghost use Rattle.std.specs.Prelude.{◌≤◌, ◌≡◌};
+ghost use Rattle.basics.specs.Words.{map, length, take};
 ghost use Rattle.basics.specs.Meaning.Limits.{most_boxes};
-ghost use Rattle.basics.specs.Meaning.Lent.{was, is};
 ghost use Rattle.storage.specs.Inner.Keyed.{Sorted};
 ghost use Rattle.storage.specs.Meaning.Entries.{row_key};
 ghost use Rattle.box_tables.specs.Meaning.Tables.{slot_of};
@@ -19,7 +19,7 @@ fn gather_run(
     found: &mut [u32; basics::MOST_BOXES],
 ) -> usize
     requires { Collectable pool.now from to n marks.old found.old }
-    ensures { Collected (was marks) (was found) n (slots_in (was pool) from to) (is marks) (is found) result }
+    ensures { Collected marks.old found.old n (slots_in pool.now from to) marks.new found.new result }
 {
     let mut k = n;
     let mut j = from;
@@ -45,7 +45,7 @@ pub fn gather(
     found: &mut [u32; basics::MOST_BOXES],
 ) -> usize
     requires { (used ≤ length pool.now) × Sorted row_key (take used pool.now) × Slots pool.now used × (length found.old ≡ most_boxes) }
-    ensures { (result ≤ most_boxes) × (take result (is found) ≡ firsts (map slot_of (inside low high (take used (was pool))))) × (length (is found) ≡ most_boxes) }
+    ensures { (result ≤ most_boxes) × (take result found.new ≡ firsts (map slot_of (inside low high (take used pool.now)))) × (length found.new ≡ most_boxes) }
 {
     let mut marks: [bool; basics::MOST_BOXES] = [false; basics::MOST_BOXES];
     let mut n = 0;

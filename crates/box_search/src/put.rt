@@ -1,6 +1,6 @@
 // Writing what was found into the outputs.
-ghost use Rattle.basics.specs.Words.{◌≤◌, ◌≡◌, map, length, take};
-ghost use Rattle.basics.specs.Meaning.Lent.{was, is};
+ghost use Rattle.std.specs.Prelude.{◌≤◌, ◌≡◌};
+ghost use Rattle.basics.specs.Words.{map, length, take};
 ghost use Rattle.storage.specs.Meaning.Keyed.{written};
 ghost use Rattle.box_search.specs.Inner.Put.{Found, Reportable, Reported};
 ghost use Rattle.slot_walks.specs.Meaning.Live.{handle_at};
@@ -15,7 +15,7 @@ pub fn put_handles(
     handles: &mut [[u32; 2]],
 )
     requires { Found (length nums.now) found.now n × (n ≤ length handles.old) }
-    ensures { is handles ≡ written (map (handle_at (was nums)) (take n (was found))) (was handles) }
+    ensures { handles.new ≡ written (map (handle_at nums.now) (take n found.now)) handles.old }
 {
     let mut k = 0;
     while k < n {
@@ -37,7 +37,7 @@ pub fn put_findings(
     objs: &mut [u32],
 )
     requires { Reportable nums.now reals.now found.now n handles.old boxes.old objs.old }
-    ensures { Reported (was nums) (was reals) (take n (was found)) (was handles) (was boxes) (was objs) (is handles) (is boxes) (is objs) }
+    ensures { Reported nums.now reals.now (take n found.now) handles.old boxes.old objs.old handles.new boxes.new objs.new }
 {
     let mut k = 0;
     while k < n {

@@ -53,7 +53,7 @@ module _ {t : Tables} {h : Handle} {b : Aabb} (w : Passed t h b) where
   slot-inside = rw holding.sized.of_reals object.inside
 
   pub old_inside : T (aabb_in_domain (aabb_on t h.slot))
-  old_inside = (holding.boxes h.slot object.inside object.occupied).in_domain_lem
+  old_inside = (holding.boxes h.slot object.inside object.occupied).within_domain
 
   -- the sums are small
   pub used-small : {q : Span} → q ≡ new_span t.map b → q.cells ≤ 4096 → used_of t + q.cells ≤ 12288
@@ -118,7 +118,7 @@ module _ (t : Tables) (h : Handle) (b : Aabb) (a : ℕ) (ea : a ≡ set_aabb_ans
       rw ew
       (record {
         object = record { held = (holds_says t).yes k.0; inside = n.inside; occupied = n.occupied };
-        in_domain_lem = (says_t (aabb_in_domain b)).yes k.1;
+        within_domain = (says_t (aabb_in_domain b)).yes k.1;
         few = (few_says t b).yes k.3;
         room = (room_for_says t h.slot b).yes k.4;
       })

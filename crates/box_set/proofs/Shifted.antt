@@ -32,7 +32,7 @@ use Rattle.box_set.specs.Inner.Steps.{new_span, Shifting}
 -- slot s has an object, and box b can take the place of its box
 pub record Movable (t : Tables) (s : ℕ) (b : Aabb) : Type 0 where
   pub object : Object t s
-  pub in_domain_lem : T (aabb_in_domain b)
+  pub within_domain : T (aabb_in_domain b)
   pub few : covers (size_of t) b ≤ most_cells
   pub room : used_of t + covers (size_of t) b ≤ length t.pool + covers (size_of t) (aabb_on t s)
 
@@ -124,8 +124,8 @@ module _ {t : Tables} {s : ℕ} {b : Aabb} (f : Movable t s b) where
         sorted = entries_sorted t h;
         old_low = low_near t h s l v;
         old_high = high-near t h s l v;
-        new-low = Box.low_near b f.in_domain_lem (size_of t);
-        new-high = Box.high-near b f.in_domain_lem (size_of t);
+        new-low = Box.low_near b f.within_domain (size_of t);
+        new-high = Box.high-near b f.within_domain (size_of t);
         stands = h.every s l v;
         cells = refl;
         few = f.few;

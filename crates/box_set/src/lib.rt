@@ -1,10 +1,11 @@
 // `set_aabb`: if both corner cells stay, only the record changes; otherwise the box leaves its old lists and enters its new ones.
 // It checks the tables first.
-ghost use Rattle.basics.specs.Words.{◌<◌, ◌≡◌, length, set};
-ghost use Rattle.basics.specs.Meaning.Lent.{was, is};
-ghost use Rattle.box_tables.specs.Meaning.Lent.{after, before};
+#![tactic(auto)]
+
+ghost use Rattle.std.specs.Prelude.{◌<◌, ◌≡◌};
+ghost use Rattle.basics.specs.Words.{length, set};
 ghost use Rattle.box_tables.specs.Meaning.Outcome.{outcome};
-ghost use Rattle.box_tables.specs.Meaning.Tables.{corners_of};
+ghost use Rattle.box_tables.specs.Meaning.Tables.{corners_of, tables};
 ghost use Rattle.box_set.specs.Meaning.SetAabb.{set_aabb_of};
 ghost use Rattle.box_set.specs.Inner.Steps.{stay_in, shifted_map, shifted_pool, relisted_map, relisted_pool, Shifting, Judged};
 
@@ -13,7 +14,7 @@ use geometry::Aabb;
 use slots::{Handle, Row};
 
 // The answer, and where it is 0 the old and the new range of cells.
-#[derive(Drop)]
+#[derive(Clone, Copy)]
 struct Change {
     answer: u32,
     old: Span,
@@ -41,7 +42,7 @@ fn judge(
     h: Handle,
     b: Aabb,
 ) -> Change
-    ensures { Judged (before nums reals map pool) h b result }
+    ensures { Judged (tables nums.now reals.now map.now pool.now) h b result }
 {
     if !box_tables::check(nums, reals, map, pool) {
         return refusal(3);
@@ -86,8 +87,8 @@ fn stays(p: Span, q: Span) -> bool
 // The box of slot s goes from the cells of p to those of q.
 fn shift(map: &mut [u64], pool: &mut [[u64; 2]], s: usize, p: Span, q: Span)
     requires { Shifting map.old pool.old s p q }
-    ensures map { is map ≡ shifted_map s p q (was map) (was pool) }
-    ensures pool { is pool ≡ shifted_pool s p q (was map) (was pool) }
+    ensures map { map.new ≡ shifted_map s p q map.old pool.old }
+    ensures pool { pool.new ≡ shifted_pool s p q map.old pool.old }
 {
     let used = basics::index_of(map[1]);
     let old = box_tables::item_of(s, p.cells == 1);
@@ -100,8 +101,8 @@ fn shift(map: &mut [u64], pool: &mut [[u64; 2]], s: usize, p: Span, q: Span)
 // Its lists change only if a corner cell does.
 fn relist(map: &mut [u64], pool: &mut [[u64; 2]], s: usize, p: Span, q: Span)
     requires { Shifting map.old pool.old s p q }
-    ensures map { is map ≡ relisted_map s p q (was map) (was pool) }
-    ensures pool { is pool ≡ relisted_pool s p q (was map) (was pool) }
+    ensures map { map.new ≡ relisted_map s p q map.old pool.old }
+    ensures pool { pool.new ≡ relisted_pool s p q map.old pool.old }
 {
     if stays(p, q) {
         return;
@@ -120,9 +121,9 @@ fn place(
     q: Span,
 )
     requires { (s < length reals.old) × Shifting map.old pool.old s p q }
-    ensures reals { is reals ≡ set (was reals) s (corners_of b) }
-    ensures map { is map ≡ relisted_map s p q (was map) (was pool) }
-    ensures pool { is pool ≡ relisted_pool s p q (was map) (was pool) }
+    ensures reals { reals.new ≡ set reals.old s (corners_of b) }
+    ensures map { map.new ≡ relisted_map s p q map.old pool.old }
+    ensures pool { pool.new ≡ relisted_pool s p q map.old pool.old }
 {
     box_insert::store_box(reals, s, b);
     relist(map, pool, s, p, q);
@@ -136,7 +137,7 @@ pub fn set_aabb(
     h: Handle,
     b: Aabb,
 ) -> u32
-    ensures { outcome result (after nums reals map pool) ≡ set_aabb_of (before nums reals map pool) h b }
+    ensures { outcome result (tables nums.now reals.new map.new pool.new) ≡ set_aabb_of (tables nums.now reals.old map.old pool.old) h b }
 {
     let c = judge(nums, reals, map, pool, h, b);
     let a = c.answer;

@@ -27,11 +27,11 @@ pub given-some : {P : Type 0} (want way : List ℕ) → way ≡ want → (jump_i
 given-some want way e d p = record { some = λ q. (p, e); none = λ q r. d (sym (ap jump_in e) ∙ q) }
 
 -- ---- a box that was loaded
-pub in_domain_lem : (b : Aabb) (r : Bool) → r ≡ aabb_in_domain b → r ≡ true → T (aabb_in_domain b)
-in_domain_lem b r e t = subst T (sym t ∙ e) tt
+pub within_domain : (b : Aabb) (r : Bool) → r ≡ aabb_in_domain b → r ≡ true → T (aabb_in_domain b)
+within_domain b r e t = subst T (sym t ∙ e) tt
 
 pub box_refused : (size : ℕ) (b q : Aabb) (r : Bool) → b ≡ q → r ≡ aabb_in_domain b → r ≡ false → BoxOk size q → ⊥
-box_refused size b q r e f n h = subst T (ap aabb_in_domain (sym e) ∙ sym f ∙ n) h.in_domain_lem
+box_refused size b q r e f n h = subst T (ap aabb_in_domain (sym e) ∙ sym f ∙ n) h.within_domain
 
 -- ---- the ways of one slot more, where its item and its last column are known by equations
 module _ (nexts stops jumps ends : List ℕ) (k next stop jump end : ℕ) where

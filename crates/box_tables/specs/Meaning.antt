@@ -1,6 +1,5 @@
 -- What must be believed: what the public calls and the demands cite.
 pub mod Decide
 pub mod Holds
-pub mod Lent
 pub mod Outcome
 pub mod Tables

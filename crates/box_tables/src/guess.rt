@@ -1,5 +1,6 @@
 // Whether a corner stands in a cell that is guessed, which takes no division.
-ghost use Rattle.basics.specs.Words.{◌≡◌, true, T, pos};
+ghost use Rattle.std.specs.Prelude.{◌≡◌};
+ghost use Rattle.basics.specs.Words.{true, T, pos};
 ghost use Rattle.geometry.specs.Meaning.Domain.{in_domain, aabb_in_domain};
 ghost use Rattle.cells.specs.Meaning.Size.{SizeInDomain};
 ghost use Rattle.cells.specs.Meaning.CellRule.{cell_of};

@@ -1,7 +1,9 @@
 // The tables of a box grid, and the check that they hold one.
-ghost use Rattle.basics.specs.Words.{◌≡◌};
-ghost use Rattle.box_tables.specs.Meaning.Lent.{before};
+#![tactic(auto)]
+
+ghost use Rattle.std.specs.Prelude.{◌≡◌};
 ghost use Rattle.box_tables.specs.Meaning.Decide.{holds};
+ghost use Rattle.box_tables.specs.Meaning.Tables.{tables};
 
 mod guess;
 mod lengths;
@@ -22,7 +24,7 @@ pub use spans::{covers, item_of, load_box, span_of};
 const ITEMS: usize = 512;
 
 // The range of cells that a box covers: its corner cells, and how many cells there are.
-#[derive(Drop)]
+#[derive(Clone, Copy)]
 pub struct Span {
     pub low: Cell,
     pub high: Cell,
@@ -31,7 +33,7 @@ pub struct Span {
 
 // Whether the tables hold a grid.
 pub fn check(nums: &[Row], reals: &[[f32; 4]], map: &[u64], pool: &[[u64; 2]]) -> bool
-    ensures { result ≡ holds (before nums reals map pool) }
+    ensures { result ≡ holds (tables nums.now reals.now map.now pool.now) }
 {
     if !lengths_ok(nums.len(), reals.len(), map.len(), pool.len()) {
         return false;

@@ -1,6 +1,6 @@
 // The pass over the entries: each is the next on the way of its item, and all ways are gone to their end.
-ghost use Rattle.basics.specs.Words.{ℕ, ◌+◌, ◌<◌, ◌≡◌, List};
-ghost use Rattle.basics.specs.Meaning.Lent.{was, is};
+ghost use Rattle.std.specs.Prelude.{◌+◌, ◌<◌, ◌≡◌};
+ghost use Rattle.basics.specs.Words.{ℕ, List};
 ghost use Rattle.basics.specs.Meaning.Says.{Says};
 ghost use Rattle.box_tables.specs.Inner.Way.{behind};
 ghost use Rattle.box_tables.specs.Inner.Check.{Passes, Ready, Gone, Met};
@@ -28,8 +28,8 @@ fn pass(
     jumps: &[u64; ITEMS],
 ) -> usize
     requires { Ready pool.now nexts.old jumps.now used }
-    ensures gone { result ≡ used → Gone (was pool) (was stops) (was jumps) (was nexts) (is nexts) used }
-    ensures all { (ends : List ℕ) → Passes (was pool) (was nexts) (was stops) (was jumps) ends used → result ≡ used }
+    ensures gone { result ≡ used → Gone pool.now stops.now jumps.now nexts.old nexts.new used }
+    ensures all { (ends : List ℕ) → Passes pool.now nexts.old stops.now jumps.now ends used → result ≡ used }
 {
     let mut before = 0;
     let mut j = 0;
@@ -55,7 +55,7 @@ fn pass(
 
 // Whether every way is at its end.
 fn all_met(nexts: &[u64; ITEMS], ends: &[u64; ITEMS]) -> bool
-    ensures { Says result (Met (was nexts) (was ends) 512) }
+    ensures { Says result (Met nexts.now ends.now 512) }
 {
     let mut i = 0;
     while i < ITEMS {
@@ -77,7 +77,7 @@ pub fn pool_ok(
     ends: &[u64; ITEMS],
 ) -> bool
     requires { Ready pool.now nexts.old jumps.now used }
-    ensures { Says result (Passes (was pool) (was nexts) (was stops) (was jumps) (was ends) used) }
+    ensures { Says result (Passes pool.now nexts.old stops.now jumps.now ends.now used) }
 {
     if pass(pool, used, nexts, stops, jumps) != used {
         return false;

@@ -1,6 +1,6 @@
 // The ways of all slots, in four arrays by items.
-ghost use Rattle.basics.specs.Words.{◌≡◌, true, length};
-ghost use Rattle.basics.specs.Meaning.Lent.{was, is};
+ghost use Rattle.std.specs.Prelude.{◌≡◌};
+ghost use Rattle.basics.specs.Words.{true, length};
 ghost use Rattle.basics.specs.Meaning.Says.{Says};
 ghost use Rattle.cells.specs.Inner.Key.{column_of};
 ghost use Rattle.box_tables.specs.Inner.Check.{SlotsOk, Room, WaysTo};
@@ -28,8 +28,8 @@ pub fn slots_ok(
     ends: &mut [u64; ITEMS],
 ) -> bool
     requires { Room nums.now reals.now map.now × WaysTo nums.now reals.now map.now nexts.old stops.old jumps.old ends.old 0 }
-    ensures says { Says result (SlotsOk (was nums) (was reals) (was map)) }
-    ensures ways { result ≡ true → WaysTo (was nums) (was reals) (was map) (is nexts) (is stops) (is jumps) (is ends) (length (was nums)) }
+    ensures says { Says result (SlotsOk nums.now reals.now map.now) }
+    ensures ways { result ≡ true → WaysTo nums.now reals.now map.now nexts.new stops.new jumps.new ends.new (length nums.now) }
 {
     let size = map[0];
     let rate = rate_of(size);

@@ -1,7 +1,7 @@
 // The box of a slot, the range of cells that it covers, and its item.
-ghost use Rattle.basics.specs.Words.{◌<◌, ◌≡◌, length, T};
+ghost use Rattle.std.specs.Prelude.{◌<◌, ◌≡◌};
+ghost use Rattle.basics.specs.Words.{length, T};
 ghost use Rattle.basics.specs.Meaning.Limits.{most_boxes};
-ghost use Rattle.basics.specs.Meaning.Lent.{was};
 ghost use Rattle.geometry.specs.Meaning.Domain.{aabb_in_domain};
 ghost use Rattle.cells.specs.Meaning.Size.{SizeInDomain};
 ghost use Rattle.box_tables.specs.Meaning.Tables;
@@ -14,7 +14,7 @@ use geometry::{Aabb, Position};
 // The box of slot s.
 pub fn load_box(reals: &[[f32; 4]], s: usize) -> Aabb
     requires { s < length reals.now }
-    ensures { result ≡ aabb_at (was reals) s }
+    ensures { result ≡ aabb_at reals.now s }
 {
     let q = reals[s];
     let ll = Position { x: q[0], y: q[1] };

@@ -1,7 +1,7 @@
 // The way of a slot: the keys of the cells that its box covers, one after the other.
-ghost use Rattle.basics.specs.Words.{◌≤◌, ◌<◌, length, T};
+ghost use Rattle.std.specs.Prelude.{◌≤◌, ◌<◌};
+ghost use Rattle.basics.specs.Words.{length, T};
 ghost use Rattle.basics.specs.Meaning.Limits.{most_boxes, most_cells};
-ghost use Rattle.basics.specs.Meaning.Lent.{was};
 ghost use Rattle.geometry.specs.Meaning.Domain.{in_domain, aabb_in_domain};
 ghost use Rattle.cells.specs.Meaning.Size.{SizeInDomain};
 ghost use Rattle.cells.specs.Meaning.Range.{cells_in};
@@ -52,7 +52,7 @@ fn wide_way(size: u64, rate: f32, s: usize, b: Aabb) -> [u64; 4]
 // The way of an occupied slot; its step is 0 if the box is not one of a grid. A box of one cell needs no count.
 fn live_way(reals: &[[f32; 4]], size: u64, rate: f32, s: usize) -> [u64; 4]
     requires { (s < length reals.now) × (s < most_boxes) × SizeInDomain size × T (in_domain rate) }
-    ensures { Given (BoxOk size (aabb_at (was reals) s)) (way_of s (span_of size (aabb_at (was reals) s))) result }
+    ensures { Given (BoxOk size (aabb_at reals.now s)) (way_of s (span_of size (aabb_at reals.now s))) result }
 {
     let b = load_box(reals, s);
     if !geometry::aabb_in_domain(b) {
@@ -81,7 +81,7 @@ pub fn slot_way(
     s: usize,
 ) -> [u64; 4]
     requires { Readable nums.now reals.now map.now s × SizeInDomain size × T (in_domain rate) }
-    ensures { Given (SlotOk (was nums) (was reals) (was map) size s) (way_at (was nums) (was reals) size s) result }
+    ensures { Given (SlotOk nums.now reals.now map.now size s) (way_at nums.now reals.now size s) result }
 {
     let n = nums[s];
     let mapped = slots::is_usable(map, s);

@@ -2,6 +2,7 @@
 // listed with each call in their order: a handle that is not good gets 12 if it is gone, else 11. No call has a `requires`, and a refused call changes no
 // table and no output.
 // In the examples the four tables are lent as the calls name them, and what a call writes to stands last.
+#![tactic(auto)]
 
 // Builds an empty grid with cells of this size. Refusals: 3 (wrong lengths), 2 (size outside its limits).
 //     let a = boxes::new(nums, reals, map, pool, 16);

@@ -1,7 +1,9 @@
 // The cell of a coordinate and of a position, ranges of cells and the keys of cells: the arithmetic of src/storage.rs.
-ghost use Rattle.basics.specs.Words.{◌+◌, ◌*◌, ◌<◌, ◌≤◌, ◌≡◌, T, pos};
+#![tactic(auto)]
+
+ghost use Rattle.std.specs.Prelude.{◌+◌, ◌*◌, ◌<◌, ◌≤◌, ◌≡◌, ◌<ℤ◌};
+ghost use Rattle.basics.specs.Words.{T, pos};
 ghost use Rattle.std.specs.Int.Signed.{mag};
-ghost use Rattle.std.specs.Prelude.{◌<ℤ◌};
 ghost use Rattle.std.specs.Float.{binary32};
 ghost use Rattle.std.specs.Float.Ieee.{of_int};
 ghost use Rattle.basics.specs.Meaning.Says.{Says};
@@ -19,18 +21,21 @@ ghost use Rattle.cells.specs.Inner.Key.{downward, column_of, line_of, cell_of_ke
 
 use geometry::Position;
 
-#[derive(Drop)]
+#[derive(Clone, Copy)]
 pub struct Cell {
     pub x: i32,
     pub y: i32,
 }
 
 // The coordinates from lo to hi.
-#[derive(Drop)]
+#[derive(Clone, Copy)]
 pub struct Span {
     pub lo: f32,
     pub hi: f32,
 }
+
+// The fraction is shifted out of a number whose exponent is not above this.
+const UNIT: u32 = 150;
 
 // The magnitude, without its fraction and at most 2 ^ 31, of the f32 with the pattern b.
 fn cut(b: u32) -> u32
@@ -45,8 +50,8 @@ fn cut(b: u32) -> u32
         return 2147483648;
     }
     // The number is m * 2 ^ (e - 150).
-    if e <= 150 {
-        m >> (150 - e)
+    if e <= UNIT {
+        m >> (UNIT - e)
     } else {
         m << (e - 150)
     }

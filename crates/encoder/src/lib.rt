@@ -1,9 +1,11 @@
 // The map for the video encoder, a layer above both grids: one byte for each 16 by 16 block of the 80 by 45 frame, that tells it where to spend its bits.
-ghost use Rattle.basics.specs.Words.{◌≡◌, true, length};
-ghost use Rattle.basics.specs.Meaning.Lent.{was, is};
+#![tactic(auto)]
+
+ghost use Rattle.std.specs.Prelude.{◌≡◌};
+ghost use Rattle.basics.specs.Words.{true, length};
 ghost use Rattle.basics.specs.Meaning.Refusals.{first_of};
-ghost use Rattle.point_tables.specs.Meaning.Lent as PointsLent;
-ghost use Rattle.box_tables.specs.Meaning.Lent as BoxesLent;
+ghost use Rattle.point_tables.specs.Meaning.Tables as PointTables;
+ghost use Rattle.box_tables.specs.Meaning.Tables as BoxTables;
 ghost use Rattle.encoder_blocks.specs.Meaning.Blocks.{blocks};
 ghost use Rattle.encoder.specs.Meaning.Map.{map_of};
 ghost use Rattle.encoder.specs.Meaning.FillMap.{every, circle_in_domain, circle_in_range, grids_right, fill_map_tests, map_filled, fill_map_of};
@@ -28,7 +30,7 @@ fn grids_right(
     boxmap: &[u64],
     boxpool: &[[u64; 2]],
 ) -> bool
-    ensures { result ≡ grids_right (PointsLent.before nums reals ints map pool spots cells) (BoxesLent.before boxnums boxreals boxmap boxpool) }
+    ensures { result ≡ grids_right (PointTables.tables nums.now reals.now ints.now map.now pool.now spots.now cells.now) (BoxTables.tables boxnums.now boxreals.now boxmap.now boxpool.now) }
 {
     if !point_tables::check(nums, reals, ints, map, pool, spots, cells) {
         return false;
@@ -66,7 +68,7 @@ fn circle_in_range(circle: [f32; 3]) -> bool
 }
 
 fn circles_in_domain(circles: &[[f32; 3]]) -> bool
-    ensures { result ≡ every circle_in_domain (was circles) }
+    ensures { result ≡ every circle_in_domain circles.now }
 {
     let mut k = 0;
     while k < circles.len() {
@@ -80,7 +82,7 @@ fn circles_in_domain(circles: &[[f32; 3]]) -> bool
 
 fn circles_in_range(circles: &[[f32; 3]]) -> bool
     requires { every circle_in_domain circles.now ≡ true }
-    ensures { result ≡ every circle_in_range (was circles) }
+    ensures { result ≡ every circle_in_range circles.now }
 {
     let mut k = 0;
     while k < circles.len() {
@@ -108,7 +110,7 @@ fn answer_to(
     circles: &[[f32; 3]],
     bytes: &[u8],
 ) -> u32
-    ensures { result ≡ first_of (fill_map_tests (PointsLent.before nums reals ints map pool spots cells) (BoxesLent.before boxnums boxreals boxmap boxpool) (was circles) (was bytes)) }
+    ensures { result ≡ first_of (fill_map_tests (PointTables.tables nums.now reals.now ints.now map.now pool.now spots.now cells.now) (BoxTables.tables boxnums.now boxreals.now boxmap.now boxpool.now) circles.now bytes.now) }
 {
     if MOST_CIRCLES < circles.len() {
         return 3;
@@ -146,8 +148,8 @@ fn draw(
     circles: &[[f32; 3]],
     bytes: &mut [u8],
 )
-    requires { Drawable (PointsLent.lent nums reals ints map pool spots cells) (BoxesLent.lent boxnums boxreals boxmap boxpool) circles.now × (length bytes.old ≡ blocks) }
-    ensures { is bytes ≡ map_of (PointsLent.before nums reals ints map pool spots cells) (BoxesLent.before boxnums boxreals boxmap boxpool) (was circles) }
+    requires { Drawable (PointTables.tables nums.now reals.now ints.now map.now pool.now spots.now cells.now) (BoxTables.tables boxnums.now boxreals.now boxmap.now boxpool.now) circles.now × (length bytes.old ≡ blocks) }
+    ensures { bytes.new ≡ map_of (PointTables.tables nums.now reals.now ints.now map.now pool.now spots.now cells.now) (BoxTables.tables boxnums.now boxreals.now boxmap.now boxpool.now) circles.now }
 {
     let used = basics::index_of(map[1]);
     encoder_points::mark_points(pool, spots, used, circles, bytes);
@@ -176,7 +178,7 @@ pub fn fill_map(
     circles: &[[f32; 3]],
     bytes: &mut [u8],
 ) -> u32
-    ensures { map_filled result (is bytes) ≡ fill_map_of (PointsLent.before nums reals ints map pool spots cells) (BoxesLent.before boxnums boxreals boxmap boxpool) (was circles) (was bytes) }
+    ensures { map_filled result bytes.new ≡ fill_map_of (PointTables.tables nums.now reals.now ints.now map.now pool.now spots.now cells.now) (BoxTables.tables boxnums.now boxreals.now boxmap.now boxpool.now) circles.now bytes.old }
 {
     let answer = answer_to(
         nums, reals, ints, map, pool, spots, cells, boxnums, boxreals, boxmap, boxpool, circles,

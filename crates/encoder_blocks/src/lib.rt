@@ -1,5 +1,7 @@
 // The blocks of the frame: which block a cell is, the key of a block's cell, and the box from corner to corner.
-ghost use Rattle.basics.specs.Words.{◌≤◌, ◌<◌, ◌≡◌};
+#![tactic(auto)]
+
+ghost use Rattle.std.specs.Prelude.{◌≤◌, ◌<◌, ◌≡◌};
 ghost use Rattle.cells.specs.Meaning.Key.{key_of};
 ghost use Rattle.encoder_blocks.specs.Meaning.Blocks.{columns, lines, block_box};
 ghost use Rattle.encoder_blocks.specs.Meaning.Blocks;

@@ -1,7 +1,9 @@
 // One pass over the blocks of the frame: a block whose box intersects a box of its four cells gets 2, unless its byte is 3. The windows of the blocks are
 // found by two places of the sorted pool that only go onward.
-ghost use Rattle.basics.specs.Words.{suc, ◌≤◌, ◌<◌, ◌≡◌, length, take};
-ghost use Rattle.basics.specs.Meaning.Lent.{was, is};
+#![tactic(auto)]
+
+ghost use Rattle.std.specs.Prelude.{◌≤◌, ◌<◌, ◌≡◌};
+ghost use Rattle.basics.specs.Words.{suc, length, take};
 ghost use Rattle.cells.specs.Meaning.Key.{key_of};
 ghost use Rattle.storage.specs.Inner.Keyed.{Sorted};
 ghost use Rattle.storage.specs.Meaning.Entries.{row_key};
@@ -15,10 +17,13 @@ use encoder_blocks::{BLOCKS, COLUMNS, block_box, cell_key};
 use geometry::Aabb;
 use storage::key_at;
 
+// The byte of a block with a point that some circle holds: it stays.
+const CIRCLED: u8 = 3;
+
 // The first place from p on whose key is not below `key`.
 fn onward(pool: &[[u64; 2]], used: usize, p: usize, key: u64) -> usize
     requires { (used ≤ length pool.now) × Sorted row_key (take used pool.now) × (p ≤ length (below row_key key (take used pool.now))) }
-    ensures { result ≡ length (below row_key key (take used (was pool))) }
+    ensures { result ≡ length (below row_key key (take used pool.now)) }
 {
     let mut j = p;
     while j < used {
@@ -40,7 +45,7 @@ fn met_from(
     q: Aabb,
 ) -> bool
     requires { Stocked reals.now pool.now used }
-    ensures { result ≡ met_from (was reals) (was pool) used p last q }
+    ensures { result ≡ met_from reals.now pool.now used p last q }
 {
     let mut j = p;
     while j < used {
@@ -70,7 +75,7 @@ fn met(
 ) -> bool
     requires stocked { Stocked reals.now pool.now used × (i < columns) × (j < lines) }
     requires here_value { (here ≡ length (below row_key (key_of (cell i j)) (take used pool.now))) × (next ≡ length (below row_key (key_of (cell i (suc j))) (take used pool.now))) }
-    ensures { result ≡ Windows.met (was reals) (take used (was pool)) i j }
+    ensures { result ≡ Windows.met reals.now (take used pool.now) i j }
 {
     let b = block_box(i, j);
     if met_from(reals, pool, used, here, cell_key(i + 1, j), b) {
@@ -82,7 +87,7 @@ fn met(
 // The map with the boxes over the points.
 pub fn mark_boxes(reals: &[[f32; 4]], pool: &[[u64; 2]], used: usize, bytes: &mut [u8])
     requires { Stocked reals.now pool.now used × (length bytes.old ≡ blocks) }
-    ensures { Overlaid (was reals) (take used (was pool)) blocks (was bytes) (is bytes) }
+    ensures { Overlaid reals.now (take used pool.now) blocks bytes.old bytes.new }
 {
     let mut here = 0;
     let mut next = 0;
@@ -92,7 +97,7 @@ pub fn mark_boxes(reals: &[[f32; 4]], pool: &[[u64; 2]], used: usize, bytes: &mu
         let j = k / COLUMNS;
         here = onward(pool, used, here, cell_key(i, j));
         next = onward(pool, used, next, cell_key(i, j + 1));
-        if bytes[k] != 3 {
+        if bytes[k] != CIRCLED {
             if met(reals, pool, used, here, next, i, j) {
                 bytes[k] = 2;
             }

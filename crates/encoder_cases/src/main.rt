@@ -1,32 +1,36 @@
 // The cases of the encoder's map, run, each from the grids as given. A line is what was asked, the answer, and the bytes that are not 0 with their places;
 // of a refused call how many bytes are as they were.
+#![tactic(auto)]
+
 use geometry::{Aabb, Position};
-use libc::STDOUT_FILENO;
 use slots::Handle;
+use std::io;
 
-fn say(what: &[u8]) {
-    io::write_all(STDOUT_FILENO, what);
+fn say(rt: &impl Print, what: &str) -> io::Result<()> {
+    print!(rt; "{what}")
 }
 
-fn number(n: u64) {
-    io::print_decimal(STDOUT_FILENO, n);
+fn number(rt: &impl Print, n: u64) -> io::Result<()> {
+    print!(rt; "{n}")
 }
 
-fn tell_byte(place: usize, byte: u8) {
+fn tell_byte(rt: &impl Print, place: usize, byte: u8) -> io::Result<()> {
     if byte != 0 {
-        say(b" ");
-        number(place as u64);
-        say(b":");
-        number(byte as u64);
+        say(rt, " ")?;
+        number(rt, place as u64)?;
+        say(rt, ":")?;
+        number(rt, byte as u64)?;
     }
+    Ok(())
 }
 
-fn tell_bytes(bytes: &[u8]) {
+fn tell_bytes(rt: &impl Print, bytes: &[u8]) -> io::Result<()> {
     let mut k = 0;
     while k < bytes.len() {
-        tell_byte(k, bytes[k]);
+        tell_byte(rt, k, bytes[k])?;
         k += 1;
     }
+    Ok(())
 }
 
 // How many bytes are 7, which every byte of a map is before its call.
@@ -42,16 +46,16 @@ fn as_they_were(bytes: &[u8]) -> u64 {
     n
 }
 
-fn tell(what: &[u8], answer: u32, bytes: &[u8]) {
-    say(what);
-    number(answer as u64);
+fn tell(rt: &impl Print, what: &str, answer: u32, bytes: &[u8]) -> io::Result<()> {
+    say(rt, what)?;
+    number(rt, answer as u64)?;
     if answer == 0 {
-        tell_bytes(bytes);
+        tell_bytes(rt, bytes)?;
     } else {
-        say(b" ");
-        number(as_they_were(bytes));
+        say(rt, " ")?;
+        number(rt, as_they_were(bytes))?;
     }
-    say(b"\n");
+    say(rt, "\n")
 }
 
 fn at(place: [f32; 2]) -> Position {
@@ -167,7 +171,8 @@ fn go_on(
 }
 
 fn ask(
-    what: &[u8],
+    rt: &impl Print,
+    what: &str,
     nums: &[[u32; 4]; 8],
     reals: &[[f32; 4]; 8],
     ints: &[[i32; 4]; 8],
@@ -181,24 +186,25 @@ fn ask(
     boxpool: &[[u64; 2]; 16],
     circles: &[[f32; 3]],
     bytes: &mut [u8],
-) {
+) -> io::Result<()> {
     let answer = encoder::fill_map(
         nums, reals, ints, map, pool, spots, cells, boxnums, boxreals, boxmap, boxpool, circles,
         bytes,
     );
-    tell(what, answer, bytes);
+    tell(rt, what, answer, bytes)
 }
 
 // One case: more points than are given, steps of a frame, and the cell sizes of both grids.
 fn case(
-    what: &[u8],
+    rt: &impl Print,
+    what: &str,
     more: &[[f32; 2]],
     steps: u32,
     size: u32,
     box_size: u32,
     circles: &[[f32; 3]],
     bytes: &mut [u8],
-) {
+) -> io::Result<()> {
     let mut nums = [[0u32; 4]; 8];
     let mut reals = [[0.0f32; 4]; 8];
     let mut ints = [[0i32; 4]; 8];
@@ -224,123 +230,151 @@ fn case(
         box_size,
     );
     ask(
-        what, &nums, &reals, &ints, &map, &pool, &spots, &cells, &boxnums, &boxreals, &boxmap,
+        rt, what, &nums, &reals, &ints, &map, &pool, &spots, &cells, &boxnums, &boxreals, &boxmap,
         &boxpool, circles, bytes,
-    );
+    )
 }
 
 // What is accepted.
-fn accepted(none: &[[f32; 2]], circle: &[[f32; 3]]) {
-    case(b"as given: ", none, 0, 16, 16, circle, &mut [7u8; 3600]);
+fn accepted(rt: &impl Print, none: &[[f32; 2]], circle: &[[f32; 3]]) -> io::Result<()> {
+    case(rt, "as given: ", none, 0, 16, 16, circle, &mut [7u8; 3600])?;
     case(
-        b"sent and marked: ",
+        rt,
+        "sent and marked: ",
         none,
         1,
         16,
         16,
         circle,
         &mut [7u8; 3600],
-    );
-    case(b"settled: ", none, 2, 16, 16, circle, &mut [7u8; 3600]);
-    case(b"no circle: ", none, 0, 16, 16, &[], &mut [7u8; 3600]);
+    )?;
+    case(rt, "settled: ", none, 2, 16, 16, circle, &mut [7u8; 3600])?;
+    case(rt, "no circle: ", none, 0, 16, 16, &[], &mut [7u8; 3600])?;
     case(
-        b"two points: ",
+        rt,
+        "two points: ",
         &[[16.0f32, 16.0], [-0.0, 32.0]],
         0,
         16,
         16,
         circle,
         &mut [7u8; 3600],
-    );
+    )?;
     case(
-        b"two circles: ",
+        rt,
+        "two circles: ",
         &[[50.0f32, 8.0]],
         0,
         16,
         16,
         &[[8.0f32, 8.0, 1.0], [56.0, 8.0, 9.0]],
         &mut [7u8; 3600],
-    );
+    )?;
     case(
-        b"radius 511: ",
+        rt,
+        "radius 511: ",
         none,
         0,
         16,
         16,
         &[[0.0f32, 0.0, 511.0]],
         &mut [7u8; 3600],
-    );
+    )
 }
 
 // 7 alone, and 6 before 7: a later circle outside the domain counts more than an earlier one that is too wide.
-fn refused_circles(none: &[[f32; 2]]) {
+fn refused_circles(rt: &impl Print, none: &[[f32; 2]]) -> io::Result<()> {
     let zero = 0.0f32;
     case(
-        b"radius 512: ",
+        rt,
+        "radius 512: ",
         none,
         0,
         16,
         16,
         &[[0.0f32, 0.0, 512.0]],
         &mut [7u8; 3600],
-    );
+    )?;
     case(
-        b"then -1: ",
+        rt,
+        "then -1: ",
         none,
         0,
         16,
         16,
         &[[0.0f32, 0.0, 512.0], [0.0, 0.0, -1.0]],
         &mut [7u8; 3600],
-    );
+    )?;
     case(
-        b"then NaN: ",
+        rt,
+        "then NaN: ",
         none,
         0,
         16,
         16,
         &[[0.0f32, 0.0, 512.0], [0.0, 0.0, zero / zero]],
         &mut [7u8; 3600],
-    );
+    )
 }
 
 // A byte too few, one too many, a circle too many, and cells of 8 in either grid.
-fn refused_tables(none: &[[f32; 2]], circle: &[[f32; 3]]) {
-    case(b"3,599 bytes: ", none, 0, 16, 16, circle, &mut [7u8; 3599]);
-    case(b"3,601 bytes: ", none, 0, 16, 16, circle, &mut [7u8; 3601]);
+fn refused_tables(rt: &impl Print, none: &[[f32; 2]], circle: &[[f32; 3]]) -> io::Result<()> {
     case(
-        b"17 circles: ",
+        rt,
+        "3,599 bytes: ",
+        none,
+        0,
+        16,
+        16,
+        circle,
+        &mut [7u8; 3599],
+    )?;
+    case(
+        rt,
+        "3,601 bytes: ",
+        none,
+        0,
+        16,
+        16,
+        circle,
+        &mut [7u8; 3601],
+    )?;
+    case(
+        rt,
+        "17 circles: ",
         none,
         0,
         16,
         16,
         &[[8.0f32, 8.0, 1.0]; 17],
         &mut [7u8; 3600],
-    );
+    )?;
     case(
-        b"boxes of size 8: ",
+        rt,
+        "boxes of size 8: ",
         none,
         0,
         16,
         8,
         circle,
         &mut [7u8; 3600],
-    );
+    )?;
     case(
-        b"points of size 8: ",
+        rt,
+        "points of size 8: ",
         none,
         0,
         8,
         16,
         circle,
         &mut [7u8; 3600],
-    );
+    )
 }
 
-fn main() {
+fn main(rt: HostRuntime) -> io::Result<()> {
     let none: [[f32; 2]; 0] = [];
     let circle = [[8.0f32, 8.0, 1.0]];
-    accepted(&none, &circle);
-    refused_circles(&none);
-    refused_tables(&none, &circle);
+    accepted(&rt, &none, &circle)?;
+    refused_circles(&rt, &none)?;
+    refused_tables(&rt, &none, &circle)
 }

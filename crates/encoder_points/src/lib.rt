@@ -1,7 +1,9 @@
 // One pass over the entries of a point grid: each marks the block of its cell, with 3 if some circle holds its position and else with 1. The entries come row
 // of cells by row of cells, and of the circles only those are asked that reach the row.
-ghost use Rattle.basics.specs.Words.{ℕ, ◌≤◌, ◌<◌, ◌≡◌, length, get_or, take};
-ghost use Rattle.basics.specs.Meaning.Lent.{was, is};
+#![tactic(auto)]
+
+ghost use Rattle.std.specs.Prelude.{◌≤◌, ◌<◌, ◌≡◌};
+ghost use Rattle.basics.specs.Words.{ℕ, length, get_or, take};
 ghost use Rattle.storage.specs.Meaning.Keyed.{All};
 ghost use Rattle.encoder_blocks.specs.Meaning.Blocks.{blocks};
 ghost use Rattle.encoder_points.specs.Meaning.Points.{most_circles};
@@ -27,7 +29,7 @@ fn reaches(line: u64, circle: [f32; 3]) -> bool
 // The circles that reach the row go to the first places of `near`. Returns how many they are.
 fn choose(line: u64, circles: &[[f32; 3]], near: &mut [[f32; 3]; MOST_CIRCLES]) -> usize
     requires { (length circles.now ≤ most_circles) × All Fine circles.now × (length near.old ≡ most_circles) }
-    ensures { Chosen (was circles) line (is near) result }
+    ensures { Chosen circles.now line near.new result }
 {
     let mut n = 0;
     let mut k = 0;
@@ -51,7 +53,7 @@ fn choose_anew(
     near: &mut [[f32; 3]; MOST_CIRCLES],
 ) -> usize
     requires { (length circles.now ≤ most_circles) × All Fine circles.now × Chosen circles.now old near.old n }
-    ensures { Chosen (was circles) line (is near) result }
+    ensures { Chosen circles.now line near.new result }
 {
     if old == line {
         return n;
@@ -62,7 +64,7 @@ fn choose_anew(
 // Whether one of the first n circles holds a position.
 fn in_some(circles: &[[f32; 3]; MOST_CIRCLES], n: usize, p: Position) -> bool
     requires { (n ≤ most_circles) × (length circles.now ≡ most_circles) }
-    ensures { result ≡ in_some (take n (was circles)) p }
+    ensures { result ≡ in_some (take n circles.now) p }
 {
     let mut k = 0;
     while k < n {
@@ -78,7 +80,7 @@ fn in_some(circles: &[[f32; 3]; MOST_CIRCLES], n: usize, p: Position) -> bool
 
 // Every byte becomes 0.
 fn wipe(bytes: &mut [u8])
-    ensures { (length (is bytes) ≡ length (was bytes)) × ((k : ℕ) → k < length (was bytes) → get_or (is bytes) k 0 ≡ 0) }
+    ensures { (length bytes.new ≡ length bytes.old) × ((k : ℕ) → k < length bytes.old → get_or bytes.new k 0 ≡ 0) }
 {
     let mut k = 0;
     while k < bytes.len() {
@@ -90,7 +92,7 @@ fn wipe(bytes: &mut [u8])
 // What a block's byte becomes for a point in it: a byte that is 3 stays, and then no circle is asked.
 fn raised(byte: u8, circles: &[[f32; 3]; MOST_CIRCLES], n: usize, p: Position) -> u8
     requires { (n ≤ most_circles) × (length circles.now ≡ most_circles) }
-    ensures { result ≡ raised_by (in_some (take n (was circles)) p) byte }
+    ensures { result ≡ raised_by (in_some (take n circles.now) p) byte }
 {
     if byte == 3 {
         return 3;
@@ -107,7 +109,7 @@ pub fn mark_points(
     bytes: &mut [u8],
 )
     requires { Placed pool.now spots.now used × (length circles.now ≤ most_circles) × All Fine circles.now × (length bytes.old ≡ blocks) }
-    ensures { Marked (was pool) (was spots) (was circles) used (is bytes) }
+    ensures { Marked pool.now spots.now circles.now used bytes.new }
 {
     wipe(bytes);
     let mut near: [[f32; 3]; MOST_CIRCLES] = [[0.0; 3]; MOST_CIRCLES];

@@ -1,7 +1,5 @@
 // The calls of the box grid for C and Rust: each is the call of `boxes` with its numbers taken apart, and has its promise.
-ghost use Rattle.basics.specs.Words.{◌≡◌};
-ghost use Rattle.basics.specs.Meaning.Lent.{was, is};
-ghost use Rattle.box_tables.specs.Meaning.Lent.{after, before};
+ghost use Rattle.std.specs.Prelude.{◌≡◌};
 ghost use Rattle.box_tables.specs.Meaning.Outcome.{outcome};
 ghost use Rattle.box_insert.specs.Meaning.New.{new_of};
 ghost use Rattle.box_insert.specs.Meaning.Insert.{insert_of};
@@ -14,6 +12,7 @@ ghost use Rattle.box_query.specs.Meaning.Queries;
 ghost use Rattle.exports.specs.Meaning.Made.{handle, aabb};
 ghost use Rattle.exports.specs.Meaning.Told.{told_inserted, told_reply, told_count};
 ghost use Rattle.exports.specs.Meaning.BoxTold.{told_written, told_findings};
+ghost use Rattle.box_tables.specs.Meaning.Tables.{tables};
 
 use crate::{BoxGot, Count, Inserted, Reply};
 use geometry::{Aabb, Position};
@@ -28,7 +27,7 @@ pub extern "C" fn chavrupas_boxes_new(
     pool: &[[u64; 2]],
     size: u32,
 ) -> u32
-    ensures { outcome result (after nums reals map pool) ≡ new_of (before nums reals map pool) size }
+    ensures { outcome result (tables nums.new reals.now map.new pool.now) ≡ new_of (tables nums.old reals.now map.old pool.now) size }
 {
     boxes::new(nums, reals, map, pool, size)
 }
@@ -46,7 +45,7 @@ pub extern "C" fn chavrupas_boxes_insert(
     high: f32,
     obj: u32,
 ) -> Inserted
-    ensures { outcome (told_inserted result) (after nums reals map pool) ≡ insert_of (before nums reals map pool) (aabb left low right high) obj }
+    ensures { outcome (told_inserted result) (tables nums.new reals.new map.new pool.new) ≡ insert_of (tables nums.old reals.old map.old pool.old) (aabb left low right high) obj }
 {
     let r = boxes::insert(
         nums,
@@ -80,7 +79,7 @@ pub extern "C" fn chavrupas_boxes_set_aabb(
     right: f32,
     high: f32,
 ) -> u32
-    ensures { outcome result (after nums reals map pool) ≡ set_aabb_of (before nums reals map pool) (handle slot version) (aabb left low right high) }
+    ensures { outcome result (tables nums.now reals.new map.new pool.new) ≡ set_aabb_of (tables nums.now reals.old map.old pool.old) (handle slot version) (aabb left low right high) }
 {
     boxes::set_aabb(
         nums,
@@ -105,7 +104,7 @@ pub extern "C" fn chavrupas_boxes_remove(
     slot: u32,
     version: u32,
 ) -> Reply
-    ensures { outcome (told_reply result) (after nums reals map pool) ≡ remove_of (before nums reals map pool) (handle slot version) }
+    ensures { outcome (told_reply result) (tables nums.new reals.now map.new pool.new) ≡ remove_of (tables nums.old reals.now map.old pool.old) (handle slot version) }
 {
     let r = boxes::remove(nums, reals, map, pool, Handle { slot, version });
     Reply {
@@ -124,7 +123,7 @@ pub extern "C" fn chavrupas_boxes_clear(
     boxes: &mut [[f32; 4]],
     objs: &mut [u32],
 ) -> Count
-    ensures { outcome (told_written result boxes objs) (after nums reals map pool) ≡ clear_of (before nums reals map pool) (was boxes) (was objs) }
+    ensures { outcome (told_written result boxes.new objs.new) (tables nums.new reals.now map.new pool.now) ≡ clear_of (tables nums.old reals.now map.old pool.now) boxes.old objs.old }
 {
     let r = boxes::clear(nums, reals, map, pool, boxes, objs);
     Count {
@@ -143,7 +142,7 @@ pub extern "C" fn chavrupas_boxes_get(
     slot: u32,
     version: u32,
 ) -> BoxGot
-    ensures { got result.answer (aabb result.left result.low result.right result.high) result.obj ≡ get_of (before nums reals map pool) (handle slot version) }
+    ensures { got result.answer (aabb result.left result.low result.right result.high) result.obj ≡ get_of (tables nums.now reals.now map.now pool.now) (handle slot version) }
 {
     let r = boxes::get(nums, reals, map, pool, Handle { slot, version });
     BoxGot {
@@ -164,7 +163,7 @@ pub extern "C" fn chavrupas_boxes_len(
     map: &[u64],
     pool: &[[u64; 2]],
 ) -> Count
-    ensures { told_count result ≡ len_of (before nums reals map pool) }
+    ensures { told_count result ≡ len_of (tables nums.now reals.now map.now pool.now) }
 {
     let r = boxes::len(nums, reals, map, pool);
     Count {
@@ -182,7 +181,7 @@ pub extern "C" fn chavrupas_boxes_handles(
     pool: &[[u64; 2]],
     out: &mut [[u32; 2]],
 ) -> Count
-    ensures { listing (told_count result) (is out) ≡ handles_of (before nums reals map pool) (was out) }
+    ensures { listing (told_count result) out.new ≡ handles_of (tables nums.now reals.now map.now pool.now) out.old }
 {
     let r = boxes::handles(nums, reals, map, pool, out);
     Count {
@@ -204,7 +203,7 @@ pub extern "C" fn chavrupas_boxes_query_broad(
     high: f32,
     found: &mut [[u32; 2]],
 ) -> Count
-    ensures { Queries.handles_of (told_count result) (is found) ≡ broad_of (before nums reals map pool) (aabb left low right high) (was found) }
+    ensures { Queries.handles_of (told_count result) found.new ≡ broad_of (tables nums.now reals.now map.now pool.now) (aabb left low right high) found.old }
 {
     let r = boxes::query_broad(
         nums,
@@ -238,7 +237,7 @@ pub extern "C" fn chavrupas_boxes_query(
     boxes: &mut [[f32; 4]],
     objs: &mut [u32],
 ) -> Count
-    ensures { told_findings result found boxes objs ≡ query_of (before nums reals map pool) (aabb left low right high) (was found) (was boxes) (was objs) }
+    ensures { told_findings result found.new boxes.new objs.new ≡ query_of (tables nums.now reals.now map.now pool.now) (aabb left low right high) found.old boxes.old objs.old }
 {
     let r = boxes::query(
         nums,

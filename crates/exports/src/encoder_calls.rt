@@ -1,8 +1,7 @@
 // The call of the encoder's layer for C and Rust, with its promise.
-ghost use Rattle.basics.specs.Words.{◌≡◌};
-ghost use Rattle.basics.specs.Meaning.Lent.{was, is};
-ghost use Rattle.point_tables.specs.Meaning.Lent as PointsLent;
-ghost use Rattle.box_tables.specs.Meaning.Lent as BoxesLent;
+ghost use Rattle.std.specs.Prelude.{◌≡◌};
+ghost use Rattle.point_tables.specs.Meaning.Tables as PointTables;
+ghost use Rattle.box_tables.specs.Meaning.Tables as BoxTables;
 ghost use Rattle.encoder.specs.Meaning.FillMap.{map_filled, fill_map_of};
 
 // `fill_map`: a byte for each block of the frame. 3, 6, 7.
@@ -22,7 +21,7 @@ pub extern "C" fn chavrupas_encoder_fill_map(
     circles: &[[f32; 3]],
     bytes: &mut [u8],
 ) -> u32
-    ensures { map_filled result (is bytes) ≡ fill_map_of (PointsLent.before nums reals ints map pool spots cells) (BoxesLent.before boxnums boxreals boxmap boxpool) (was circles) (was bytes) }
+    ensures { map_filled result bytes.new ≡ fill_map_of (PointTables.tables nums.now reals.now ints.now map.now pool.now spots.now cells.now) (BoxTables.tables boxnums.now boxreals.now boxmap.now boxpool.now) circles.now bytes.old }
 {
     encoder::fill_map(
         nums, reals, ints, map, pool, spots, cells, boxnums, boxreals, boxmap, boxpool, circles,

@@ -1,11 +1,13 @@
 // The library for C and Rust: every public call of both grids and of the encoder's layer, under a C name, over number tables. A slice is a pointer, then its
 // length in elements; what is returned is a struct of numbers. No call has a `requires`, since nothing checks a foreign caller's: each refuses by number.
+#![tactic(auto)]
+
 mod box_calls;
 mod encoder_calls;
 mod point_calls;
 
 #[repr(C)]
-#[derive(Drop)]
+#[derive(Clone, Copy)]
 pub struct Inserted {
     pub answer: u32,
     pub slot: u32,
@@ -14,28 +16,28 @@ pub struct Inserted {
 
 // The data of an object beside the answer.
 #[repr(C)]
-#[derive(Drop)]
+#[derive(Clone, Copy)]
 pub struct Reply {
     pub answer: u32,
     pub obj: u32,
 }
 
 #[repr(C)]
-#[derive(Drop)]
+#[derive(Clone, Copy)]
 pub struct Count {
     pub answer: u32,
     pub count: u32,
 }
 
 #[repr(C)]
-#[derive(Drop)]
+#[derive(Clone, Copy)]
 pub struct BatchReply {
     pub answer: u32,
     pub count: u64,
 }
 
 #[repr(C)]
-#[derive(Drop)]
+#[derive(Clone, Copy)]
 pub struct Maintained {
     pub answer: u32,
     pub moved: u32,
@@ -43,7 +45,7 @@ pub struct Maintained {
 }
 
 #[repr(C)]
-#[derive(Drop)]
+#[derive(Clone, Copy)]
 pub struct PointGot {
     pub answer: u32,
     pub x: f32,
@@ -54,7 +56,7 @@ pub struct PointGot {
 
 // What is reported of the nearest point, with count 1, beside the answer; zeros where there is none.
 #[repr(C)]
-#[derive(Drop)]
+#[derive(Clone, Copy)]
 pub struct Nearest {
     pub answer: u32,
     pub count: u32,
@@ -67,7 +69,7 @@ pub struct Nearest {
 }
 
 #[repr(C)]
-#[derive(Drop)]
+#[derive(Clone, Copy)]
 pub struct BoxGot {
     pub answer: u32,
     pub left: f32,

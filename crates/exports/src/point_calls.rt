@@ -1,7 +1,6 @@
 // The calls of the point grid for C and Rust: each is the call of `points` with its numbers taken apart, and has its promise.
-ghost use Rattle.basics.specs.Words.{◌≡◌};
-ghost use Rattle.basics.specs.Meaning.Lent.{was, is};
-ghost use Rattle.point_tables.specs.Meaning.Lent.{before, Gives};
+ghost use Rattle.std.specs.Prelude.{◌≡◌};
+ghost use Rattle.point_tables.specs.Meaning.Lent.{Gives};
 ghost use Rattle.point_insert.specs.Meaning.New.{new_of};
 ghost use Rattle.point_insert.specs.Meaning.Insert.{insert_of};
 ghost use Rattle.point_deferred.specs.Meaning.Moves.{set_position_of, remove_of};
@@ -17,6 +16,8 @@ ghost use Rattle.replies.specs.Meaning.Replies.{reply};
 ghost use Rattle.exports.specs.Meaning.Made.{handle, position};
 ghost use Rattle.exports.specs.Meaning.Told.{told_inserted, told_reply, told_count};
 ghost use Rattle.exports.specs.Meaning.PointTold.{told_batched, told_maintained, told_written, told_nearest};
+ghost use Rattle.point_search.specs.Meaning.Searches.{outputs};
+ghost use Rattle.point_tables.specs.Meaning.Tables.{tables};
 
 use crate::{BatchReply, Count, Inserted, Maintained, Nearest, PointGot, Reply};
 use geometry::Position;
@@ -34,7 +35,7 @@ pub extern "C" fn chavrupas_points_new(
     cells: &[[u64; 2]],
     size: u32,
 ) -> u32
-    ensures { Gives (λ t. new_of t size) result nums reals ints map pool spots cells }
+    ensures { Gives (λ t. new_of t size) result (tables nums.old reals.now ints.now map.old pool.now spots.now cells.now) (tables nums.new reals.now ints.now map.new pool.now spots.now cells.now) }
 {
     points::new(nums, reals, ints, map, pool, spots, cells, size)
 }
@@ -54,7 +55,7 @@ pub extern "C" fn chavrupas_points_insert(
     obj: u32,
     tracker: u32,
 ) -> Inserted
-    ensures { Gives (λ t. insert_of t (position x y) obj tracker) (told_inserted result) nums reals ints map pool spots cells }
+    ensures { Gives (λ t. insert_of t (position x y) obj tracker) (told_inserted result) (tables nums.old reals.old ints.old map.old pool.old spots.old cells.old) (tables nums.new reals.new ints.new map.new pool.new spots.new cells.new) }
 {
     let r = points::insert(
         nums,
@@ -91,7 +92,7 @@ pub extern "C" fn chavrupas_points_set_position(
     y: f32,
     tracker: u32,
 ) -> u32
-    ensures { Gives (λ t. set_position_of t (handle slot version) (position x y) tracker) (reply result 0) nums reals ints map pool spots cells }
+    ensures { Gives (λ t. set_position_of t (handle slot version) (position x y) tracker) (reply result 0) (tables nums.old reals.old ints.old map.now pool.now spots.now cells.old) (tables nums.new reals.new ints.new map.now pool.now spots.now cells.new) }
 {
     points::set_position(
         nums,
@@ -121,7 +122,7 @@ pub extern "C" fn chavrupas_points_remove(
     version: u32,
     tracker: u32,
 ) -> Reply
-    ensures { Gives (λ t. remove_of t (handle slot version) tracker) (told_reply result) nums reals ints map pool spots cells }
+    ensures { Gives (λ t. remove_of t (handle slot version) tracker) (told_reply result) (tables nums.old reals.old ints.old map.now pool.now spots.now cells.old) (tables nums.new reals.new ints.new map.now pool.now spots.now cells.new) }
 {
     let r = points::remove(
         nums,
@@ -155,7 +156,7 @@ pub extern "C" fn chavrupas_points_batch(
     positions: &[[f32; 2]],
     out: &mut [[u32; 2]],
 ) -> BatchReply
-    ensures { Gives (λ t. batch_of t (was kinds) (was handles) (was positions) (was out)) (told_batched result out) nums reals ints map pool spots cells }
+    ensures { Gives (λ t. batch_of t kinds.now handles.now positions.now out.old) (told_batched result out.new) (tables nums.old reals.old ints.old map.now pool.now spots.now cells.old) (tables nums.new reals.new ints.new map.now pool.now spots.now cells.new) }
 {
     let r = points::batch(
         nums, reals, ints, map, pool, spots, cells, kinds, handles, positions, out,
@@ -177,7 +178,7 @@ pub extern "C" fn chavrupas_points_maintain(
     spots: &mut [[f32; 2]],
     cells: &mut [[u64; 2]],
 ) -> Maintained
-    ensures { Gives maintain_of (told_maintained result) nums reals ints map pool spots cells }
+    ensures { Gives maintain_of (told_maintained result) (tables nums.old reals.old ints.old map.old pool.old spots.old cells.old) (tables nums.new reals.new ints.new map.new pool.new spots.new cells.new) }
 {
     let r = points::maintain(nums, reals, ints, map, pool, spots, cells);
     Maintained {
@@ -201,7 +202,7 @@ pub extern "C" fn chavrupas_points_remove_maintain(
     version: u32,
     tracker: u32,
 ) -> Reply
-    ensures { Gives (λ t. remove_maintain_of t (handle slot version) tracker) (told_reply result) nums reals ints map pool spots cells }
+    ensures { Gives (λ t. remove_maintain_of t (handle slot version) tracker) (told_reply result) (tables nums.old reals.now ints.now map.old pool.old spots.old cells.old) (tables nums.new reals.now ints.now map.new pool.new spots.new cells.new) }
 {
     let r = points::remove_maintain(
         nums,
@@ -233,7 +234,7 @@ pub extern "C" fn chavrupas_points_clear(
     places: &mut [[f32; 2]],
     objs: &mut [[u32; 2]],
 ) -> Count
-    ensures { Gives (λ t. clear_of t (was places) (was objs)) (told_written result places objs) nums reals ints map pool spots cells }
+    ensures { Gives (λ t. clear_of t places.old objs.old) (told_written result places.new objs.new) (tables nums.old reals.now ints.now map.old pool.now spots.now cells.now) (tables nums.new reals.now ints.now map.new pool.now spots.now cells.now) }
 {
     let r = points::clear(nums, reals, ints, map, pool, spots, cells, places, objs);
     Count {
@@ -255,7 +256,7 @@ pub extern "C" fn chavrupas_points_get(
     slot: u32,
     version: u32,
 ) -> PointGot
-    ensures { got result.answer (position result.x result.y) result.obj result.tracker ≡ get_of (before nums reals ints map pool spots cells) (handle slot version) }
+    ensures { got result.answer (position result.x result.y) result.obj result.tracker ≡ get_of (tables nums.now reals.now ints.now map.now pool.now spots.now cells.now) (handle slot version) }
 {
     let r = points::get(
         nums,
@@ -287,7 +288,7 @@ pub extern "C" fn chavrupas_points_len(
     spots: &[[f32; 2]],
     cells: &[[u64; 2]],
 ) -> Count
-    ensures { told_count result ≡ len_of (before nums reals ints map pool spots cells) }
+    ensures { told_count result ≡ len_of (tables nums.now reals.now ints.now map.now pool.now spots.now cells.now) }
 {
     let r = points::len(nums, reals, ints, map, pool, spots, cells);
     Count {
@@ -308,7 +309,7 @@ pub extern "C" fn chavrupas_points_handles(
     cells: &[[u64; 2]],
     out: &mut [[u32; 2]],
 ) -> Count
-    ensures { listing (told_count result) (is out) ≡ handles_of (before nums reals ints map pool spots cells) (was out) }
+    ensures { listing (told_count result) out.new ≡ handles_of (tables nums.now reals.now ints.now map.now pool.now spots.now cells.now) out.old }
 {
     let r = points::handles(nums, reals, ints, map, pool, spots, cells, out);
     Count {
@@ -335,7 +336,7 @@ pub extern "C" fn chavrupas_points_query(
     places: &mut [[f32; 2]],
     objs: &mut [[u32; 2]],
 ) -> Count
-    ensures { Finds (λ t. query_of t (position left low) (position right high)) (told_count result) found places objs nums reals ints map pool spots cells }
+    ensures { Finds (λ t. query_of t (position left low) (position right high)) (told_count result) (tables nums.now reals.now ints.now map.now pool.now spots.now cells.now) (outputs found.old places.old objs.old) (outputs found.new places.new objs.new) }
 {
     let r = points::query(
         nums,
@@ -374,7 +375,7 @@ pub extern "C" fn chavrupas_points_query_around(
     places: &mut [[f32; 2]],
     objs: &mut [[u32; 2]],
 ) -> Count
-    ensures { Finds (λ t. around_of t (position x y) radius) (told_count result) found places objs nums reals ints map pool spots cells }
+    ensures { Finds (λ t. around_of t (position x y) radius) (told_count result) (tables nums.now reals.now ints.now map.now pool.now spots.now cells.now) (outputs found.old places.old objs.old) (outputs found.new places.new objs.new) }
 {
     let r = points::query_around(
         nums,
@@ -414,7 +415,7 @@ pub extern "C" fn chavrupas_points_query_aabb(
     places: &mut [[f32; 2]],
     objs: &mut [[u32; 2]],
 ) -> Count
-    ensures { Finds (λ t. aabb_of t (position left low) (position right high)) (told_count result) found places objs nums reals ints map pool spots cells }
+    ensures { Finds (λ t. aabb_of t (position left low) (position right high)) (told_count result) (tables nums.now reals.now ints.now map.now pool.now spots.now cells.now) (outputs found.old places.old objs.old) (outputs found.new places.new objs.new) }
 {
     let r = points::query_aabb(
         nums,
@@ -450,7 +451,7 @@ pub extern "C" fn chavrupas_points_nearest(
     y: f32,
     radius: f32,
 ) -> Nearest
-    ensures { told_nearest result ≡ nearest_of (before nums reals ints map pool spots cells) (position x y) radius }
+    ensures { told_nearest result ≡ nearest_of (tables nums.now reals.now ints.now map.now pool.now spots.now cells.now) (position x y) radius }
 {
     let near = points::nearest(
         nums,

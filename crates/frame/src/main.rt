@@ -1,9 +1,11 @@
 // A first frame at a desk, on a grid of two slots that three trackers share, then a slot at its last version, then points that rest: what a person
 // reads is what the gate compares. Each line is a call, its answer and its numbers.
+#![tactic(auto)]
+
 use geometry::Position;
-use libc::STDOUT_FILENO;
 use replies::Count;
 use slots::Handle;
+use std::io;
 
 // The numbers of the three trackers.
 const HANDS: u32 = 1;
@@ -15,42 +17,50 @@ const FACES: u32 = 7;
 // No tracker's number.
 const NOBODY: u32 = 8;
 
-fn say(what: &[u8]) {
-    io::write_all(STDOUT_FILENO, what);
+fn say(rt: &impl Print, what: &str) -> io::Result<()> {
+    print!(rt; "{what}")
 }
 
-fn number(n: u32) {
-    io::print_decimal(STDOUT_FILENO, n as u64);
+fn number(rt: &impl Print, n: u32) -> io::Result<()> {
+    print!(rt; "{n}")
 }
 
-fn next(n: u32) {
-    say(b",");
-    number(n);
+fn next(rt: &impl Print, n: u32) -> io::Result<()> {
+    say(rt, ",")?;
+    number(rt, n)
 }
 
-fn begin(what: &[u8], answer: u32, a: u32, b: u32) {
-    say(what);
-    number(answer);
-    next(a);
-    next(b);
+fn begin(rt: &impl Print, what: &str, answer: u32, a: u32, b: u32) -> io::Result<()> {
+    say(rt, what)?;
+    number(rt, answer)?;
+    next(rt, a)?;
+    next(rt, b)
 }
 
-fn line(what: &[u8], answer: u32, a: u32, b: u32) {
-    begin(what, answer, a, b);
-    say(b"\n");
+fn line(rt: &impl Print, what: &str, answer: u32, a: u32, b: u32) -> io::Result<()> {
+    begin(rt, what, answer, a, b)?;
+    say(rt, "\n")
 }
 
-fn longer_line(what: &[u8], answer: u32, a: u32, b: u32, c: u32) {
-    begin(what, answer, a, b);
-    next(c);
-    say(b"\n");
+fn longer_line(rt: &impl Print, what: &str, answer: u32, a: u32, b: u32, c: u32) -> io::Result<()> {
+    begin(rt, what, answer, a, b)?;
+    next(rt, c)?;
+    say(rt, "\n")
 }
 
-fn longest_line(what: &[u8], answer: u32, a: u32, b: u32, c: u32, d: u32) {
-    begin(what, answer, a, b);
-    next(c);
-    next(d);
-    say(b"\n");
+fn longest_line(
+    rt: &impl Print,
+    what: &str,
+    answer: u32,
+    a: u32,
+    b: u32,
+    c: u32,
+    d: u32,
+) -> io::Result<()> {
+    begin(rt, what, answer, a, b)?;
+    next(rt, c)?;
+    next(rt, d)?;
+    say(rt, "\n")
 }
 
 // A position that is still the mark is shown as 77, another as 0.
@@ -63,6 +73,7 @@ fn mark_of(p: [f32; 2]) -> u32 {
 
 // A tracker's point comes in: answer, slot, version.
 fn enter(
+    rt: &impl Print,
     nums: &mut [[u32; 4]; 2],
     reals: &mut [[f32; 4]; 2],
     ints: &mut [[i32; 4]; 2],
@@ -73,14 +84,15 @@ fn enter(
     at: Position,
     obj: u32,
     tracker: u32,
-) {
+) -> io::Result<()> {
     let r = points::insert(nums, reals, ints, map, pool, spots, cells, at, obj, tracker);
     let h = r.handle;
-    line(b"insert ", r.answer, h.slot, h.version);
+    line(rt, "insert ", r.answer, h.slot, h.version)
 }
 
 // What the grid has, told into a buffer that is one short.
 fn list(
+    rt: &impl Print,
     nums: &[[u32; 4]; 2],
     reals: &[[f32; 4]; 2],
     ints: &[[i32; 4]; 2],
@@ -88,11 +100,11 @@ fn list(
     pool: &[[u64; 2]; 2],
     spots: &[[f32; 2]; 2],
     cells: &[[u64; 2]; 2],
-) {
+) -> io::Result<()> {
     let mut one = [[7u32; 2]; 1];
     let r = points::handles(nums, reals, ints, map, pool, spots, cells, &mut one);
     let kept = one[0];
-    line(b"handles ", r.answer, r.count, kept[0]);
+    line(rt, "handles ", r.answer, r.count, kept[0])
 }
 
 // A circle of radius 8 round the origin.
@@ -116,6 +128,7 @@ fn around(
 
 // Its answer, how many it finds, the slot, the data and the tracker of the last. The outputs are marked with 77 before.
 fn circle(
+    rt: &impl Print,
     nums: &[[u32; 4]; 2],
     reals: &[[f32; 4]; 2],
     ints: &[[i32; 4]; 2],
@@ -123,7 +136,7 @@ fn circle(
     pool: &[[u64; 2]; 2],
     spots: &[[f32; 2]; 2],
     cells: &[[u64; 2]; 2],
-) {
+) -> io::Result<()> {
     let mut found = [[77u32; 2]; 2];
     let mut places = [[77.0f32; 2]; 2];
     let mut objs = [[77u32; 2]; 2];
@@ -141,11 +154,12 @@ fn circle(
     );
     let last = found[1];
     let data = objs[1];
-    longest_line(b"circle ", r.answer, r.count, last[0], data[0], data[1]);
+    longest_line(rt, "circle ", r.answer, r.count, last[0], data[0], data[1])
 }
 
 // The same with too few places for data and tracker alone: answer, how many it finds, and the marks, which stand in all three outputs.
 fn short_circle(
+    rt: &impl Print,
     nums: &[[u32; 4]; 2],
     reals: &[[f32; 4]; 2],
     ints: &[[i32; 4]; 2],
@@ -153,7 +167,7 @@ fn short_circle(
     pool: &[[u64; 2]; 2],
     spots: &[[f32; 2]; 2],
     cells: &[[u64; 2]; 2],
-) {
+) -> io::Result<()> {
     let mut found = [[77u32; 2]; 2];
     let mut places = [[77.0f32; 2]; 2];
     let mut objs = [[77u32; 2]; 1];
@@ -172,12 +186,20 @@ fn short_circle(
     let a = found[0];
     let b = found[1];
     let c = objs[0];
-    longer_line(b"short ", r.answer, r.count, c[0], c[1]);
-    longer_line(b"kept ", a[0], b[0], mark_of(places[0]), mark_of(places[1]));
+    longer_line(rt, "short ", r.answer, r.count, c[0], c[1])?;
+    longer_line(
+        rt,
+        "kept ",
+        a[0],
+        b[0],
+        mark_of(places[0]),
+        mark_of(places[1]),
+    )
 }
 
 // The same with a place too many for them: answer, how many it finds, data and tracker of the last, and the mark behind it.
 fn long_circle(
+    rt: &impl Print,
     nums: &[[u32; 4]; 2],
     reals: &[[f32; 4]; 2],
     ints: &[[i32; 4]; 2],
@@ -185,7 +207,7 @@ fn long_circle(
     pool: &[[u64; 2]; 2],
     spots: &[[f32; 2]; 2],
     cells: &[[u64; 2]; 2],
-) {
+) -> io::Result<()> {
     let mut found = [[77u32; 2]; 2];
     let mut places = [[77.0f32; 2]; 2];
     let mut objs = [[77u32; 2]; 3];
@@ -203,11 +225,11 @@ fn long_circle(
     );
     let last = objs[1];
     let behind = objs[2];
-    longest_line(b"long ", r.answer, r.count, last[0], last[1], behind[0]);
+    longest_line(rt, "long ", r.answer, r.count, last[0], last[1], behind[0])
 }
 
 // The answer of the batch, and what its seven calls got.
-fn told(answer: u32, out: [[u32; 2]; 7]) {
+fn told(rt: &impl Print, answer: u32, out: [[u32; 2]; 7]) -> io::Result<()> {
     let a = out[0];
     let b = out[1];
     let c = out[2];
@@ -215,15 +237,16 @@ fn told(answer: u32, out: [[u32; 2]; 7]) {
     let e = out[4];
     let f = out[5];
     let g = out[6];
-    line(b"batch ", answer, a[0], b[0]);
-    line(b"removed ", b[1], c[0], c[1]);
-    line(b"refused ", d[0], e[0], e[1]);
-    line(b"foreign ", f[0], g[0], g[1]);
+    line(rt, "batch ", answer, a[0], b[0])?;
+    line(rt, "removed ", b[1], c[0], c[1])?;
+    line(rt, "refused ", d[0], e[0], e[1])?;
+    line(rt, "foreign ", f[0], g[0], g[1])
 }
 
 // Seven deferred calls with one check: a far move, two removals of one object, a move of what is removed, a handle that was never issued, and of an
 // object that is another tracker's a move and a removal.
 fn frame(
+    rt: &impl Print,
     nums: &mut [[u32; 4]; 2],
     reals: &mut [[f32; 4]; 2],
     ints: &mut [[i32; 4]; 2],
@@ -231,7 +254,7 @@ fn frame(
     pool: &[[u64; 2]; 2],
     spots: &[[f32; 2]; 2],
     cells: &mut [[u64; 2]; 2],
-) {
+) -> io::Result<()> {
     let kinds = [0u32, 1, 1, 0, 0, 0, 1];
     let handles = [
         [0, 1, HANDS],
@@ -255,11 +278,12 @@ fn frame(
     let r = points::batch(
         nums, reals, ints, map, pool, spots, cells, &kinds, &handles, &positions, &mut out,
     );
-    told(r.answer, out);
+    told(rt, r.answer, out)
 }
 
 // What is pending is not seen yet.
 fn look(
+    rt: &impl Print,
     nums: &[[u32; 4]; 2],
     reals: &[[f32; 4]; 2],
     ints: &[[i32; 4]; 2],
@@ -267,15 +291,16 @@ fn look(
     pool: &[[u64; 2]; 2],
     spots: &[[f32; 2]; 2],
     cells: &[[u64; 2]; 2],
-) {
-    circle(nums, reals, ints, map, pool, spots, cells);
-    short_circle(nums, reals, ints, map, pool, spots, cells);
-    long_circle(nums, reals, ints, map, pool, spots, cells);
-    list(nums, reals, ints, map, pool, spots, cells);
+) -> io::Result<()> {
+    circle(rt, nums, reals, ints, map, pool, spots, cells)?;
+    short_circle(rt, nums, reals, ints, map, pool, spots, cells)?;
+    long_circle(rt, nums, reals, ints, map, pool, spots, cells)?;
+    list(rt, nums, reals, ints, map, pool, spots, cells)
 }
 
 // The frame ends: answer, how many moved, how many were removed.
 fn end(
+    rt: &impl Print,
     nums: &mut [[u32; 4]; 2],
     reals: &mut [[f32; 4]; 2],
     ints: &mut [[i32; 4]; 2],
@@ -283,13 +308,14 @@ fn end(
     pool: &mut [[u64; 2]; 2],
     spots: &mut [[f32; 2]; 2],
     cells: &mut [[u64; 2]; 2],
-) {
+) -> io::Result<()> {
     let r = points::maintain(nums, reals, ints, map, pool, spots, cells);
-    line(b"maintain ", r.answer, r.moved, r.removed);
+    line(rt, "maintain ", r.answer, r.moved, r.removed)
 }
 
 // One point moved, one was removed; then the circle finds neither near the origin.
 fn settle(
+    rt: &impl Print,
     nums: &mut [[u32; 4]; 2],
     reals: &mut [[f32; 4]; 2],
     ints: &mut [[i32; 4]; 2],
@@ -297,13 +323,14 @@ fn settle(
     pool: &mut [[u64; 2]; 2],
     spots: &mut [[f32; 2]; 2],
     cells: &mut [[u64; 2]; 2],
-) {
-    end(nums, reals, ints, map, pool, spots, cells);
-    circle(nums, reals, ints, map, pool, spots, cells);
+) -> io::Result<()> {
+    end(rt, nums, reals, ints, map, pool, spots, cells)?;
+    circle(rt, nums, reals, ints, map, pool, spots, cells)
 }
 
 // A grid of two slots with cells of 10; each tracker's point comes, and the third finds no slot. A number that is no tracker's is refused before that.
 fn open(
+    rt: &impl Print,
     nums: &mut [[u32; 4]; 2],
     reals: &mut [[f32; 4]; 2],
     ints: &mut [[i32; 4]; 2],
@@ -311,19 +338,28 @@ fn open(
     pool: &mut [[u64; 2]; 2],
     spots: &mut [[f32; 2]; 2],
     cells: &mut [[u64; 2]; 2],
-) {
+) -> io::Result<()> {
     let made = points::new(nums, reals, ints, map, pool, spots, cells, 10);
-    line(b"new ", made, 0, 0);
+    line(rt, "new ", made, 0, 0)?;
     let home = Position { x: 0.0, y: 0.0 };
     let near = Position { x: 5.0, y: 5.0 };
-    enter(nums, reals, ints, map, pool, spots, cells, home, 7, HANDS);
-    enter(nums, reals, ints, map, pool, spots, cells, near, 8, LAMPS);
-    enter(nums, reals, ints, map, pool, spots, cells, near, 9, FACES);
-    enter(nums, reals, ints, map, pool, spots, cells, near, 9, NOBODY);
+    enter(
+        rt, nums, reals, ints, map, pool, spots, cells, home, 7, HANDS,
+    )?;
+    enter(
+        rt, nums, reals, ints, map, pool, spots, cells, near, 8, LAMPS,
+    )?;
+    enter(
+        rt, nums, reals, ints, map, pool, spots, cells, near, 9, FACES,
+    )?;
+    enter(
+        rt, nums, reals, ints, map, pool, spots, cells, near, 9, NOBODY,
+    )
 }
 
 // A handle is asked for: answer, data, and its version.
 fn ask(
+    rt: &impl Print,
     nums: &[[u32; 4]; 2],
     reals: &[[f32; 4]; 2],
     ints: &[[i32; 4]; 2],
@@ -333,18 +369,19 @@ fn ask(
     cells: &[[u64; 2]; 2],
     slot: u32,
     version: u32,
-) {
+) -> io::Result<()> {
     let h = Handle {
         slot: slot,
         version: version,
     };
     let r = points::get(nums, reals, ints, map, pool, spots, cells, h);
-    line(b"get ", r.answer, r.obj, version);
+    line(rt, "get ", r.answer, r.obj, version)
 }
 
 // The object of slot 0 is taken out by its tracker at the last version, which is set in the table: no history of a few calls gets there.
 // Answer, data, and the tracker that asked.
 fn retire(
+    rt: &impl Print,
     nums: &mut [[u32; 4]; 2],
     reals: &mut [[f32; 4]; 2],
     ints: &mut [[i32; 4]; 2],
@@ -353,7 +390,7 @@ fn retire(
     spots: &mut [[f32; 2]; 2],
     cells: &mut [[u64; 2]; 2],
     tracker: u32,
-) {
+) -> io::Result<()> {
     let mut row = nums[0];
     row[0] = 4294967295;
     nums[0] = row;
@@ -362,11 +399,12 @@ fn retire(
         version: 4294967295,
     };
     let r = points::remove_maintain(nums, reals, ints, map, pool, spots, cells, h, tracker);
-    line(b"taken ", r.answer, r.obj, tracker);
+    line(rt, "taken ", r.answer, r.obj, tracker)
 }
 
 // Everything is taken out: answer, how many objects, data and tracker of the first.
 fn empty(
+    rt: &impl Print,
     nums: &mut [[u32; 4]; 2],
     reals: &mut [[f32; 4]; 2],
     ints: &mut [[i32; 4]; 2],
@@ -374,7 +412,7 @@ fn empty(
     pool: &mut [[u64; 2]; 2],
     spots: &mut [[f32; 2]; 2],
     cells: &mut [[u64; 2]; 2],
-) {
+) -> io::Result<()> {
     let mut places = [[77.0f32; 2]; 2];
     let mut objs = [[77u32; 2]; 2];
     let r = points::clear(
@@ -389,12 +427,13 @@ fn empty(
         &mut objs,
     );
     let first = objs[0];
-    longer_line(b"clear ", r.answer, r.count, first[0], first[1]);
+    longer_line(rt, "clear ", r.answer, r.count, first[0], first[1])
 }
 
 // All that the retired slot had is gone, version 0 was never issued, and the next point takes the other slot; once that is emptied its handle
 // is gone too.
 fn last(
+    rt: &impl Print,
     nums: &mut [[u32; 4]; 2],
     reals: &mut [[f32; 4]; 2],
     ints: &mut [[i32; 4]; 2],
@@ -402,20 +441,28 @@ fn last(
     pool: &mut [[u64; 2]; 2],
     spots: &mut [[f32; 2]; 2],
     cells: &mut [[u64; 2]; 2],
-) {
+) -> io::Result<()> {
     let made = points::new(nums, reals, ints, map, pool, spots, cells, 10);
-    line(b"new ", made, 0, 0);
+    line(rt, "new ", made, 0, 0)?;
     let home = Position { x: 0.0, y: 0.0 };
-    enter(nums, reals, ints, map, pool, spots, cells, home, 7, HANDS);
-    retire(nums, reals, ints, map, pool, spots, cells, LAMPS);
-    retire(nums, reals, ints, map, pool, spots, cells, HANDS);
-    ask(nums, reals, ints, map, pool, spots, cells, 0, 4294967295);
-    ask(nums, reals, ints, map, pool, spots, cells, 0, 4294967294);
-    ask(nums, reals, ints, map, pool, spots, cells, 0, 1);
-    ask(nums, reals, ints, map, pool, spots, cells, 0, 0);
-    enter(nums, reals, ints, map, pool, spots, cells, home, 8, FACES);
-    empty(nums, reals, ints, map, pool, spots, cells);
-    ask(nums, reals, ints, map, pool, spots, cells, 1, 1);
+    enter(
+        rt, nums, reals, ints, map, pool, spots, cells, home, 7, HANDS,
+    )?;
+    retire(rt, nums, reals, ints, map, pool, spots, cells, LAMPS)?;
+    retire(rt, nums, reals, ints, map, pool, spots, cells, HANDS)?;
+    ask(
+        rt, nums, reals, ints, map, pool, spots, cells, 0, 4294967295,
+    )?;
+    ask(
+        rt, nums, reals, ints, map, pool, spots, cells, 0, 4294967294,
+    )?;
+    ask(rt, nums, reals, ints, map, pool, spots, cells, 0, 1)?;
+    ask(rt, nums, reals, ints, map, pool, spots, cells, 0, 0)?;
+    enter(
+        rt, nums, reals, ints, map, pool, spots, cells, home, 8, FACES,
+    )?;
+    empty(rt, nums, reals, ints, map, pool, spots, cells)?;
+    ask(rt, nums, reals, ints, map, pool, spots, cells, 1, 1)
 }
 
 // The bits of a zero: 0, or 2147483648 with its minus. Another number is shown as 77.
@@ -431,6 +478,7 @@ fn zero_bits(x: f32) -> u32 {
 
 // An object that came first into its slot is sent by a tracker: answer, slot, and the bits of the x that it is sent to.
 fn send(
+    rt: &impl Print,
     nums: &mut [[u32; 4]; 2],
     reals: &mut [[f32; 4]; 2],
     ints: &mut [[i32; 4]; 2],
@@ -441,17 +489,18 @@ fn send(
     slot: u32,
     at: Position,
     tracker: u32,
-) {
+) -> io::Result<()> {
     let h = Handle {
         slot: slot,
         version: 1,
     };
     let answer = points::set_position(nums, reals, ints, map, pool, spots, cells, h, at, tracker);
-    line(b"set ", answer, slot, zero_bits(at.x));
+    line(rt, "set ", answer, slot, zero_bits(at.x))
 }
 
 // What `get` says of the first object: answer, data, tracker, the bits of its x; and a circle: answer, how many it finds, then the same of the first.
 fn show_zero(
+    rt: &impl Print,
     nums: &[[u32; 4]; 2],
     reals: &[[f32; 4]; 2],
     ints: &[[i32; 4]; 2],
@@ -459,14 +508,14 @@ fn show_zero(
     pool: &[[u64; 2]; 2],
     spots: &[[f32; 2]; 2],
     cells: &[[u64; 2]; 2],
-) {
+) -> io::Result<()> {
     let h = Handle {
         slot: 0,
         version: 1,
     };
     let g = points::get(nums, reals, ints, map, pool, spots, cells, h);
     let p = g.position;
-    longer_line(b"get ", g.answer, g.obj, g.tracker, zero_bits(p.x));
+    longer_line(rt, "get ", g.answer, g.obj, g.tracker, zero_bits(p.x))?;
     let mut found = [[77u32; 2]; 2];
     let mut places = [[77.0f32; 2]; 2];
     let mut objs = [[77u32; 2]; 2];
@@ -485,18 +534,20 @@ fn show_zero(
     let first = places[0];
     let data = objs[0];
     longest_line(
-        b"circle ",
+        rt,
+        "circle ",
         r.answer,
         r.count,
         data[0],
         data[1],
         zero_bits(first[0]),
-    );
+    )
 }
 
 // A point is sent where it is but for a zero's sign, and back: it has not moved, and takes the bits. Another tracker cannot send it. Then one rests,
 // and another goes by the least step that there is from 16: it alone has moved.
 fn rest(
+    rt: &impl Print,
     nums: &mut [[u32; 4]; 2],
     reals: &mut [[f32; 4]; 2],
     ints: &mut [[i32; 4]; 2],
@@ -504,31 +555,46 @@ fn rest(
     pool: &mut [[u64; 2]; 2],
     spots: &mut [[f32; 2]; 2],
     cells: &mut [[u64; 2]; 2],
-) {
+) -> io::Result<()> {
     let made = points::new(nums, reals, ints, map, pool, spots, cells, 10);
-    line(b"new ", made, 0, 0);
+    line(rt, "new ", made, 0, 0)?;
     let plus = Position { x: 0.0, y: 5.0 };
     let minus = Position { x: -0.0, y: 5.0 };
-    enter(nums, reals, ints, map, pool, spots, cells, plus, 7, HANDS);
-    send(nums, reals, ints, map, pool, spots, cells, 0, minus, HANDS);
-    send(nums, reals, ints, map, pool, spots, cells, 0, plus, LAMPS);
-    end(nums, reals, ints, map, pool, spots, cells);
-    show_zero(nums, reals, ints, map, pool, spots, cells);
-    send(nums, reals, ints, map, pool, spots, cells, 0, plus, HANDS);
-    end(nums, reals, ints, map, pool, spots, cells);
-    show_zero(nums, reals, ints, map, pool, spots, cells);
+    enter(
+        rt, nums, reals, ints, map, pool, spots, cells, plus, 7, HANDS,
+    )?;
+    send(
+        rt, nums, reals, ints, map, pool, spots, cells, 0, minus, HANDS,
+    )?;
+    send(
+        rt, nums, reals, ints, map, pool, spots, cells, 0, plus, LAMPS,
+    )?;
+    end(rt, nums, reals, ints, map, pool, spots, cells)?;
+    show_zero(rt, nums, reals, ints, map, pool, spots, cells)?;
+    send(
+        rt, nums, reals, ints, map, pool, spots, cells, 0, plus, HANDS,
+    )?;
+    end(rt, nums, reals, ints, map, pool, spots, cells)?;
+    show_zero(rt, nums, reals, ints, map, pool, spots, cells)?;
     let there = Position { x: 16.0, y: 5.0 };
     let step = Position {
         x: 16.0000019073486328125,
         y: 5.0,
     };
-    enter(nums, reals, ints, map, pool, spots, cells, there, 8, LAMPS);
-    send(nums, reals, ints, map, pool, spots, cells, 0, plus, HANDS);
-    send(nums, reals, ints, map, pool, spots, cells, 1, step, LAMPS);
-    end(nums, reals, ints, map, pool, spots, cells);
+    enter(
+        rt, nums, reals, ints, map, pool, spots, cells, there, 8, LAMPS,
+    )?;
+    send(
+        rt, nums, reals, ints, map, pool, spots, cells, 0, plus, HANDS,
+    )?;
+    send(
+        rt, nums, reals, ints, map, pool, spots, cells, 1, step, LAMPS,
+    )?;
+    end(rt, nums, reals, ints, map, pool, spots, cells)
 }
 
 fn run(
+    rt: &impl Print,
     nums: &mut [[u32; 4]; 2],
     reals: &mut [[f32; 4]; 2],
     ints: &mut [[i32; 4]; 2],
@@ -536,18 +602,18 @@ fn run(
     pool: &mut [[u64; 2]; 2],
     spots: &mut [[f32; 2]; 2],
     cells: &mut [[u64; 2]; 2],
-) {
-    open(nums, reals, ints, map, pool, spots, cells);
-    frame(nums, reals, ints, map, pool, spots, cells);
-    look(nums, reals, ints, map, pool, spots, cells);
+) -> io::Result<()> {
+    open(rt, nums, reals, ints, map, pool, spots, cells)?;
+    frame(rt, nums, reals, ints, map, pool, spots, cells)?;
+    look(rt, nums, reals, ints, map, pool, spots, cells)?;
     // a table in the place of another is found out
-    list(nums, reals, ints, map, cells, spots, cells);
-    settle(nums, reals, ints, map, pool, spots, cells);
-    last(nums, reals, ints, map, pool, spots, cells);
-    rest(nums, reals, ints, map, pool, spots, cells);
+    list(rt, nums, reals, ints, map, cells, spots, cells)?;
+    settle(rt, nums, reals, ints, map, pool, spots, cells)?;
+    last(rt, nums, reals, ints, map, pool, spots, cells)?;
+    rest(rt, nums, reals, ints, map, pool, spots, cells)
 }
 
-fn main() {
+fn main(rt: HostRuntime) -> io::Result<()> {
     let mut nums = [[0u32; 4]; 2];
     let mut reals = [[0.0f32; 4]; 2];
     let mut ints = [[0i32; 4]; 2];
@@ -556,6 +622,6 @@ fn main() {
     let mut spots = [[0.0f32; 2]; 2];
     let mut cells = [[0u64; 2]; 2];
     run(
-        &mut nums, &mut reals, &mut ints, &mut map, &mut pool, &mut spots, &mut cells,
-    );
+        &rt, &mut nums, &mut reals, &mut ints, &mut map, &mut pool, &mut spots, &mut cells,
+    )
 }

@@ -1,5 +1,8 @@
 // Positions and boxes, which of them are in the domain, and the tests of circle, rectangle and box: src/lib.rs of the Rust.
-ghost use Rattle.basics.specs.Words.{◌≡◌, false};
+#![tactic(auto)]
+
+ghost use Rattle.std.specs.Prelude.{◌≡◌};
+ghost use Rattle.basics.specs.Words.{false};
 ghost use Rattle.std.specs.Float.Ieee.{is_nan};
 ghost use Rattle.basics.specs.Meaning.Says.{Says};
 ghost use Rattle.geometry.specs.Meaning.Domain.{in_domain, position_in_domain, radius_in_domain, aabb_in_domain};
@@ -8,14 +11,14 @@ ghost use Rattle.geometry.specs.Meaning.Rectangle;
 ghost use Rattle.geometry.specs.Meaning.Rectangle.{lower_corner, upper_corner, in_rectangle};
 ghost use Rattle.geometry.specs.Meaning.Intersects;
 
-#[derive(Drop)]
+#[derive(Clone, Copy)]
 pub struct Position {
     pub x: f32,
     pub y: f32,
 }
 
 // Lower left and upper right.
-#[derive(Drop)]
+#[derive(Clone, Copy)]
 pub struct Aabb {
     pub ll: Position,
     pub ur: Position,

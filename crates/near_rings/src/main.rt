@@ -1,18 +1,19 @@
 // The nearest point by rings of cells, on a grid of 4,096 slots with cells of 16: among 4,096 points, then among three. Each line is what was
 // asked, the answer, count, slot, version, x and y in sixteenths, data, tracker, and how many rings were looked through.
-ghost use Rattle.basics.specs.Words.{◌<◌};
+#![tactic(auto)]
+
+ghost use Rattle.std.specs.Prelude.{◌<◌};
 
 use geometry::Position;
-use libc::STDOUT_FILENO;
 use point_nearest::Ringed;
+use std::io;
 
-fn say(what: &[u8]) {
-    io::write_all(STDOUT_FILENO, what);
+fn say(rt: &impl Print, what: &str) -> io::Result<()> {
+    print!(rt; "{what}")
 }
 
-fn next(n: u64) {
-    say(b",");
-    io::print_decimal(STDOUT_FILENO, n);
+fn next(rt: &impl Print, n: u64) -> io::Result<()> {
+    print!(rt; ",{n}")
 }
 
 // No point lies below zero.
@@ -21,33 +22,33 @@ fn from_zero(k: i32) -> u64 {
     if z < 0 { 0 } else { z as u64 }
 }
 
-fn next_place(x: f32) {
-    next(from_zero(cells::whole(x * 16.0)));
+fn next_place(rt: &impl Print, x: f32) -> io::Result<()> {
+    next(rt, from_zero(cells::whole(x * 16.0)))
 }
 
-fn tell(what: &[u8], r: Ringed) {
+fn tell(rt: &impl Print, what: &str, r: Ringed) -> io::Result<()> {
     let near = r.nearest;
     let handle = near.handle;
     let position = near.position;
-    say(what);
-    next(near.answer as u64);
-    next(near.count as u64);
-    next(handle.slot as u64);
-    next(handle.version as u64);
-    next_place(position.x);
-    next_place(position.y);
-    next(near.obj as u64);
-    next(near.tracker as u64);
-    next(r.rings as u64);
-    say(b"\n");
+    say(rt, what)?;
+    next(rt, near.answer as u64)?;
+    next(rt, near.count as u64)?;
+    next(rt, handle.slot as u64)?;
+    next(rt, handle.version as u64)?;
+    next_place(rt, position.x)?;
+    next_place(rt, position.y)?;
+    next(rt, near.obj as u64)?;
+    next(rt, near.tracker as u64)?;
+    next(rt, r.rings as u64)?;
+    say(rt, "\n")
 }
 
 // A grid that is built: the answer, and how many points it has.
-fn tell_built(made: u32, points: u32) {
-    say(b"built");
-    next(made as u64);
-    next(points as u64);
-    say(b"\n");
+fn tell_built(rt: &impl Print, made: u32, points: u32) -> io::Result<()> {
+    say(rt, "built")?;
+    next(rt, made as u64)?;
+    next(rt, points as u64)?;
+    say(rt, "\n")
 }
 
 fn at(x: f32, y: f32) -> Position {
@@ -127,6 +128,7 @@ fn fill(
 }
 
 fn build(
+    rt: &impl Print,
     nums: &mut [[u32; 4]; 4096],
     reals: &mut [[f32; 4]; 4096],
     ints: &mut [[i32; 4]; 4096],
@@ -136,14 +138,15 @@ fn build(
     cells: &mut [[u64; 2]; 4096],
     many: bool,
     n: u16,
-) {
+) -> io::Result<()> {
     let made = points::new(nums, reals, ints, map, pool, spots, cells, 16);
     fill(nums, reals, ints, map, pool, spots, cells, many, n);
     let r = points::len(nums, reals, ints, map, pool, spots, cells);
-    tell_built(made, r.count);
+    tell_built(rt, made, r.count)
 }
 
 fn ask(
+    rt: &impl Print,
     nums: &[[u32; 4]; 4096],
     reals: &[[f32; 4]; 4096],
     ints: &[[i32; 4]; 4096],
@@ -151,17 +154,18 @@ fn ask(
     pool: &[[u64; 2]; 4096],
     spots: &[[f32; 2]; 4096],
     cells: &[[u64; 2]; 4096],
-    what: &[u8],
+    what: &str,
     centre: Position,
     radius: f32,
-) {
+) -> io::Result<()> {
     let r = point_nearest::nearest_by_rings(
         nums, reals, ints, map, pool, spots, cells, centre, radius,
     );
-    tell(what, r);
+    tell(rt, what, r)
 }
 
 fn among_many(
+    rt: &impl Print,
     nums: &[[u32; 4]; 4096],
     reals: &[[f32; 4]; 4096],
     ints: &[[i32; 4]; 4096],
@@ -169,8 +173,9 @@ fn among_many(
     pool: &[[u64; 2]; 4096],
     spots: &[[f32; 2]; 4096],
     cells: &[[u64; 2]; 4096],
-) {
+) -> io::Result<()> {
     ask(
+        rt,
         nums,
         reals,
         ints,
@@ -178,11 +183,12 @@ fn among_many(
         pool,
         spots,
         cells,
-        b"middle",
+        "middle",
         at(640.0, 360.0),
         60.0,
-    );
+    )?;
     ask(
+        rt,
         nums,
         reals,
         ints,
@@ -190,11 +196,12 @@ fn among_many(
         pool,
         spots,
         cells,
-        b"on a point",
+        "on a point",
         of_many(2021),
         60.0,
-    );
+    )?;
     ask(
+        rt,
         nums,
         reals,
         ints,
@@ -202,11 +209,12 @@ fn among_many(
         pool,
         spots,
         cells,
-        b"radius 0",
+        "radius 0",
         of_many(2021),
         0.0,
-    );
+    )?;
     ask(
+        rt,
         nums,
         reals,
         ints,
@@ -214,11 +222,12 @@ fn among_many(
         pool,
         spots,
         cells,
-        b"corner of a cell",
+        "corner of a cell",
         at(640.0, 352.0),
         60.0,
-    );
+    )?;
     ask(
+        rt,
         nums,
         reals,
         ints,
@@ -226,13 +235,14 @@ fn among_many(
         pool,
         spots,
         cells,
-        b"far outside",
+        "far outside",
         at(-300.0, 360.0),
         400.0,
-    );
+    )
 }
 
 fn among_three(
+    rt: &impl Print,
     nums: &[[u32; 4]; 4096],
     reals: &[[f32; 4]; 4096],
     ints: &[[i32; 4]; 4096],
@@ -240,8 +250,9 @@ fn among_three(
     pool: &[[u64; 2]; 4096],
     spots: &[[f32; 2]; 4096],
     cells: &[[u64; 2]; 4096],
-) {
+) -> io::Result<()> {
     ask(
+        rt,
         nums,
         reals,
         ints,
@@ -249,11 +260,12 @@ fn among_three(
         pool,
         spots,
         cells,
-        b"past eight rings",
+        "past eight rings",
         at(350.0, 500.0),
         400.0,
-    );
+    )?;
     ask(
+        rt,
         nums,
         reals,
         ints,
@@ -261,13 +273,14 @@ fn among_three(
         pool,
         spots,
         cells,
-        b"-0.0",
+        "-0.0",
         at(-0.0, -0.0),
         400.0,
-    );
+    )
 }
 
 fn run(
+    rt: &impl Print,
     nums: &mut [[u32; 4]; 4096],
     reals: &mut [[f32; 4]; 4096],
     ints: &mut [[i32; 4]; 4096],
@@ -275,14 +288,14 @@ fn run(
     pool: &mut [[u64; 2]; 4096],
     spots: &mut [[f32; 2]; 4096],
     cells: &mut [[u64; 2]; 4096],
-) {
-    build(nums, reals, ints, map, pool, spots, cells, true, 4096);
-    among_many(nums, reals, ints, map, pool, spots, cells);
-    build(nums, reals, ints, map, pool, spots, cells, false, 3);
-    among_three(nums, reals, ints, map, pool, spots, cells);
+) -> io::Result<()> {
+    build(rt, nums, reals, ints, map, pool, spots, cells, true, 4096)?;
+    among_many(rt, nums, reals, ints, map, pool, spots, cells)?;
+    build(rt, nums, reals, ints, map, pool, spots, cells, false, 3)?;
+    among_three(rt, nums, reals, ints, map, pool, spots, cells)
 }
 
-fn main() {
+fn main(rt: HostRuntime) -> io::Result<()> {
     let mut nums = [[0u32; 4]; 4096];
     let mut reals = [[0.0f32; 4]; 4096];
     let mut ints = [[0i32; 4]; 4096];
@@ -291,6 +304,6 @@ fn main() {
     let mut spots = [[0.0f32; 2]; 4096];
     let mut cells = [[0u64; 2]; 4096];
     run(
-        &mut nums, &mut reals, &mut ints, &mut map, &mut pool, &mut spots, &mut cells,
-    );
+        &rt, &mut nums, &mut reals, &mut ints, &mut map, &mut pool, &mut spots, &mut cells,
+    )
 }

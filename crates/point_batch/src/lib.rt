@@ -1,15 +1,17 @@
 // A batch of deferred calls: one check of the tables for all of them, and each call's answer and data in its place of the output.
-ghost use Rattle.basics.specs.Words.{◌≤◌, ◌≡◌, ◌&&◌, [], ◌∷◌, length, eqb, leb};
-ghost use Rattle.basics.specs.Meaning.Lent.{was, is};
+#![tactic(auto)]
+
+ghost use Rattle.std.specs.Prelude.{◌≤◌, ◌≡◌, ◌&&◌, ◌∷◌};
+ghost use Rattle.basics.specs.Words.{[], length, eqb, leb};
 ghost use Rattle.basics.specs.Meaning.Refusals.{unless, first_of, pick};
 ghost use Rattle.storage.specs.Meaning.Keyed.{written};
 ghost use Rattle.point_records.specs.Meaning.Columns.{position_in};
-ghost use Rattle.point_tables.specs.Meaning.Lent.{lent, Gives};
+ghost use Rattle.point_tables.specs.Meaning.Lent.{Gives};
 ghost use Rattle.point_tables.specs.Meaning.Holds.{Holds};
-ghost use Rattle.point_batch.specs.Inner.Batch.{calls_in};
-ghost use Rattle.point_batch.specs.Meaning.Batch.{handle_of, reply_row, reply_rows, batched_by, batch_of};
+ghost use Rattle.point_batch.specs.Meaning.Batch.{handle_of, reply_row, reply_rows, batched_by, batch_of, calls_of};
 ghost use Rattle.point_deferred.specs.Inner.Ready.{Ready};
-ghost use Rattle.point_deferred.specs.Inner.Held.{lent_poolless, poolless_before, poolless_after, held_after, held_replies};
+ghost use Rattle.point_deferred.specs.Inner.Held.{held_after, held_replies, poolless};
+ghost use Rattle.point_tables.specs.Meaning.Tables.{tables};
 
 mod marks;
 
@@ -20,7 +22,7 @@ use replies::Reply;
 use slots::{Handle, Row};
 
 // The answer of a batch, and with 0 and 9 the number of its calls.
-#[derive(Drop)]
+#[derive(Clone, Copy)]
 pub struct BatchReply {
     pub answer: u32,
     pub count: u64,
@@ -80,10 +82,10 @@ fn run(
     positions: &[[f32; 2]],
     out: &mut [[u32; 2]],
 )
-    requires ready { Ready (lent_poolless nums reals ints map cells) }
+    requires ready { Ready (poolless nums.old reals.old ints.old map.now cells.old) }
     requires long { (length handles.now ≡ length kinds.now) × (length positions.now ≡ length kinds.now) × (length kinds.now ≤ length out.old) }
-    ensures after { poolless_after nums reals ints map cells ≡ held_after (poolless_before nums reals ints map cells) (calls_in kinds handles positions) }
-    ensures out { is out ≡ written (reply_rows (held_replies (poolless_before nums reals ints map cells) (calls_in kinds handles positions))) (was out) }
+    ensures after { poolless nums.new reals.new ints.new map.now cells.new ≡ held_after (poolless nums.old reals.old ints.old map.now cells.old) (calls_of kinds.now handles.now positions.now) }
+    ensures out { out.new ≡ written (reply_rows (held_replies (poolless nums.old reals.old ints.old map.now cells.old) (calls_of kinds.now handles.now positions.now))) out.old }
 {
     let mut i = 0;
     while i < kinds.len() {
@@ -110,10 +112,10 @@ fn run_many(
     positions: &[[f32; 2]],
     out: &mut [[u32; 2]],
 )
-    requires grid { Holds (lent nums reals ints map pool spots cells) }
+    requires grid { Holds (tables nums.old reals.old ints.old map.now pool.now spots.now cells.old) }
     requires long { (length handles.now ≡ length kinds.now) × (length positions.now ≡ length kinds.now) × (length kinds.now ≤ length out.old) }
-    ensures after { poolless_after nums reals ints map cells ≡ held_after (poolless_before nums reals ints map cells) (calls_in kinds handles positions) }
-    ensures out { is out ≡ written (reply_rows (held_replies (poolless_before nums reals ints map cells) (calls_in kinds handles positions))) (was out) }
+    ensures after { poolless nums.new reals.new ints.new map.now cells.new ≡ held_after (poolless nums.old reals.old ints.old map.now cells.old) (calls_of kinds.now handles.now positions.now) }
+    ensures out { out.new ≡ written (reply_rows (held_replies (poolless nums.old reals.old ints.old map.now cells.old) (calls_of kinds.now handles.now positions.now))) out.old }
 {
     let size = map[0];
     let mut i = 0;
@@ -144,10 +146,10 @@ fn run_all(
     positions: &[[f32; 2]],
     out: &mut [[u32; 2]],
 )
-    requires grid { Holds (lent nums reals ints map pool spots cells) }
+    requires grid { Holds (tables nums.old reals.old ints.old map.now pool.now spots.now cells.old) }
     requires long { (length handles.now ≡ length kinds.now) × (length positions.now ≡ length kinds.now) × (length kinds.now ≤ length out.old) }
-    ensures after { poolless_after nums reals ints map cells ≡ held_after (poolless_before nums reals ints map cells) (calls_in kinds handles positions) }
-    ensures out { is out ≡ written (reply_rows (held_replies (poolless_before nums reals ints map cells) (calls_in kinds handles positions))) (was out) }
+    ensures after { poolless nums.new reals.new ints.new map.now cells.new ≡ held_after (poolless nums.old reals.old ints.old map.now cells.old) (calls_of kinds.now handles.now positions.now) }
+    ensures out { out.new ≡ written (reply_rows (held_replies (poolless nums.old reals.old ints.old map.now cells.old) (calls_of kinds.now handles.now positions.now))) out.old }
 {
     let used = basics::index_of(map[1]);
     if used / 8 < kinds.len() {
@@ -186,7 +188,7 @@ pub fn batch(
     positions: &[[f32; 2]],
     out: &mut [[u32; 2]],
 ) -> BatchReply
-    ensures { Gives (λ t. batch_of t (was kinds) (was handles) (was positions) (was out)) (batched_by result out) nums reals ints map pool spots cells }
+    ensures { Gives (λ t. batch_of t kinds.now handles.now positions.now out.old) (batched_by result out.new) (tables nums.old reals.old ints.old map.now pool.now spots.now cells.old) (tables nums.new reals.new ints.new map.now pool.now spots.now cells.new) }
 {
     let held = point_tables::check(nums, reals, ints, map, pool, spots, cells);
     let n = kinds.len();

@@ -1,6 +1,6 @@
 // The marks of many deferred calls: one walk over the pool, beside the cell table.
-ghost use Rattle.basics.specs.Words.{◌≡◌, [], ◌∷◌, length, get_or};
-ghost use Rattle.basics.specs.Meaning.Lent.{was, is};
+ghost use Rattle.std.specs.Prelude.{◌≡◌, ◌∷◌};
+ghost use Rattle.basics.specs.Words.{[], length, get_or};
 ghost use Rattle.point_batch.specs.Inner.Marks.{Walkable, MarkedTo};
 
 use slots::Row;
@@ -15,7 +15,7 @@ fn set_mark(row: [u64; 2]) -> [u64; 2]
 // Each cell in which something is pending is marked.
 pub fn mark_all(nums: &[Row], pool: &[[u64; 2]], used: usize, cells: &mut [[u64; 2]], rows: usize)
     requires { Walkable nums.now pool.now used cells.old rows }
-    ensures { MarkedTo (was nums) (was pool) used (was cells) rows (is cells) used }
+    ensures { MarkedTo nums.now pool.now used cells.old rows cells.new used }
 {
     let mut c = 0;
     let mut j = 0;

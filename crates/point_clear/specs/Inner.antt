@@ -1,6 +1,6 @@
 -- What the steps of the code are asked for and give. Assumes nothing.
-use Rattle.basics.specs.Words.{ℕ, ◌≤◌, min, ◌≡◌, Bool, List, [], ◌∷◌, map, length, get_or, leb}
-use Rattle.std.specs.Prelude.{Float}
+use Rattle.std.specs.Prelude.{◌≤◌, ◌≡◌, ◌∷◌, Float}
+use Rattle.basics.specs.Words.{ℕ, min, Bool, List, [], map, length, get_or, leb}
 use Rattle.std.specs.Float.{nan}
 use Rattle.basics.specs.Meaning.Limits.{most_slots}
 use Rattle.basics.specs.Meaning.Refusals.{pick}

@@ -1,15 +1,17 @@
 // `clear`: writes recorded position, data and tracker, ascending by slot, then empties the grid. Versions rise as with any emptying.
-ghost use Rattle.basics.specs.Words.{◌+◌, ◌≤◌, ◌<◌, ◌≡◌, true, length, get_or};
+#![tactic(auto)]
+
+ghost use Rattle.std.specs.Prelude.{◌+◌, ◌≤◌, ◌<◌, ◌≡◌};
+ghost use Rattle.basics.specs.Words.{true, length, get_or};
 ghost use Rattle.basics.specs.Meaning.Limits.{most_slots};
-ghost use Rattle.basics.specs.Meaning.Lent.{was, is};
 ghost use Rattle.slots.specs.Meaning.Map.{words_for};
 ghost use Rattle.storage.specs.Meaning.Keyed.{written};
-ghost use Rattle.point_tables.specs.Meaning.Lent.{before, after};
-ghost use Rattle.point_tables.specs.Meaning.Tables.{counting};
+ghost use Rattle.point_tables.specs.Meaning.Tables.{counting, tables};
 ghost use Rattle.slot_walks.specs.Meaning.Live.{live_from};
 ghost use Rattle.slot_walks.specs.Meaning.Cleared.{cleared_rows, cleared_map};
-ghost use Rattle.point_clear.specs.Meaning.Clear.{wrote_lent, clear_into};
 ghost use Rattle.point_clear.specs.Inner.{room_answer, count_by, places_of, objs_of, Room};
+ghost use Rattle.point_clear.specs.Meaning.Clear.{clear_of, wrote};
+ghost use Rattle.point_tables.specs.Meaning.Outcome.{outcome};
 
 use replies::Count;
 use slots::Row;
@@ -30,7 +32,7 @@ fn short_of(n: usize, places: usize, objs: usize) -> u32
 // The answer, with the number of objects: each has one entry, so the entries in use are as many.
 fn answer(map: &[u64], held: bool, places: usize, objs: usize) -> Count
     requires { held ≡ true → (1 < length map.now) × (get_or map.now 1 0 ≤ most_slots) }
-    ensures { result ≡ count_by held (get_or (was map) 1 0) places objs }
+    ensures { result ≡ count_by held (get_or map.now 1 0) places objs }
 {
     if !held {
         return Count {
@@ -49,8 +51,8 @@ fn answer(map: &[u64], held: bool, places: usize, objs: usize) -> Count
 // The recorded position, and the data and the tracker, of each live slot, from place 0 of the outputs on.
 fn put_objects(nums: &[Row], reals: &[[f32; 4]], places: &mut [[f32; 2]], objs: &mut [[u32; 2]])
     requires { Room nums.now reals.now places.old objs.old }
-    ensures places { is places ≡ written (places_of (was reals) (live_from 0 (was nums))) (was places) }
-    ensures objs { is objs ≡ written (objs_of (was nums) (live_from 0 (was nums))) (was objs) }
+    ensures places { places.new ≡ written (places_of reals.now (live_from 0 nums.now)) places.old }
+    ensures objs { objs.new ≡ written (objs_of nums.now (live_from 0 nums.now)) objs.old }
 {
     let mut k = 0;
     let mut i = 0;
@@ -69,8 +71,8 @@ fn put_objects(nums: &[Row], reals: &[[f32; 4]], places: &mut [[f32; 2]], objs: 
 // No entry and no row of a cell is in use.
 fn empty_all(nums: &mut [Row], map: &mut [u64])
     requires { length map.old ≡ 3 + words_for (length nums.old) }
-    ensures nums { is nums ≡ cleared_rows (was nums) }
-    ensures map { is map ≡ counting (cleared_map 0 (was nums) (was map)) 0 0 }
+    ensures nums { nums.new ≡ cleared_rows nums.old }
+    ensures map { map.new ≡ counting (cleared_map 0 nums.old map.old) 0 0 }
 {
     slot_walks::empty_slots(nums, map);
     map[1] = 0;
@@ -88,7 +90,7 @@ pub fn clear(
     places: &mut [[f32; 2]],
     objs: &mut [[u32; 2]],
 ) -> Count
-    ensures { wrote_lent result places objs (after nums reals ints map pool spots cells) ≡ clear_into (before nums reals ints map pool spots cells) places objs }
+    ensures { outcome (wrote result places.new objs.new) (tables nums.new reals.now ints.now map.new pool.now spots.now cells.now) ≡ clear_of (tables nums.old reals.now ints.now map.old pool.now spots.now cells.now) places.old objs.old }
 {
     let held = point_tables::check(nums, reals, ints, map, pool, spots, cells);
     let c = answer(map, held, places.len(), objs.len());

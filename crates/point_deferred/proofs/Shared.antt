@@ -43,7 +43,7 @@ use Rattle.replies.specs.Meaning.Replies.{reply}
 
 -- a signed number that was read is what it was
 pub back : {z : ℤ} → mag z < 2 ^ hbits w32 → to_z w32 (of_z w32 z) ≡ z
-back p = to_z-of_z (sfits_of p)
+back {z} p = to_z-of_z {w = w32} {z = z} (sfits_of p)
 
 -- ---- tags
 pub tag_same : (d c : Cell) → d ≡ c → 1 ≡ tag_to d c
@@ -120,7 +120,7 @@ made ns qs zs map cells s kind at e key rows d ns' qs' zs' cells' ee ek em ec p 
 
 -- the rows that the mark is asked of
 pub rising : (t : Tables) (rows : ℕ) → Ready t → rows ≡ rows_of t → (rows ≤ length t.cells) × Rising row_key (take rows t.cells)
-rising t rows r e = rw e (r.of_cells_lem, rows_rise t r)
+rising t rows r e = rw e (r.of_cells, rows_rise t r)
 
 -- ---- one call, refused and done
 pub refused : (t : Tables) (c : Call) (a : ℕ) → a ≡ held_answer t c → (a ≡ 0 → ⊥) → outcome (reply a 0) t ≡ held_of t c

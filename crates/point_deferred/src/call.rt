@@ -1,13 +1,13 @@
 // One deferred call on tables that hold a grid: kind 0 is `set_position`, any other `remove`. The pool is neither read nor written.
-ghost use Rattle.basics.specs.Words.{◌<◌, ◌≡◌, length};
-ghost use Rattle.basics.specs.Meaning.Lent.{was, is};
+ghost use Rattle.std.specs.Prelude.{◌<◌, ◌≡◌};
+ghost use Rattle.basics.specs.Words.{length};
 ghost use Rattle.cells.specs.Meaning.Size.{SizeInDomain};
 ghost use Rattle.point_records.specs.Meaning.Columns.{record_at};
 ghost use Rattle.point_records.specs.Meaning.Occupied.{InDomain};
 ghost use Rattle.point_tables.specs.Meaning.Outcome.{outcome};
 ghost use Rattle.point_deferred.specs.Inner.Ready.{Ready, Workable};
 ghost use Rattle.point_deferred.specs.Inner.Held;
-ghost use Rattle.point_deferred.specs.Inner.Held.{lent_poolless, poolless_before, poolless_after, columns_before, columns_after, set_refusal};
+ghost use Rattle.point_deferred.specs.Inner.Held.{set_refusal, poolless, columns_alone};
 ghost use Rattle.point_deferred.specs.Inner.Held.{refusal_of, PendedRows, worked, held_of, unmarked_of};
 
 use crate::rows;
@@ -24,7 +24,7 @@ fn set_refusal(
     tracker: u32,
 ) -> u32
     requires { (length reals.now ≡ length nums.now) × (length ints.now ≡ length nums.now) }
-    ensures { result ≡ set_refusal (was nums) (record_at (was nums) (was reals) (was ints) h.slot).state h at tracker }
+    ensures { result ≡ set_refusal nums.now (record_at nums.now reals.now ints.now h.slot).state h at tracker }
 {
     if !geometry::position_in_domain(at) {
         return 6;
@@ -53,7 +53,7 @@ fn refusal(
     tracker: u32,
 ) -> u32
     requires { (length reals.now ≡ length nums.now) × (length ints.now ≡ length nums.now) }
-    ensures { result ≡ refusal_of (was nums) (record_at (was nums) (was reals) (was ints) h.slot).state (Held.call kind h at tracker) }
+    ensures { result ≡ refusal_of nums.now (record_at nums.now reals.now ints.now h.slot).state (Held.call kind h at tracker) }
 {
     if kind == 0 {
         return set_refusal(nums, reals, ints, h, at, tracker);
@@ -72,7 +72,7 @@ fn pend(
     at: Position,
 ) -> u32
     requires { (s < length nums.old) × (s < length reals.old) × (s < length ints.old) × SizeInDomain size × (kind ≡ 0 → InDomain at) }
-    ensures { PendedRows (was nums) (was reals) (was ints) size s kind at result (is nums) (is reals) (is ints) }
+    ensures { PendedRows nums.old reals.old ints.old size s kind at result nums.new reals.new ints.new }
 {
     let n = nums[s];
     let q = reals[s];
@@ -95,8 +95,8 @@ fn work(
     kind: u32,
     at: Position,
 ) -> u32
-    requires { Ready (lent_poolless nums reals ints map cells) × Workable (lent_poolless nums reals ints map cells) s kind at }
-    ensures { outcome result (poolless_after nums reals ints map cells) ≡ worked (poolless_before nums reals ints map cells) s kind at }
+    requires { Ready (poolless nums.old reals.old ints.old map.now cells.old) × Workable (poolless nums.old reals.old ints.old map.now cells.old) s kind at }
+    ensures { outcome result (poolless nums.new reals.new ints.new map.now cells.new) ≡ worked (poolless nums.old reals.old ints.old map.now cells.old) s kind at }
 {
     let k = cells::key_of(rows::cell_in(ints[s]));
     let rows = basics::index_of(map[2]);
@@ -116,7 +116,7 @@ pub fn unmarked(
     tracker: u32,
 ) -> Reply
     requires { (length reals.old ≡ length nums.old) × (length ints.old ≡ length nums.old) × SizeInDomain size }
-    ensures { outcome result (columns_after nums reals ints size) ≡ unmarked_of (columns_before nums reals ints size) (Held.call kind h at tracker) }
+    ensures { outcome result (columns_alone nums.new reals.new ints.new size) ≡ unmarked_of (columns_alone nums.old reals.old ints.old size) (Held.call kind h at tracker) }
 {
     let a = refusal(nums, reals, ints, kind, h, at, tracker);
     if a != 0 {
@@ -138,8 +138,8 @@ pub fn deferred(
     at: Position,
     tracker: u32,
 ) -> Reply
-    requires { Ready (lent_poolless nums reals ints map cells) }
-    ensures { outcome result (poolless_after nums reals ints map cells) ≡ held_of (poolless_before nums reals ints map cells) (Held.call kind h at tracker) }
+    requires { Ready (poolless nums.old reals.old ints.old map.now cells.old) }
+    ensures { outcome result (poolless nums.new reals.new ints.new map.now cells.new) ≡ held_of (poolless nums.old reals.old ints.old map.now cells.old) (Held.call kind h at tracker) }
 {
     let a = refusal(nums, reals, ints, kind, h, at, tracker);
     if a != 0 {

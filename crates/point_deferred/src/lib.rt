@@ -1,10 +1,12 @@
 // The deferred calls of trackers: `set_position` and `remove`. Nothing moves before maintain.
 // Each public call checks the tables first.
-ghost use Rattle.basics.specs.Words.{◌≡◌};
-ghost use Rattle.point_tables.specs.Meaning.Lent.{after, before};
+#![tactic(auto)]
+
+ghost use Rattle.std.specs.Prelude.{◌≡◌};
 ghost use Rattle.point_tables.specs.Meaning.Outcome.{outcome};
 ghost use Rattle.point_deferred.specs.Meaning.Moves.{set_position_of, remove_of};
 ghost use Rattle.replies.specs.Meaning.Replies.{reply};
+ghost use Rattle.point_tables.specs.Meaning.Tables.{tables};
 
 mod call;
 mod rows;
@@ -28,7 +30,7 @@ pub fn set_position(
     at: Position,
     tracker: u32,
 ) -> u32
-    ensures { outcome (reply result 0) (after nums reals ints map pool spots cells) ≡ set_position_of (before nums reals ints map pool spots cells) h at tracker }
+    ensures { outcome (reply result 0) (tables nums.new reals.new ints.new map.now pool.now spots.now cells.new) ≡ set_position_of (tables nums.old reals.old ints.old map.now pool.now spots.now cells.old) h at tracker }
 {
     if !point_tables::check(nums, reals, ints, map, pool, spots, cells) {
         return 3;
@@ -49,7 +51,7 @@ pub fn remove(
     h: Handle,
     tracker: u32,
 ) -> Reply
-    ensures { outcome result (after nums reals ints map pool spots cells) ≡ remove_of (before nums reals ints map pool spots cells) h tracker }
+    ensures { outcome result (tables nums.new reals.new ints.new map.now pool.now spots.now cells.new) ≡ remove_of (tables nums.old reals.old ints.old map.now pool.now spots.now cells.old) h tracker }
 {
     if !point_tables::check(nums, reals, ints, map, pool, spots, cells) {
         return Reply { answer: 3, obj: 0 };

@@ -1,5 +1,5 @@
 // What a deferred call writes into the rows of a slot, row by row and by value.
-ghost use Rattle.basics.specs.Words.{◌≡◌};
+ghost use Rattle.std.specs.Prelude.{◌≡◌};
 ghost use Rattle.cells.specs.Meaning.Size.{SizeInDomain};
 ghost use Rattle.point_records.specs.Meaning.Columns.{position_in};
 ghost use Rattle.point_records.specs.Meaning.Occupied.{InDomain};
@@ -11,7 +11,7 @@ use geometry::Position;
 use slots::Row;
 
 // What becomes pending for an object: the tag of its state, where it shall stand, and in which cell.
-#[derive(Drop)]
+#[derive(Clone, Copy)]
 pub struct Pending {
     pub tag: u32,
     pub at: Position,

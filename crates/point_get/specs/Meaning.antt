@@ -1,5 +1,6 @@
 -- `get`, `len` and `handles`: recorded position, data and tracker; removed objects count until maintain. Assumes nothing.
-use Rattle.basics.specs.Words.{ℕ, List, [], ◌∷◌, length, eqb, leb}
+use Rattle.std.specs.Prelude.{◌∷◌}
+use Rattle.basics.specs.Words.{ℕ, List, [], length, eqb, leb}
 use Rattle.basics.specs.Meaning.Refusals.{Refusal, unless, pick, by_tests}
 use Rattle.geometry.specs.declared.Position.{Position}
 use Rattle.geometry.specs.Meaning.Zero.{zero-position}

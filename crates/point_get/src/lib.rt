@@ -1,15 +1,16 @@
 // Reading a point grid: `get`, `len`, `handles`. Each checks the tables first.
-ghost use Rattle.basics.specs.Words.{◌≡◌};
-ghost use Rattle.basics.specs.Meaning.Lent.{was, is};
-ghost use Rattle.point_tables.specs.Meaning.Lent.{before};
+#![tactic(auto)]
+
+ghost use Rattle.std.specs.Prelude.{◌≡◌};
 ghost use Rattle.point_get.specs.Meaning.{get_of, len_of, handles_of, listing};
+ghost use Rattle.point_tables.specs.Meaning.Tables.{tables};
 
 use geometry::Position;
 use replies::Count;
 use slots::{Handle, Row};
 
 // The recorded position, the data and the tracker of an object beside the answer.
-#[derive(Drop)]
+#[derive(Clone, Copy)]
 pub struct Got {
     pub answer: u32,
     pub position: Position,
@@ -27,7 +28,7 @@ pub fn get(
     cells: &[[u64; 2]],
     h: Handle,
 ) -> Got
-    ensures { result ≡ get_of (before nums reals ints map pool spots cells) h }
+    ensures { result ≡ get_of (tables nums.now reals.now ints.now map.now pool.now spots.now cells.now) h }
 {
     if !point_tables::check(nums, reals, ints, map, pool, spots, cells) {
         return Got {
@@ -67,7 +68,7 @@ pub fn len(
     spots: &[[f32; 2]],
     cells: &[[u64; 2]],
 ) -> Count
-    ensures { result ≡ len_of (before nums reals ints map pool spots cells) }
+    ensures { result ≡ len_of (tables nums.now reals.now ints.now map.now pool.now spots.now cells.now) }
 {
     if !point_tables::check(nums, reals, ints, map, pool, spots, cells) {
         return Count {
@@ -93,7 +94,7 @@ pub fn handles(
     cells: &[[u64; 2]],
     out: &mut [[u32; 2]],
 ) -> Count
-    ensures { listing result (is out) ≡ handles_of (before nums reals ints map pool spots cells) (was out) }
+    ensures { listing result out.new ≡ handles_of (tables nums.now reals.now ints.now map.now pool.now spots.now cells.now) out.old }
 {
     let found = len(nums, reals, ints, map, pool, spots, cells);
     if found.answer != 0 {

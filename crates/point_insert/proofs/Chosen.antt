@@ -71,7 +71,7 @@ module _ (t : Tables) (p : Position) (d k : ℕ) (held : Bool) (eh : held ≡ ho
       chosen =
           let h = (holds_says t).yes (sym eh ∙ passed.0) in
           let f = lowest_free t.nums t.map h.slots s u in
-          record { holds = h; in_domain_lem = (says_t (position_in_domain p)).yes passed.1; inside = f.0; is_free = f.1 }
+          record { holds = h; within_domain = (says_t (position_in_domain p)).yes passed.1; inside = f.0; is_free = f.1 }
 
       pub done : (r : Inserted) (w : Tables) → r ≡ inserted 0 s (version_at t.nums s) → w ≡ put t s p d k → outcome r w ≡ insert_of t p d k
-      done r w e q = rw (e, q) (sym (insert-done t p d k s chosen.holds chosen.in_domain_lem passed.2 u))
+      done r w e q = rw (e, q) (sym (insert-done t p d k s chosen.holds chosen.within_domain passed.2 u))

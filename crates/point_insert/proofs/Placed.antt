@@ -36,7 +36,7 @@ module _ (t : Tables) (s : ℕ) (p : Position) (f : Fresh t s p) where
 
   pub enter_asks : (r : ℕ) → r ≡ rows_of t → (r < length t.cells) × Sorted row_key (take r t.cells)
   enter_asks r e = (
-    omega (arith, one_more, rows-least _ _ _ _ f.holds.packed, f.holds.sized.of_cells_lem),
+    omega (arith, one_more, rows-least _ _ _ _ f.holds.packed, f.holds.sized.of_cells),
     subst (λ (n : ℕ). Sorted row_key (take n t.cells)) (sym e) (rows_in_lem t f.holds).in_order,
   )
 

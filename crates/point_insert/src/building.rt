@@ -1,8 +1,8 @@
 // Building: every slot is free at version 1, and no list has an entry.
-ghost use Rattle.basics.specs.Words.{◌≡◌};
-ghost use Rattle.point_tables.specs.Meaning.Lent.{after, before};
+ghost use Rattle.std.specs.Prelude.{◌≡◌};
 ghost use Rattle.point_tables.specs.Meaning.Outcome.{outcome};
 ghost use Rattle.point_insert.specs.Meaning.New.{new_of};
+ghost use Rattle.point_tables.specs.Meaning.Tables.{tables};
 
 use slots::Row;
 
@@ -17,7 +17,7 @@ pub fn new(
     cells: &[[u64; 2]],
     size: u32,
 ) -> u32
-    ensures { outcome result (after nums reals ints map pool spots cells) ≡ new_of (before nums reals ints map pool spots cells) size }
+    ensures { outcome result (tables nums.new reals.now ints.now map.new pool.now spots.now cells.now) ≡ new_of (tables nums.old reals.now ints.now map.old pool.now spots.now cells.now) size }
 {
     let sized = point_tables::lengths_ok(
         nums.len(),

@@ -1,12 +1,11 @@
 // `insert`: the lowest usable slot takes the object, and (handle, position) goes to the end of its cell's list.
-ghost use Rattle.basics.specs.Words.{◌+◌, ◌/◌, ◌≤◌, ◌<◌, ◌≡◌, true, length};
+ghost use Rattle.std.specs.Prelude.{◌+◌, ◌/◌, ◌≤◌, ◌<◌, ◌≡◌};
+ghost use Rattle.basics.specs.Words.{true, length};
 ghost use Rattle.basics.specs.Meaning.Limits.{most_slots};
-ghost use Rattle.basics.specs.Meaning.Lent.{was, is};
 ghost use Rattle.slots.specs.Meaning.Map.{words_for, taken};
 ghost use Rattle.slots.specs.Inner.Map.{NonePast};
 ghost use Rattle.slots.specs.Meaning.Slot.{version_at};
-ghost use Rattle.point_tables.specs.Meaning.Tables.{counting};
-ghost use Rattle.point_tables.specs.Meaning.Lent.{after, before, lent};
+ghost use Rattle.point_tables.specs.Meaning.Tables.{counting, tables};
 ghost use Rattle.point_tables.specs.Meaning.Outcome.{outcome};
 ghost use Rattle.point_insert.specs.Meaning.Insert;
 ghost use Rattle.point_insert.specs.Meaning.Insert.{insert_of};
@@ -20,7 +19,7 @@ use replies::Inserted;
 use slots::{Handle, Row, Usable};
 
 // The answer, and where it is 0 the slot.
-#[derive(Drop)]
+#[derive(Clone, Copy)]
 struct Choice {
     answer: u32,
     slot: usize,
@@ -29,7 +28,7 @@ struct Choice {
 // The first refusal that applies, or the lowest usable slot.
 fn choose(nums: &[Row], map: &[u64], held: bool, at: Position, tracker: u32) -> Choice
     requires { held ≡ true → (length map.now ≡ 3 + words_for (length nums.now)) × (length nums.now ≤ most_slots) × NonePast map.now (length nums.now) }
-    ensures { Chosen held at tracker (was map) (length (was nums)) result.answer result.slot }
+    ensures { Chosen held at tracker map.now (length nums.now) result.answer result.slot }
 {
     if !held {
         return Choice { answer: 3, slot: 0 };
@@ -53,7 +52,7 @@ fn choose(nums: &[Row], map: &[u64], held: bool, at: Position, tracker: u32) -> 
 // The object is in slot s, at the version that the slot has.
 fn accepted(nums: &[Row], s: usize) -> Inserted
     requires { (s < length nums.now) × (length nums.now ≤ most_slots) }
-    ensures { result ≡ inserted 0 s (version_at (was nums) s) }
+    ensures { result ≡ inserted 0 s (version_at nums.now s) }
 {
     let row = nums[s];
     let version = row[0];
@@ -94,7 +93,7 @@ fn occupy(
     tracker: u32,
 )
     requires { (s < length nums.old) × (s < length reals.old) × (s < length ints.old) }
-    ensures { Stored nums reals ints s (fresh_record (version_at (was nums) s) at cell obj tracker) }
+    ensures { Stored nums.old reals.old ints.old s (fresh_record (version_at nums.old s) at cell obj tracker) nums.new reals.new ints.new }
 {
     let row = nums[s];
     let r = fresh_record(row[0], at, cell, obj, tracker);
@@ -104,7 +103,7 @@ fn occupy(
 // The map has slot s no more, and its head words have the counts.
 fn count(map: &mut [u64], s: usize, used: usize, rows: usize)
     requires { 3 + s / 64 < length map.old }
-    ensures { is map ≡ counting (taken (was map) s) used rows }
+    ensures { map.new ≡ counting (taken map.old s) used rows }
 {
     slots::take(map, s);
     map[1] = basics::word_of(used);
@@ -125,8 +124,8 @@ fn put(
     obj: u32,
     tracker: u32,
 )
-    requires { Fresh (lent nums reals ints map pool spots cells) s at }
-    ensures { after nums reals ints map pool spots cells ≡ Insert.put (before nums reals ints map pool spots cells) s at obj tracker }
+    requires { Fresh (tables nums.old reals.old ints.old map.old pool.old spots.old cells.old) s at }
+    ensures { tables nums.new reals.new ints.new map.new pool.new spots.new cells.new ≡ Insert.put (tables nums.old reals.old ints.old map.old pool.old spots.old cells.old) s at obj tracker }
 {
     let used = basics::index_of(map[1]);
     let rows = basics::index_of(map[2]);
@@ -156,7 +155,7 @@ pub fn insert(
     obj: u32,
     tracker: u32,
 ) -> Inserted
-    ensures { outcome result (after nums reals ints map pool spots cells) ≡ insert_of (before nums reals ints map pool spots cells) at obj tracker }
+    ensures { outcome result (tables nums.new reals.new ints.new map.new pool.new spots.new cells.new) ≡ insert_of (tables nums.old reals.old ints.old map.old pool.old spots.old cells.old) at obj tracker }
 {
     let held = point_tables::check(nums, reals, ints, map, pool, spots, cells);
     let c = choose(nums, map, held, at, tracker);

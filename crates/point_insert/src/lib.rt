@@ -1,4 +1,6 @@
 // Building a point grid, and inserting into it, which checks the tables first.
+#![tactic(auto)]
+
 mod building;
 mod inserting;
 

@@ -1,13 +1,15 @@
 // The pass of `maintain` over the lists: each dirty cell's list is walked, and what a list keeps is laid behind what was kept before.
 // What is laid never comes past the entry that is looked at, so the places behind it stay as they were and no copy is made.
-ghost use Rattle.basics.specs.Words.{◌<◌, ◌≡◌, [], length, get_or, set};
-ghost use Rattle.basics.specs.Meaning.Lent.{was, is};
-ghost use Rattle.point_tables.specs.Meaning.Lent.{before, lent};
+#![tactic(auto)]
+
+ghost use Rattle.std.specs.Prelude.{◌<◌, ◌≡◌};
+ghost use Rattle.basics.specs.Words.{[], length, get_or, set};
 ghost use Rattle.point_tables.specs.Meaning.Holds.{Holds};
 ghost use Rattle.point_maintain.specs.Inner.Kept.{kept};
 ghost use Rattle.point_maintain.specs.Inner.Closed.{kept_entries};
 ghost use Rattle.point_maintain_lists.specs.Inner.Tags.{spot_by, fate_in};
-ghost use Rattle.point_maintain_lists.specs.Inner.Laid.{Room, Slotted, Laid, lent_list, InUse, kept_if};
+ghost use Rattle.point_maintain_lists.specs.Inner.Laid.{Room, Slotted, Laid, InUse, kept_if, list_at};
+ghost use Rattle.point_tables.specs.Meaning.Tables.{tables};
 
 use slots::Row;
 
@@ -15,7 +17,7 @@ use slots::Row;
 // By a branch, so that only the position that is laid is read.
 fn lay_spot(reals: &[[f32; 4]], spots: &mut [[f32; 2]], tag: u32, s: usize, at: usize, w: usize)
     requires { (s < length reals.now) × (at < length spots.old) × (w < length spots.old) }
-    ensures { is spots ≡ set (was spots) w (spot_by tag (get_or (was reals) s []) (get_or (was spots) at [])) }
+    ensures { spots.new ≡ set spots.old w (spot_by tag (get_or reals.now s []) (get_or spots.old at [])) }
 {
     if tag == 1 {
         let q = reals[s];
@@ -37,7 +39,7 @@ pub fn walk_run(
     start: usize,
 ) -> usize
     requires { Room pool.old spots.old from to start × Slotted nums.now reals.now pool.old from to }
-    ensures { Laid (kept (fate_in (was nums) (was reals)) (lent_list pool spots from to)) (was pool) (was spots) start to result (is pool) (is spots) }
+    ensures { Laid (kept (fate_in nums.now reals.now) (list_at pool.old spots.old from to)) pool.old spots.old start to result pool.new spots.new }
 {
     let mut at = from;
     let mut i = from;
@@ -71,7 +73,7 @@ fn move_run(
     start: usize,
 ) -> usize
     requires { Room pool.old spots.old from to start }
-    ensures { Laid (lent_list pool spots from to) (was pool) (was spots) start to result (is pool) (is spots) }
+    ensures { Laid (list_at pool.old spots.old from to) pool.old spots.old start to result pool.new spots.new }
 {
     let mut i = from;
     let mut w = start;
@@ -96,7 +98,7 @@ fn sweep_run(
     dirty: bool,
 ) -> usize
     requires { Room pool.old spots.old from to start × Slotted nums.now reals.now pool.old from to }
-    ensures { Laid (kept_if dirty (was nums) (was reals) (lent_list pool spots from to)) (was pool) (was spots) start to result (is pool) (is spots) }
+    ensures { Laid (kept_if dirty nums.now reals.now (list_at pool.old spots.old from to)) pool.old spots.old start to result pool.new spots.new }
 {
     if dirty {
         return walk_run(nums, reals, pool, spots, from, to, start);
@@ -117,8 +119,8 @@ pub fn sweep_lists(
     spots: &mut [[f32; 2]],
     cells: &[[u64; 2]],
 ) -> usize
-    requires { Holds (lent nums reals ints map pool spots cells) }
-    ensures { InUse (kept_entries (before nums reals ints map pool spots cells)) pool spots result }
+    requires { Holds (tables nums.now reals.now ints.now map.now pool.old spots.old cells.now) }
+    ensures { InUse (kept_entries (tables nums.now reals.now ints.now map.now pool.old spots.old cells.now)) pool.old spots.old pool.new spots.new result }
 {
     let used = basics::index_of(map[1]);
     let rows = basics::index_of(map[2]);

@@ -1,12 +1,14 @@
 // `maintain` of a point grid: one sweep over the lists, one pass over the slots, one merge, and the cell table anew.
 // It checks the tables first.
-ghost use Rattle.basics.specs.Words.{◌<◌, ◌≡◌, length, set};
-ghost use Rattle.basics.specs.Meaning.Lent.{was, is};
-ghost use Rattle.point_tables.specs.Meaning.Lent.{after, before, lent};
+#![tactic(auto)]
+
+ghost use Rattle.std.specs.Prelude.{◌<◌, ◌≡◌};
+ghost use Rattle.basics.specs.Words.{length, set};
 ghost use Rattle.point_tables.specs.Meaning.Holds.{Holds};
 ghost use Rattle.point_tables.specs.Meaning.Outcome.{outcome};
 ghost use Rattle.point_maintain.specs.Inner.Closed.{settled_tables};
 ghost use Rattle.point_maintain.specs.Meaning.Maintain.{maintain_of};
+ghost use Rattle.point_tables.specs.Meaning.Tables.{tables};
 
 use point_maintain::Maintained;
 use slots::Row;
@@ -14,7 +16,7 @@ use slots::Row;
 // The numbers of entries and cells in use.
 fn count(map: &mut [u64], used: usize, rows: usize)
     requires { 2 < length map.old }
-    ensures { is map ≡ set (set (was map) 1 used) 2 rows }
+    ensures { map.new ≡ set (set map.old 1 used) 2 rows }
 {
     map[1] = basics::word_of(used);
     map[2] = basics::word_of(rows);
@@ -30,8 +32,8 @@ fn settle_all(
     spots: &mut [[f32; 2]],
     cells: &mut [[u64; 2]],
 )
-    requires { Holds (lent nums reals ints map pool spots cells) }
-    ensures { after nums reals ints map pool spots cells ≡ settled_tables (before nums reals ints map pool spots cells) }
+    requires { Holds (tables nums.old reals.old ints.old map.old pool.old spots.old cells.old) }
+    ensures { tables nums.new reals.new ints.new map.new pool.new spots.new cells.new ≡ settled_tables (tables nums.old reals.old ints.old map.old pool.old spots.old cells.old) }
 {
     let w = point_maintain_lists::sweep_lists(nums, reals, ints, map, pool, spots, cells);
     let k = point_maintain_slots::settle_slots(nums, reals, ints, map, pool, w);
@@ -50,7 +52,7 @@ pub fn maintain(
     spots: &mut [[f32; 2]],
     cells: &mut [[u64; 2]],
 ) -> Maintained
-    ensures { outcome result (after nums reals ints map pool spots cells) ≡ maintain_of (before nums reals ints map pool spots cells) }
+    ensures { outcome result (tables nums.new reals.new ints.new map.new pool.new spots.new cells.new) ≡ maintain_of (tables nums.old reals.old ints.old map.old pool.old spots.old cells.old) }
 {
     if !point_tables::check(nums, reals, ints, map, pool, spots, cells) {
         return Maintained {

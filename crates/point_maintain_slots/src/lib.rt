@@ -1,9 +1,11 @@
 // The pass of `maintain` over the slots: what is pending for each object is done to its record, and the rows of relocated objects are listed.
-ghost use Rattle.basics.specs.Words.{◌+◌, ◌≤◌, ◌<◌, ◌≡◌, [], ◌∷◌, length, set};
+#![tactic(auto)]
+
+ghost use Rattle.std.specs.Prelude.{◌+◌, ◌≤◌, ◌<◌, ◌≡◌, ◌∷◌};
+ghost use Rattle.basics.specs.Words.{[], length, set};
 ghost use Rattle.basics.specs.Meaning.Limits.{most_slots};
-ghost use Rattle.basics.specs.Meaning.Lent.{was, is};
 ghost use Rattle.cells.specs.Meaning.Key.{key_of};
-ghost use Rattle.point_maintain_slots.specs.Inner.Pass.{lent_records, records_before, records_after, Slotted, Ready, Room, Placed, turned, turned_rows, Put};
+ghost use Rattle.point_maintain_slots.specs.Inner.Pass.{Slotted, Ready, Room, Placed, turned, turned_rows, Put, record_tables};
 ghost use Rattle.point_maintain_slots.specs.Inner.Pass.{Passed};
 ghost use Rattle.point_maintain_slots.specs.Inner.Counts.{counts, columns, moved_in, removed_in, differs_in, one_moved, one_removed};
 
@@ -11,7 +13,7 @@ use cells::Cell;
 use slots::Row;
 
 // How many objects have moved, and how many were removed.
-#[derive(Drop)]
+#[derive(Clone, Copy)]
 pub struct Counts {
     pub moved: u32,
     pub removed: u32,
@@ -20,7 +22,7 @@ pub struct Counts {
 // The object of slot s stands at its pending position in cell c, and nothing is pending for it. By columns, since no record need be made.
 fn place(nums: &mut [Row], reals: &mut [[f32; 4]], ints: &mut [[i32; 4]], s: usize, c: Cell)
     requires { (s < length nums.old) × (s < length reals.old) × (s < length ints.old) }
-    ensures { Placed (was nums) (was reals) (was ints) s c (is nums) (is reals) (is ints) }
+    ensures { Placed nums.old reals.old ints.old s c nums.new reals.new ints.new }
 {
     let n = nums[s];
     let q = reals[s];
@@ -32,7 +34,7 @@ fn place(nums: &mut [Row], reals: &mut [[f32; 4]], ints: &mut [[i32; 4]], s: usi
 // The row of slot s under the key of cell c, at a place of the pool. Returns 1, the rows put.
 fn put_row(pool: &mut [[u64; 2]], at: usize, c: Cell, s: usize) -> usize
     requires { at < length pool.old }
-    ensures { (result ≡ 1) × (is pool ≡ set (was pool) at (key_of c ∷ s ∷ [])) }
+    ensures { (result ≡ 1) × (pool.new ≡ set pool.old at (key_of c ∷ s ∷ [])) }
 {
     let key = cells::key_of(c);
     let item = basics::word_of(s);
@@ -50,9 +52,9 @@ fn turn(
     at: usize,
     s: usize,
 ) -> usize
-    requires { Slotted (lent_records nums reals ints map) s × (at + length (turned_rows (lent_records nums reals ints map) s) ≤ length pool.old) }
-    ensures records { records_after nums reals ints map ≡ turned (records_before nums reals ints map) s }
-    ensures rows { Put (turned_rows (records_before nums reals ints map) s) at (was pool) (is pool) result }
+    requires { Slotted (record_tables nums.old reals.old ints.old map.old) s × (at + length (turned_rows (record_tables nums.old reals.old ints.old map.old) s) ≤ length pool.old) }
+    ensures records { record_tables nums.new reals.new ints.new map.new ≡ turned (record_tables nums.old reals.old ints.old map.old) s }
+    ensures rows { Put (turned_rows (record_tables nums.old reals.old ints.old map.old) s) at pool.old pool.new result }
 {
     let n = nums[s];
     if n[1] != slots::LIVE {
@@ -86,8 +88,8 @@ pub fn settle_slots(
     pool: &mut [[u64; 2]],
     w: usize,
 ) -> usize
-    requires { Ready (lent_records nums reals ints map) × Room (lent_records nums reals ints map) w pool.old }
-    ensures { Passed (records_before nums reals ints map) (records_after nums reals ints map) w (was pool) (is pool) result }
+    requires { Ready (record_tables nums.old reals.old ints.old map.old) × Room (record_tables nums.old reals.old ints.old map.old) w pool.old }
+    ensures { Passed (record_tables nums.old reals.old ints.old map.old) (record_tables nums.new reals.new ints.new map.new) w pool.old pool.new result }
 {
     let mut k = 0;
     let mut i = 0;
@@ -135,7 +137,7 @@ fn one_removed(phase: u32, tag: u32) -> u32
 // The two counts of `maintain`, from states and positions before it.
 pub fn count_moves(nums: &[Row], reals: &[[f32; 4]]) -> Counts
     requires { (length nums.now ≤ most_slots) × (length reals.now ≡ length nums.now) }
-    ensures { result ≡ counts (moved_in (columns (was nums) (was reals)) (length (was nums))) (removed_in (columns (was nums) (was reals)) (length (was nums))) }
+    ensures { result ≡ counts (moved_in (columns nums.now reals.now) (length nums.now)) (removed_in (columns nums.now reals.now) (length nums.now)) }
 {
     let mut moved: u32 = 0;
     let mut removed: u32 = 0;

@@ -1,9 +1,10 @@
 // The point that is nearest to a centre: `nearest`. It checks the tables first.
-ghost use Rattle.basics.specs.Words.{◌≡◌};
-ghost use Rattle.basics.specs.Meaning.Lent.{was};
-ghost use Rattle.point_tables.specs.Meaning.Lent.{before};
+#![tactic(auto)]
+
+ghost use Rattle.std.specs.Prelude.{◌≡◌};
 ghost use Rattle.point_nearest.specs.Meaning.Nearest.{nearest_reply, no_finding, nearest_of};
 ghost use Rattle.point_nearest.specs.Inner.Told.{told_of, Tellable, RingedBy};
+ghost use Rattle.point_tables.specs.Meaning.Tables.{tables};
 
 use geometry::{Position, corner_above, corner_below, position_in_domain, radius_in_domain};
 use point_rings::Best;
@@ -11,7 +12,7 @@ use replies::Nearest;
 use slots::{Handle, Row};
 
 // What is nearest, and how many rings of cells were looked at for it.
-#[derive(Drop)]
+#[derive(Clone, Copy)]
 pub struct Ringed {
     pub nearest: Nearest,
     pub rings: u32,
@@ -36,7 +37,7 @@ fn none(answer: u32) -> Nearest
 // What is reported of the best entry, if there is one.
 fn told(nums: &[Row], pool: &[[u64; 2]], spots: &[[f32; 2]], b: Best) -> Nearest
     requires { Tellable nums.now pool.now spots.now b }
-    ensures { result ≡ told_of (was nums) (was pool) (was spots) b }
+    ensures { result ≡ told_of nums.now pool.now spots.now b }
 {
     if b.count == 0 {
         return none(0);
@@ -67,7 +68,7 @@ pub fn nearest_by_rings(
     centre: Position,
     radius: f32,
 ) -> Ringed
-    ensures { RingedBy (before nums reals ints map pool spots cells) centre radius result }
+    ensures { RingedBy (tables nums.now reals.now ints.now map.now pool.now spots.now cells.now) centre radius result }
 {
     let ok = position_in_domain(centre) & radius_in_domain(radius);
     let ll = corner_below(centre, radius);
@@ -102,7 +103,7 @@ pub fn nearest(
     centre: Position,
     radius: f32,
 ) -> Nearest
-    ensures { result ≡ nearest_of (before nums reals ints map pool spots cells) centre radius }
+    ensures { result ≡ nearest_of (tables nums.now reals.now ints.now map.now pool.now spots.now cells.now) centre radius }
 {
     let r = nearest_by_rings(nums, reals, ints, map, pool, spots, cells, centre, radius);
     r.nearest

@@ -1,8 +1,10 @@
 // The pass over the pool and the cell table, list by list: each entry is that of an object of the list's cell, whose record holds, no object stands
 // twice, and each list has its row.
-ghost use Rattle.basics.specs.Words.{◌≤◌, ◌<◌, ◌≡◌, true, false, length, get_or, replicate};
+#![tactic(auto)]
+
+ghost use Rattle.std.specs.Prelude.{◌≤◌, ◌<◌, ◌≡◌};
+ghost use Rattle.basics.specs.Words.{true, false, length, get_or, replicate};
 ghost use Rattle.basics.specs.Meaning.Limits.{most_slots};
-ghost use Rattle.basics.specs.Meaning.Lent.{was, is};
 ghost use Rattle.basics.specs.Meaning.Says.{Says};
 ghost use Rattle.cells.specs.Meaning.Size.{SizeInDomain};
 ghost use Rattle.cells.specs.Inner.Key.{cell_of_key};
@@ -30,8 +32,8 @@ fn entry_ok(
     ends: &mut [[f32; 2]; 128],
 ) -> bool
     requires { (length reals.now ≡ length nums.now) × (length ints.now ≡ length nums.now) × SizeInDomain size × Spans size c.x x.lo x.hi × Spans size c.y y.lo y.hi × Kept size known.old ends.old }
-    ensures says { Says result (Right (was nums) (was reals) (was ints) size c mark e) }
-    ensures kept { Kept size (is known) (is ends) }
+    ensures says { Says result (Right nums.now reals.now ints.now size c mark e) }
+    ensures kept { Kept size known.new ends.new }
 {
     let s = e.slot;
     if nums.len() <= s {
@@ -89,9 +91,9 @@ fn run_end(
 ) -> usize
     requires cell { (c ≡ cell_of_key key) × Spans size c.y y.lo y.hi × Kept size known.old ends.old }
     requires nums_len_bound { (length nums.now ≤ most_slots) × (length reals.now ≡ length nums.now) × (length ints.now ≡ length nums.now) × (used ≤ length pool.now) × (used ≤ length spots.now) × SizeInDomain size × (from ≤ used) × Named pool.now marks.old from × (length marks.old ≡ most_slots) }
-    ensures run { Run (was nums) (was reals) (was ints) (was pool) (was spots) size used key mark from result }
-    ensures named { Named (was pool) (is marks) result × (length (is marks) ≡ most_slots) }
-    ensures kept { Kept size (is known) (is ends) }
+    ensures run { Run nums.now reals.now ints.now pool.now spots.now size used key mark from result }
+    ensures named { Named pool.now marks.new result × (length marks.new ≡ most_slots) }
+    ensures kept { Kept size known.new ends.new }
 {
     let x = point_records::span_at(size, cells::column_of(key), known, ends);
     let mut j = from;
@@ -140,8 +142,8 @@ pub fn pool_ok(
     marks: &mut [bool; basics::MOST_SLOTS],
 ) -> bool
     requires { Room nums.now reals.now ints.now pool.now spots.now cells.now size used rows × (marks.old ≡ replicate most_slots false) }
-    ensures says { Says result (Passes (was nums) (was reals) (was ints) (was pool) (was spots) (was cells) size used rows) }
-    ensures named { result ≡ true → Named (was pool) (is marks) used }
+    ensures says { Says result (Passes nums.now reals.now ints.now pool.now spots.now cells.now size used rows) }
+    ensures named { result ≡ true → Named pool.now marks.new used }
 {
     let mut last = 0;
     let mut y_lo = 1.0;

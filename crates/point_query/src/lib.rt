@@ -1,6 +1,10 @@
 // The queries of a point grid: `query`, `query_around`, `query_aabb`. Each is a `search`, which checks the tables first.
+#![tactic(auto)]
+
 ghost use Rattle.point_search.specs.Meaning.Lent.{Finds};
 ghost use Rattle.point_query.specs.Meaning.Queries.{query_of, around_of, aabb_of};
+ghost use Rattle.point_search.specs.Meaning.Searches.{outputs};
+ghost use Rattle.point_tables.specs.Meaning.Tables.{tables};
 
 use geometry::{
     Position, corner_above, corner_below, lower_corner, position_in_domain, radius_in_domain,
@@ -25,7 +29,7 @@ pub fn query(
     places: &mut [[f32; 2]],
     objs: &mut [[u32; 2]],
 ) -> Count
-    ensures { Finds (λ t. query_of t ll ur) result found places objs nums reals ints map pool spots cells }
+    ensures { Finds (λ t. query_of t ll ur) result (tables nums.now reals.now ints.now map.now pool.now spots.now cells.now) (outputs found.old places.old objs.old) (outputs found.new places.new objs.new) }
 {
     let ok = position_in_domain(ll) & position_in_domain(ur);
     search(
@@ -61,7 +65,7 @@ pub fn query_around(
     places: &mut [[f32; 2]],
     objs: &mut [[u32; 2]],
 ) -> Count
-    ensures { Finds (λ t. around_of t centre radius) result found places objs nums reals ints map pool spots cells }
+    ensures { Finds (λ t. around_of t centre radius) result (tables nums.now reals.now ints.now map.now pool.now spots.now cells.now) (outputs found.old places.old objs.old) (outputs found.new places.new objs.new) }
 {
     let ok = position_in_domain(centre) & radius_in_domain(radius);
     let ll = corner_below(centre, radius);
@@ -99,7 +103,7 @@ pub fn query_aabb(
     places: &mut [[f32; 2]],
     objs: &mut [[u32; 2]],
 ) -> Count
-    ensures { Finds (λ t. aabb_of t a b) result found places objs nums reals ints map pool spots cells }
+    ensures { Finds (λ t. aabb_of t a b) result (tables nums.now reals.now ints.now map.now pool.now spots.now cells.now) (outputs found.old places.old objs.old) (outputs found.new places.new objs.new) }
 {
     let ok = position_in_domain(a) & position_in_domain(b);
     let ll = lower_corner(a, b);

@@ -18,7 +18,7 @@ use Rattle.point_records.specs.Meaning.Occupied.{InDomain}
 
 -- a signed number that was read is what it was
 pub back : {z : ℤ} → mag z < 2 ^ hbits w32 → to_z w32 (of_z w32 z) ≡ z
-back p = to_z-of_z (sfits_of p)
+back p = to_z-of_z {w = w32} (sfits_of p)
 
 -- ---- a position by the spans of a cell
 module _ (size : ℕ) (c : Cell) (p : Position) where

@@ -1,6 +1,6 @@
 // The entries of the lists, and the columns that they stand in: a row of pool has the key of the cell and the slot, a row of spots the position.
-ghost use Rattle.basics.specs.Words.{◌<◌, ◌≡◌, length};
-ghost use Rattle.basics.specs.Meaning.Lent.{was};
+ghost use Rattle.std.specs.Prelude.{◌<◌, ◌≡◌};
+ghost use Rattle.basics.specs.Words.{length};
 ghost use Rattle.point_records.specs.Inner.Listed.{spot_at, listed_at, entry_row, entry_spot};
 
 use crate::Entry;
@@ -9,7 +9,7 @@ use geometry::Position;
 // The position of the entry at place j: a test of it need not read the slot.
 pub fn spot_at(spots: &[[f32; 2]], j: usize) -> Position
     requires { j < length spots.now }
-    ensures { result ≡ spot_at (was spots) j }
+    ensures { result ≡ spot_at spots.now j }
 {
     let spot = spots[j];
     Position {
@@ -20,7 +20,7 @@ pub fn spot_at(spots: &[[f32; 2]], j: usize) -> Position
 
 pub fn entry_at(pool: &[[u64; 2]], spots: &[[f32; 2]], j: usize) -> Entry
     requires { (j < length pool.now) × (j < length spots.now) }
-    ensures { result ≡ listed_at (was pool) (was spots) j }
+    ensures { result ≡ listed_at pool.now spots.now j }
 {
     let row = pool[j];
     let slot = basics::index_of(row[1]);

@@ -1,6 +1,8 @@
 // The object records of the point grid, and the columns that they stand in. The Rust's StoreObject and ObjectState.
-ghost use Rattle.basics.specs.Words.{◌<◌, ◌≡◌, [], length, set};
-ghost use Rattle.basics.specs.Meaning.Lent.{was, is};
+#![tactic(auto)]
+
+ghost use Rattle.std.specs.Prelude.{◌<◌, ◌≡◌};
+ghost use Rattle.basics.specs.Words.{[], length, set};
 ghost use Rattle.basics.specs.Meaning.Says.{Says};
 ghost use Rattle.cells.specs.Meaning.Size.{SizeInDomain};
 ghost use Rattle.cells.specs.Meaning.CellRule.{cell_at};
@@ -23,7 +25,7 @@ pub use spans::span_at;
 pub use trackers::{LAST_TRACKER, own_refusal, parts_in, tag_in, tracker_in, tracker_of, with_tag};
 
 // What maintain has still to do to an object.
-#[derive(Drop)]
+#[derive(Clone, Copy)]
 pub enum State {
     Unchanged,
     NewPos(Position),
@@ -32,7 +34,7 @@ pub enum State {
 }
 
 // A table of records is lent by the caller, with whatever it holds: so a record has one of eight, and no number that could be above 7.
-#[derive(Drop)]
+#[derive(Clone, Copy)]
 pub enum Tracker {
     T0,
     T1,
@@ -45,7 +47,7 @@ pub enum Tracker {
 }
 
 // What the fourth number of a slot's row says, and whether it may be that of an occupied slot.
-#[derive(Drop)]
+#[derive(Clone, Copy)]
 pub struct Parts {
     pub fits: bool,
     pub tracker: u32,
@@ -53,7 +55,7 @@ pub struct Parts {
 }
 
 // A slot's record: version and phase (0 free, 1 live, 2 retired), the object's data, where it is recorded, its state, and its tracker.
-#[derive(Drop)]
+#[derive(Clone, Copy)]
 pub struct Record {
     pub version: u32,
     pub phase: u32,
@@ -65,7 +67,7 @@ pub struct Record {
 }
 
 // An entry of a cell's list: the object's slot and its recorded position.
-#[derive(Drop)]
+#[derive(Clone, Copy)]
 pub struct Entry {
     pub slot: usize,
     pub position: Position,
@@ -121,7 +123,7 @@ pub fn target_of(s: State, c: Cell) -> Cell
 
 pub fn load(nums: &[Row], reals: &[[f32; 4]], ints: &[[i32; 4]], i: usize) -> Record
     requires { (i < length nums.now) × (i < length reals.now) × (i < length ints.now) }
-    ensures { result ≡ record_at (was nums) (was reals) (was ints) i }
+    ensures { result ≡ record_at nums.now reals.now ints.now i }
 {
     let n = nums[i];
     let q = reals[i];
@@ -156,7 +158,7 @@ pub fn nums_of(r: Record) -> Row
 
 pub fn store(nums: &mut [Row], reals: &mut [[f32; 4]], ints: &mut [[i32; 4]], i: usize, r: Record)
     requires { (i < length nums.old) × (i < length reals.old) × (i < length ints.old) }
-    ensures { (is nums ≡ set (was nums) i (nums_of r)) × (is reals ≡ set (was reals) i (reals_of r)) × (is ints ≡ set (was ints) i (ints_of r)) }
+    ensures { (nums.new ≡ set nums.old i (nums_of r)) × (reals.new ≡ set reals.old i (reals_of r)) × (ints.new ≡ set ints.old i (ints_of r)) }
 {
     let p = r.position;
     let c = r.cell;
@@ -187,7 +189,7 @@ fn relocated(
 ) -> bool
     requires { SizeInDomain size × Kept size known.old ends.old }
     ensures says { Says result (InDomain p × (cell_at size p ≡ to) × (to ≡ c → ⊥)) }
-    ensures kept { Kept size (is known) (is ends) }
+    ensures kept { Kept size known.new ends.new }
 {
     if cells::same_cell(to, c) {
         return false;
@@ -222,7 +224,7 @@ fn agrees(
 ) -> bool
     requires { SizeInDomain size × Spans size c.x x.lo x.hi × Spans size c.y y.lo y.hi × (tag ≡ 0 → ⊥) × Kept size known.old ends.old }
     ensures says { Says result (Agrees size c (state_of tag p to)) }
-    ensures kept { Kept size (is known) (is ends) }
+    ensures kept { Kept size known.new ends.new }
 {
     if tag == 1 {
         return inside(size, c, x, y, p);
@@ -246,7 +248,7 @@ pub fn pending_ok(
 ) -> bool
     requires { SizeInDomain size × Spans size (record_of [] q z).cell.x x.lo x.hi × Spans size (record_of [] q z).cell.y y.lo y.hi × (tag ≡ 0 → ⊥) × Kept size known.old ends.old }
     ensures says { Says result (Agrees size (record_of [] q z).cell (pending_in tag q z)) }
-    ensures kept { Kept size (is known) (is ends) }
+    ensures kept { Kept size known.new ends.new }
 {
     agrees(
         size,

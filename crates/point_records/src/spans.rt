@@ -1,5 +1,4 @@
 // The spans of cells, worked out once: the span of a number is kept at the place of the number's remainder, with the number.
-ghost use Rattle.basics.specs.Meaning.Lent.{is};
 ghost use Rattle.cells.specs.Meaning.Size.{SizeInDomain};
 ghost use Rattle.cells.specs.Inner.Key.{cell_of_key};
 ghost use Rattle.cells.specs.Inner.Span.{Spans};
@@ -11,7 +10,7 @@ use cells::Span;
 pub fn span_at(size: u64, n: u64, known: &mut [u64; 128], ends: &mut [[f32; 2]; 128]) -> Span
     requires { SizeInDomain size × Kept size known.old ends.old }
     ensures spans { Spans size (cell_of_key n).x result.lo result.hi }
-    ensures kept { Kept size (is known) (is ends) }
+    ensures kept { Kept size known.new ends.new }
 {
     let i = basics::index_of(n % 128);
     if known[i] == n {

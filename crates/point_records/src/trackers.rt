@@ -1,6 +1,5 @@
 // The tracker of an object, and the number of a slot's row that has it beside the tag of the state.
-ghost use Rattle.basics.specs.Words.{◌≤◌, ◌≡◌};
-ghost use Rattle.basics.specs.Meaning.Lent.{was};
+ghost use Rattle.std.specs.Prelude.{◌≤◌, ◌≡◌};
 ghost use Rattle.basics.specs.Meaning.Refusals.{first_of};
 ghost use Rattle.point_records.specs.Meaning.Word.{word_of, parts_of, word_in, tag_in, tracker_in};
 ghost use Rattle.point_records.specs.Meaning.Trackers.{last_tracker, tracker_number, tracker_of, own_tests};
@@ -97,7 +96,7 @@ pub fn with_tag(n: Row, tag: u32) -> Row
 
 // Why a call that names this tracker may not move or remove the object of a handle; 0 if it may.
 pub fn own_refusal(nums: &[Row], h: Handle, tracker: u32) -> u32
-    ensures { result ≡ first_of (own_tests (was nums) h tracker) }
+    ensures { result ≡ first_of (own_tests nums.now h tracker) }
 {
     if tracker > LAST_TRACKER {
         return 13;

@@ -1,5 +1,6 @@
 -- What the steps of the code are asked for and give. Assumes nothing.
-use Rattle.basics.specs.Words.{ℕ, ◌<◌, ◌≡◌, Bool, List, length, take}
+use Rattle.std.specs.Prelude.{◌<◌, ◌≡◌}
+use Rattle.basics.specs.Words.{ℕ, Bool, List, length, take}
 use Rattle.basics.specs.Meaning.Refusals.{pick}
 use Rattle.storage.specs.Meaning.Keyed.{under, written}
 use Rattle.storage.specs.Meaning.Entries.{row_key}

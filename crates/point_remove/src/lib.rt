@@ -1,14 +1,15 @@
 // `remove_maintain`: the object, which is this tracker's, is taken out now, whatever its state. The last entry of its list moves into the gap.
-ghost use Rattle.basics.specs.Words.{◌+◌, ◌/◌, ◌≤◌, ◌<◌, ◌≡◌, ◌∷◌, length, take};
-ghost use Rattle.basics.specs.Meaning.Lent.{was, is};
+#![tactic(auto)]
+
+ghost use Rattle.std.specs.Prelude.{◌+◌, ◌/◌, ◌≤◌, ◌<◌, ◌≡◌, ◌∷◌};
+ghost use Rattle.basics.specs.Words.{length, take};
 ghost use Rattle.basics.specs.Meaning.Refusals.{unless, first_of};
 ghost use Rattle.slots.specs.Meaning.Slot.{emptied_nums, emptied_map};
 ghost use Rattle.storage.specs.Inner.Keyed.{Sorted};
 ghost use Rattle.storage.specs.Meaning.Entries.{row_key};
 ghost use Rattle.storage.specs.Inner.Tables.{Rising};
 ghost use Rattle.point_records.specs.Meaning.Trackers.{own_tests};
-ghost use Rattle.point_tables.specs.Meaning.Lent.{lent, before, after};
-ghost use Rattle.point_tables.specs.Meaning.Tables.{counting};
+ghost use Rattle.point_tables.specs.Meaning.Tables.{counting, tables};
 ghost use Rattle.point_tables.specs.Meaning.Outcome.{outcome};
 ghost use Rattle.point_remove.specs.Meaning.RemoveMaintain.{remove_maintain_of};
 ghost use Rattle.point_remove.specs.Inner.{Object, taken_from, rows_left, RowsInUse};
@@ -18,7 +19,7 @@ use slots::{Handle, Row};
 
 // The answer: the first refusal that applies, or 0. The object's state is not looked at.
 fn answer(nums: &[Row], held: bool, h: Handle, tracker: u32) -> u32
-    ensures { result ≡ first_of (unless held 3 ∷ own_tests (was nums) h tracker) }
+    ensures { result ≡ first_of (unless held 3 ∷ own_tests nums.now h tracker) }
 {
     if !held {
         return 3;
@@ -36,7 +37,7 @@ fn drop_empty(
 ) -> usize
     requires cells { (rows ≤ length cells.old) × Rising row_key (take rows cells.old) }
     requires pool { (used ≤ length pool.now) × Sorted row_key (take used pool.now) }
-    ensures { RowsInUse (rows_left (was pool) used key (was cells) rows) (was cells) (is cells) result }
+    ensures { RowsInUse (rows_left pool.now used key cells.old rows) cells.old cells.new result }
 {
     if storage::has_key(pool, used, key) {
         return rows;
@@ -47,8 +48,8 @@ fn drop_empty(
 // Slot s is emptied, and the head words of the map have the counts.
 fn empty(nums: &mut [Row], map: &mut [u64], s: usize, used: usize, rows: usize)
     requires { (s < length nums.old) × (3 + s / 64 < length map.old) }
-    ensures nums { is nums ≡ emptied_nums (was nums) s }
-    ensures map { is map ≡ counting (emptied_map (was nums) (was map) s) used rows }
+    ensures nums { nums.new ≡ emptied_nums nums.old s }
+    ensures map { map.new ≡ counting (emptied_map nums.old map.old s) used rows }
 {
     slots::empty(nums, map, s);
     map[1] = basics::word_of(used);
@@ -66,8 +67,8 @@ fn take_out(
     cells: &mut [[u64; 2]],
     s: usize,
 ) -> u32
-    requires { Object (lent nums reals ints map pool spots cells) s }
-    ensures { outcome result (after nums reals ints map pool spots cells) ≡ taken_from (before nums reals ints map pool spots cells) s }
+    requires { Object (tables nums.old reals.now ints.now map.old pool.old spots.old cells.old) s }
+    ensures { outcome result (tables nums.new reals.now ints.now map.new pool.new spots.new cells.new) ≡ taken_from (tables nums.old reals.now ints.now map.old pool.old spots.old cells.old) s }
 {
     let r = point_records::load(nums, reals, ints, s);
     let key = point_records::key_of(r);
@@ -91,7 +92,7 @@ pub fn remove_maintain(
     h: Handle,
     tracker: u32,
 ) -> Reply
-    ensures { outcome result (after nums reals ints map pool spots cells) ≡ remove_maintain_of (before nums reals ints map pool spots cells) h tracker }
+    ensures { outcome result (tables nums.new reals.now ints.now map.new pool.new spots.new cells.new) ≡ remove_maintain_of (tables nums.old reals.now ints.now map.old pool.old spots.old cells.old) h tracker }
 {
     let held = point_tables::check(nums, reals, ints, map, pool, spots, cells);
     let a = answer(nums, held, h, tracker);

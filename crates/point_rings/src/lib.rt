@@ -1,6 +1,7 @@
 // The nearest of the entries, looked for ring by ring from the centre's cell outward.
-ghost use Rattle.basics.specs.Words.{◌+◌, ◌<◌, ◌≤◌, ◌≡◌};
-ghost use Rattle.basics.specs.Meaning.Lent.{was};
+#![tactic(auto)]
+
+ghost use Rattle.std.specs.Prelude.{◌+◌, ◌<◌, ◌≤◌, ◌≡◌};
 ghost use Rattle.geometry.specs.Meaning.Circle.{corner_below, corner_above};
 ghost use Rattle.cells.specs.Meaning.CellRule.{cell_at};
 ghost use Rattle.point_search.specs.Inner.Fill.{Stocked};
@@ -17,7 +18,7 @@ use rings::{last_ring, stops};
 
 // The best entry so far: its place in the pool, its slot and its squared distance. With none the count and the slot are 0, and the distance is the square
 // of the radius: an entry is better than none exactly if the circle has it.
-#[derive(Drop)]
+#[derive(Clone, Copy)]
 pub struct Best {
     pub count: u32,
     pub place: usize,
@@ -26,7 +27,7 @@ pub struct Best {
 }
 
 // The best of all entries, and how many rings were looked at for it.
-#[derive(Drop)]
+#[derive(Clone, Copy)]
 pub struct Walked {
     pub best: Best,
     pub rings: u32,
@@ -67,7 +68,7 @@ fn look_cells(
     best: Best,
 ) -> Best
     requires { Stocked pool.now spots.now used × (x0 < 4294967296) × (y0 < 4294967296) × (x1 < 4294967296) × (y1 < 4294967296) }
-    ensures { result ≡ looked centre (was pool) (was spots) (window_places (key_at x0 y0) (key_at x1 y1) (was pool) used) best }
+    ensures { result ≡ looked centre pool.now spots.now (window_places (key_at x0 y0) (key_at x1 y1) pool.now used) best }
 {
     let low = key_at(x0, y0);
     let high = key_at(x1, y1);
@@ -86,7 +87,7 @@ fn look_ring(
     best: Best,
 ) -> Best
     requires { Stocked pool.now spots.now used × (1 ≤ d) × (d ≤ x) × (d ≤ y) × (x + d < 4294967296) × (y + d < 4294967296) }
-    ensures { result ≡ looked centre (was pool) (was spots) (ring_places x y d (was pool) used) best }
+    ensures { result ≡ looked centre pool.now spots.now (ring_places x y d pool.now used) best }
 {
     let left = x - d;
     let right = x + d;
@@ -125,7 +126,7 @@ fn rest(
 ) -> Best
     requires walkable { Walkable size centre radius pool.now spots.now used × (a ≡ cell_at size (corner_below centre radius)) × (b ≡ cell_at size (corner_above centre radius)) }
     requires mid_value { (mid ≡ cell_at size centre) × (last ≡ last_ring mid a b) × (best ≡ best_of centre radius pool.now spots.now used (within mid pool.now most_rings)) }
-    ensures { result ≡ best_of centre radius (was pool) (was spots) used every }
+    ensures { result ≡ best_of centre radius pool.now spots.now used every }
 {
     if stops(size, mid, centre, last, MOST_RINGS, best) {
         return best;
@@ -145,7 +146,7 @@ pub fn walk(
     radius: f32,
 ) -> Walked
     requires { Walkable size centre radius pool.now spots.now used × (a ≡ cell_at size (corner_below centre radius)) × (b ≡ cell_at size (corner_above centre radius)) }
-    ensures { Walks size centre radius (was pool) (was spots) used result }
+    ensures { Walks size centre radius pool.now spots.now used result }
 {
     let mid = cells::cell_at(size, centre);
     let x = up_from_least(mid.x);

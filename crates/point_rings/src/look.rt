@@ -1,6 +1,6 @@
 // The best of the entries that are looked at.
-ghost use Rattle.basics.specs.Words.{◌-◌, ◌≤◌, ◌<◌, ◌≡◌, length};
-ghost use Rattle.basics.specs.Meaning.Lent.{was};
+ghost use Rattle.std.specs.Prelude.{◌-◌, ◌≤◌, ◌<◌, ◌≡◌};
+ghost use Rattle.basics.specs.Words.{length};
 ghost use Rattle.point_search.specs.Inner.Places.{places_in};
 ghost use Rattle.point_search.specs.Inner.Fill.{Stocked};
 ghost use Rattle.point_rings.specs.Inner.Look;
@@ -18,7 +18,7 @@ fn closer(d: f32, s: usize, b: Best) -> bool
 // The better of the best so far and the entry at place j.
 fn better(pool: &[[u64; 2]], spots: &[[f32; 2]], centre: Position, b: Best, j: usize) -> Best
     requires { (j < length pool.now) × (j < length spots.now) }
-    ensures { result ≡ Look.better centre (was pool) (was spots) b j }
+    ensures { result ≡ Look.better centre pool.now spots.now b j }
 {
     let e = point_records::entry_at(pool, spots, j);
     let p = e.position;
@@ -44,7 +44,7 @@ pub fn look_run(
     best: Best,
 ) -> Best
     requires { (from ≤ to) × (to ≤ length pool.now) × (to ≤ length spots.now) }
-    ensures { result ≡ looked centre (was pool) (was spots) (places_in every from (to - from)) best }
+    ensures { result ≡ looked centre pool.now spots.now (places_in every from (to - from)) best }
 {
     let mut b = best;
     let mut j = from;
@@ -66,7 +66,7 @@ pub fn look_window(
     best: Best,
 ) -> Best
     requires { Stocked pool.now spots.now used }
-    ensures { result ≡ looked centre (was pool) (was spots) (window_places low high (was pool) used) best }
+    ensures { result ≡ looked centre pool.now spots.now (window_places low high pool.now used) best }
 {
     let mut b = best;
     let mut i = 0;

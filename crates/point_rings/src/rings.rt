@@ -1,5 +1,6 @@
 // The rings of cells round the cell of a centre: how near their points can be, and whether to look at the next.
-ghost use Rattle.basics.specs.Words.{◌≤◌, ◌*◌, max, ◌≡◌, T};
+ghost use Rattle.std.specs.Prelude.{◌≤◌, ◌*◌, ◌≡◌};
+ghost use Rattle.basics.specs.Words.{max, T};
 ghost use Rattle.std.specs.Int.Signed.{mag};
 ghost use Rattle.geometry.specs.Meaning.Domain.{position_in_domain};
 ghost use Rattle.cells.specs.Meaning.Size.{SizeInDomain};

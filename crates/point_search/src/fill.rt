@@ -1,10 +1,9 @@
 // Writing what a search found into the outputs.
-ghost use Rattle.basics.specs.Words.{◌≤◌, ◌<◌, min, ◌≡◌, length, set, take};
+ghost use Rattle.std.specs.Prelude.{◌≤◌, ◌<◌, ◌≡◌};
+ghost use Rattle.basics.specs.Words.{min, length, set, take};
 ghost use Rattle.basics.specs.Meaning.Limits.{most_slots};
-ghost use Rattle.basics.specs.Meaning.Lent.{was, is};
 ghost use Rattle.storage.specs.Meaning.Keyed.{written};
-ghost use Rattle.point_search.specs.Meaning.Searches.{handle_row, place_row, obj_row, findings};
-ghost use Rattle.point_search.specs.Meaning.Lent.{lent_outputs, outputs_before, outputs_after};
+ghost use Rattle.point_search.specs.Meaning.Searches.{handle_row, place_row, obj_row, findings, outputs};
 ghost use Rattle.point_search.specs.Inner.Fill.{finding_of, filled};
 ghost use Rattle.point_search.specs.Inner.Asked.{Searchable, search_fills, BegunBy, Reportable, Reported, RoomFor, SearchReported};
 ghost use Rattle.point_search.specs.Inner.Asked.{StretchReportable, StretchReported};
@@ -19,7 +18,7 @@ use slots::{Handle, Row};
 // What is reported of an entry: the handle of its slot, its position, and the data and the tracker that stand in the slot's row.
 pub fn finding_of(nums: &[Row], e: Entry) -> Finding
     requires { (e.slot < length nums.now) × (length nums.now ≤ most_slots) }
-    ensures { result ≡ finding_of (was nums) e }
+    ensures { result ≡ finding_of nums.now e }
 {
     let s = e.slot;
     let n = nums[s];
@@ -51,9 +50,9 @@ fn put_finding(
     f: Finding,
 )
     requires { (k < length handles.old) × (k < length places.old) × (k < length objs.old) }
-    ensures handles { is handles ≡ set (was handles) k (handle_row f) }
-    ensures places { is places ≡ set (was places) k (place_row f) }
-    ensures objs { is objs ≡ set (was objs) k (obj_row f) }
+    ensures handles { handles.new ≡ set handles.old k (handle_row f) }
+    ensures places { places.new ≡ set places.old k (place_row f) }
+    ensures objs { objs.new ≡ set objs.old k (obj_row f) }
 {
     let h = f.handle;
     let p = f.position;
@@ -73,8 +72,8 @@ fn put_findings(
     places: &mut [[f32; 2]],
     objs: &mut [[u32; 2]],
 )
-    requires { Reportable nums.now pool.now spots.now found.now r × RoomFor r (lent_outputs handles places objs) }
-    ensures { Reported (was nums) (was pool) (was spots) (take r (was found)) (outputs_before handles places objs) (outputs_after handles places objs) }
+    requires { Reportable nums.now pool.now spots.now found.now r × RoomFor r (outputs handles.old places.old objs.old) }
+    ensures { Reported nums.now pool.now spots.now (take r found.now) (outputs handles.old places.old objs.old) (outputs handles.new places.new objs.new) }
 {
     let mut k = 0;
     while k < r {
@@ -98,7 +97,7 @@ fn report(
     objs: &mut [[u32; 2]],
 ) -> Count
     requires { Reportable nums.now pool.now spots.now found.now r × (r ≤ most_slots) }
-    ensures { findings result (outputs_after handles places objs) ≡ filled (was nums) (was pool) (was spots) (take r (was found)) (outputs_before handles places objs) }
+    ensures { findings result (outputs handles.new places.new objs.new) ≡ filled nums.now pool.now spots.now (take r found.now) (outputs handles.old places.old objs.old) }
 {
     let number = r as u32;
     if room(handles.len(), places.len(), objs.len()) < r {
@@ -117,7 +116,7 @@ fn report(
 // The first n places of the small array go to the large one, so that none is looked for twice.
 fn copy(few: &[u32], n: usize, all: &mut [u32])
     requires { (n ≤ length few.now) × (n ≤ length all.old) × (length all.old ≤ most_slots) }
-    ensures { (is all ≡ written (take n (was few)) (was all)) × (length (is all) ≡ length (was all)) }
+    ensures { (all.new ≡ written (take n few.now) all.old) × (length all.new ≡ length all.old) }
 {
     let mut k = 0;
     while k < n {
@@ -142,7 +141,7 @@ fn fill_many(
     objs: &mut [[u32; 2]],
 ) -> Count
     requires { Searchable a b nums.now pool.now spots.now used × (part.place ≤ used) × BegunBy a b test pool.now spots.now part few.now }
-    ensures { findings result (outputs_after handles places objs) ≡ search_fills a b test (was nums) (was pool) (was spots) used (outputs_before handles places objs) }
+    ensures { findings result (outputs handles.new places.new objs.new) ≡ search_fills a b test nums.now pool.now spots.now used (outputs handles.old places.old objs.old) }
 {
     let mut all: [u32; basics::MOST_SLOTS] = [0; basics::MOST_SLOTS];
     copy(few, part.number, &mut all);
@@ -164,7 +163,7 @@ fn fill_few(
     objs: &mut [[u32; 2]],
 ) -> Count
     requires { Searchable a b nums.now pool.now spots.now used }
-    ensures { findings result (outputs_after handles places objs) ≡ search_fills a b test (was nums) (was pool) (was spots) used (outputs_before handles places objs) }
+    ensures { findings result (outputs handles.new places.new objs.new) ≡ search_fills a b test nums.now pool.now spots.now used (outputs handles.old places.old objs.old) }
 {
     let mut few: [u32; 256] = [0; 256];
     let start = Part {
@@ -193,8 +192,8 @@ fn put_run(
     places: &mut [[f32; 2]],
     objs: &mut [[u32; 2]],
 ) -> usize
-    requires { StretchReportable nums.now pool.now spots.now from to n (lent_outputs handles places objs) }
-    ensures { StretchReported test (was nums) (was pool) (was spots) from to n (outputs_before handles places objs) result (outputs_after handles places objs) }
+    requires { StretchReportable nums.now pool.now spots.now from to n (outputs handles.old places.old objs.old) }
+    ensures { StretchReported test nums.now pool.now spots.now from to n (outputs handles.old places.old objs.old) result (outputs handles.new places.new objs.new) }
 {
     let mut k = n;
     let mut j = from;
@@ -224,8 +223,8 @@ fn put_range(
     places: &mut [[f32; 2]],
     objs: &mut [[u32; 2]],
 ) -> usize
-    requires { Searchable a b nums.now pool.now spots.now used × RoomFor used (lent_outputs handles places objs) }
-    ensures { SearchReported a b test (was nums) (was pool) (was spots) used (outputs_before handles places objs) result (outputs_after handles places objs) }
+    requires { Searchable a b nums.now pool.now spots.now used × RoomFor used (outputs handles.old places.old objs.old) }
+    ensures { SearchReported a b test nums.now pool.now spots.now used (outputs handles.old places.old objs.old) result (outputs handles.new places.new objs.new) }
 {
     let low = cells::key_of(a);
     let high = cells::key_of(b);
@@ -255,7 +254,7 @@ pub fn fill(
     objs: &mut [[u32; 2]],
 ) -> Count
     requires { Searchable a b nums.now pool.now spots.now used }
-    ensures { findings result (outputs_after handles places objs) ≡ search_fills a b test (was nums) (was pool) (was spots) used (outputs_before handles places objs) }
+    ensures { findings result (outputs handles.new places.new objs.new) ≡ search_fills a b test nums.now pool.now spots.now used (outputs handles.old places.old objs.old) }
 {
     if room(handles.len(), places.len(), objs.len()) < used {
         return fill_few(nums, pool, spots, used, a, b, test, handles, places, objs);

@@ -1,7 +1,7 @@
 // Collecting the places of the entries that a search is for.
-ghost use Rattle.basics.specs.Words.{◌+◌, ◌-◌, ◌≤◌, min, ◌≡◌, length};
+ghost use Rattle.std.specs.Prelude.{◌+◌, ◌-◌, ◌≤◌, ◌≡◌};
+ghost use Rattle.basics.specs.Words.{min, length};
 ghost use Rattle.basics.specs.Meaning.Limits.{most_slots};
-ghost use Rattle.basics.specs.Meaning.Lent.{was, is};
 ghost use Rattle.point_search.specs.Meaning.Searches;
 ghost use Rattle.point_search.specs.Inner.Places.{spot_passes};
 ghost use Rattle.point_search.specs.Inner.Begun.{Gathered};
@@ -31,7 +31,7 @@ fn gather_run(
     places: &mut [u32],
 ) -> usize
     requires { (from ≤ to) × (to ≤ length spots.now) × (to ≤ most_slots) × (n + (to - from) ≤ length places.old) × (length places.old ≤ most_slots) }
-    ensures { StretchGathered test (was spots) from to n (was places) result (is places) }
+    ensures { StretchGathered test spots.now from to n places.old result places.new }
 {
     let mut k = n;
     let mut j = from;
@@ -65,7 +65,7 @@ fn gather_part(
     places: &mut [u32],
 ) -> Part
     requires { (from ≤ to) × (to ≤ length spots.now) × (to ≤ most_slots) × (n ≤ length places.old) × (length places.old ≤ most_slots) }
-    ensures { Gathered (spot_passes test (was spots)) from to n (was places) result.number result.place (is places) }
+    ensures { Gathered (spot_passes test spots.now) from to n places.old result.number result.place places.new }
 {
     let mut k = n;
     let mut j = from;
@@ -99,7 +99,7 @@ pub fn gather(
     places: &mut [u32],
 ) -> Part
     requires { Gatherable a b test pool.now spots.now used start places.old }
-    ensures { BegunBy a b test (was pool) (was spots) result (is places) × (result.place ≤ used) × (used ≤ length (was places) → result.place ≡ used) }
+    ensures { BegunBy a b test pool.now spots.now result places.new × (result.place ≤ used) × (used ≤ length places.old → result.place ≡ used) }
 {
     let low = cells::key_of(a);
     let high = cells::key_of(b);

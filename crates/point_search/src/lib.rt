@@ -1,11 +1,14 @@
 // The search that the three queries of a point grid are: the entries of a range that pass a test, written into the outputs. What is asked of the range first
 // is a function of its own, with the check of the tables in it.
-ghost use Rattle.basics.specs.Words.{◌≡◌, true};
+#![tactic(auto)]
+
+ghost use Rattle.std.specs.Prelude.{◌≡◌};
+ghost use Rattle.basics.specs.Words.{true};
 ghost use Rattle.cells.specs.Inner.CellRule.{Reached};
-ghost use Rattle.point_search.specs.Meaning.Searches.{search_of};
+ghost use Rattle.point_search.specs.Meaning.Searches.{search_of, outputs};
 ghost use Rattle.point_search.specs.Meaning.Lent.{Finds};
 ghost use Rattle.point_search.specs.Inner.Asked.{Ranged};
-ghost use Rattle.point_tables.specs.Meaning.Lent.{before};
+ghost use Rattle.point_tables.specs.Meaning.Tables.{tables};
 
 mod fill;
 mod gather;
@@ -18,7 +21,7 @@ use replies::Count;
 use slots::{Handle, Row};
 
 // What a found position must pass, besides standing in the range: nothing, a circle of a centre and a radius, or a rectangle of two corners.
-#[derive(Drop)]
+#[derive(Clone, Copy)]
 pub enum Test {
     Any,
     Circle(Position, f32),
@@ -26,7 +29,7 @@ pub enum Test {
 }
 
 // What a query reports of an entry.
-#[derive(Drop)]
+#[derive(Clone, Copy)]
 pub struct Finding {
     pub handle: Handle,
     pub position: Position,
@@ -35,7 +38,7 @@ pub struct Finding {
 }
 
 // The cells of the corners of a range, beside the answer to it; zeros where it is refused.
-#[derive(Drop)]
+#[derive(Clone, Copy)]
 pub struct Range {
     pub answer: u32,
     pub a: Cell,
@@ -43,7 +46,7 @@ pub struct Range {
 }
 
 // How many places a walk has collected, and the place up to which.
-#[derive(Drop)]
+#[derive(Clone, Copy)]
 pub struct Part {
     pub number: usize,
     pub place: usize,
@@ -74,7 +77,7 @@ pub fn range_of(
     ur: Position,
 ) -> Range
     requires { ok ≡ true → Reached ll × Reached ur }
-    ensures { Ranged (before nums reals ints map pool spots cells) ok ll ur result }
+    ensures { Ranged (tables nums.now reals.now ints.now map.now pool.now spots.now cells.now) ok ll ur result }
 {
     if !point_tables::check(nums, reals, ints, map, pool, spots, cells) {
         return refused(3);
@@ -109,7 +112,7 @@ pub fn search(
     objs: &mut [[u32; 2]],
 ) -> Count
     requires { ok ≡ true → Reached ll × Reached ur }
-    ensures { Finds (λ t. search_of t ok ll ur test) result handles places objs nums reals ints map pool spots cells }
+    ensures { Finds (λ t. search_of t ok ll ur test) result (tables nums.now reals.now ints.now map.now pool.now spots.now cells.now) (outputs handles.old places.old objs.old) (outputs handles.new places.new objs.new) }
 {
     let range = range_of(nums, reals, ints, map, pool, spots, cells, ok, ll, ur);
     if range.answer != 0 {

@@ -1,11 +1,12 @@
 // The tables of a point grid, and the check that they hold one.
-ghost use Rattle.basics.specs.Words.{ℕ, ◌+◌, ◌/◌, ◌<◌, ◌≡◌, length};
+#![tactic(auto)]
+
+ghost use Rattle.std.specs.Prelude.{◌+◌, ◌/◌, ◌<◌, ◌≡◌};
+ghost use Rattle.basics.specs.Words.{ℕ, length};
 ghost use Rattle.basics.specs.Meaning.Limits.{most_slots};
-ghost use Rattle.basics.specs.Meaning.Lent.{was};
 ghost use Rattle.basics.specs.Meaning.Says.{Says};
 ghost use Rattle.slots.specs.Meaning.Map.{usable};
-ghost use Rattle.point_tables.specs.Meaning.Lent.{before};
-ghost use Rattle.point_tables.specs.Meaning.Tables.{Lengths};
+ghost use Rattle.point_tables.specs.Meaning.Tables.{Lengths, tables};
 ghost use Rattle.point_tables.specs.Meaning.Decide.{holds};
 ghost use Rattle.point_tables.specs.Inner.Check.{Counts, SlotOk, EachOk, SlotsOk, Room, FreeAt, Listed};
 
@@ -63,7 +64,7 @@ fn counts_ok(n: usize, size: u64, used: usize, rows: usize) -> bool
 // Whether a slot holds, which an entry names if it is listed; and an occupied one is listed.
 fn slot_ok(nums: &[Row], map: &[u64], s: usize, listed: bool) -> bool
     requires { (s < length nums.now) × (3 + s / 64 < length map.now) }
-    ensures { Says result (SlotOk (was nums) (was map) s listed) }
+    ensures { Says result (SlotOk nums.now map.now s listed) }
 {
     let n = nums[s];
     let mapped = slots::is_usable(map, s);
@@ -79,7 +80,7 @@ fn slot_ok(nums: &[Row], map: &[u64], s: usize, listed: bool) -> bool
 // Whether each slot holds, and each occupied one is marked as named by an entry.
 fn each_ok(nums: &[Row], map: &[u64], marks: &[bool; basics::MOST_SLOTS]) -> bool
     requires { Room nums.now map.now }
-    ensures { Says result (EachOk (was nums) (was map) (was marks)) }
+    ensures { Says result (EachOk nums.now map.now marks.now) }
 {
     let mut i = 0;
     while i < nums.len() {
@@ -95,7 +96,7 @@ fn each_ok(nums: &[Row], map: &[u64], marks: &[bool; basics::MOST_SLOTS]) -> boo
 // Whether slot s is free, if the map has it.
 fn free_at(nums: &[Row], map: &[u64], s: usize) -> bool
     requires { (s < length nums.now) × (3 + s / 64 < length map.now) }
-    ensures { Says result (FreeAt (was nums) (was map) s) }
+    ensures { Says result (FreeAt nums.now map.now s) }
 {
     if !slots::is_usable(map, s) {
         return true;
@@ -110,7 +111,7 @@ fn free_at(nums: &[Row], map: &[u64], s: usize) -> bool
 // The next slot that the map may have: a word with no bit is passed at once.
 fn next_after(map: &[u64], s: usize) -> usize
     requires { (s < most_slots) × (3 + s / 64 < length map.now) }
-    ensures { (s < result) × ((k : ℕ) → s < k → k < result → usable (was map) k ≡ 0) }
+    ensures { (s < result) × ((k : ℕ) → s < k → k < result → usable map.now k ≡ 0) }
 {
     if map[3 + s / 64] == 0 {
         return s + 64 - s % 64;
@@ -121,7 +122,7 @@ fn next_after(map: &[u64], s: usize) -> usize
 // Whether each slot that the map has is free.
 fn free_ok(nums: &[Row], map: &[u64]) -> bool
     requires { Room nums.now map.now }
-    ensures { Says result ((s : ℕ) → s < length (was nums) → FreeAt (was nums) (was map) s) }
+    ensures { Says result ((s : ℕ) → s < length nums.now → FreeAt nums.now map.now s) }
 {
     let mut i = 0;
     while i < nums.len() {
@@ -136,7 +137,7 @@ fn free_ok(nums: &[Row], map: &[u64]) -> bool
 // Whether every slot holds, and every occupied one is marked; `used` slots are. Where these and the slots that the map has are all, it is enough that the latter are free.
 fn slots_ok(nums: &[Row], map: &[u64], used: usize, marks: &[bool; basics::MOST_SLOTS]) -> bool
     requires { Room nums.now map.now × Listed nums.now marks.now used }
-    ensures { Says result (SlotsOk (was nums) (was map) (was marks)) }
+    ensures { Says result (SlotsOk nums.now map.now marks.now) }
 {
     if !slots::past_ok(map, nums.len()) {
         return false;
@@ -158,7 +159,7 @@ pub fn check(
     spots: &[[f32; 2]],
     cells: &[[u64; 2]],
 ) -> bool
-    ensures { result ≡ holds (before nums reals ints map pool spots cells) }
+    ensures { result ≡ holds (tables nums.now reals.now ints.now map.now pool.now spots.now cells.now) }
 {
     if !lengths_ok(
         nums.len(),

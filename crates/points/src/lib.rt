@@ -4,6 +4,7 @@
 // A point is that of the tracker, 0 to 7, that it was inserted for: a call that moves or removes it names the tracker last, and gets 13 if the number is above
 // 7 and 14 if the point is another's.
 // In the examples the seven tables are lent as the calls name them, and what a call writes to stands last.
+#![tactic(auto)]
 
 // Builds an empty grid with cells of this size. Refusals: 3 (wrong lengths), 2 (size outside its limits).
 //     let a = points::new(nums, reals, ints, map, pool, spots, cells, 16);

@@ -1,12 +1,14 @@
 // `set_position` and `remove` on a table of records: the records are spread into the columns, which are lent as scratch, the core's call is
 // made, and the records are gathered again. A record table of another length than the columns gets 3. Answers and their order are the core's.
-ghost use Rattle.basics.specs.Words.{◌≡◌};
-ghost use Rattle.point_tables.specs.Meaning.Lent.{after, before};
+#![tactic(auto)]
+
+ghost use Rattle.std.specs.Prelude.{◌≡◌};
 ghost use Rattle.point_tables.specs.Meaning.Outcome.{outcome};
 ghost use Rattle.replies.specs.Meaning.Replies.{reply};
 ghost use Rattle.records.specs.Meaning.Seen.{Shows};
 ghost use Rattle.record_deferred.specs.Inner.Calls.{set_position_for, remove_for};
 ghost use Rattle.record_deferred.specs.Meaning.Calls.{set_position_on, remove_on};
+ghost use Rattle.point_tables.specs.Meaning.Tables.{tables};
 
 use geometry::Position;
 use point_records::Record;
@@ -27,7 +29,7 @@ pub fn set_position_for(
     at: Position,
     tracker: u32,
 ) -> u32
-    ensures { outcome (reply result 0) (after nums reals ints map pool spots cells) ≡ set_position_for n (before nums reals ints map pool spots cells) h at tracker }
+    ensures { outcome (reply result 0) (tables nums.new reals.new ints.new map.now pool.now spots.now cells.new) ≡ set_position_for n (tables nums.old reals.old ints.old map.now pool.now spots.now cells.old) h at tracker }
 {
     if n != nums.len() {
         return 3;
@@ -49,7 +51,7 @@ pub fn set_position(
     at: Position,
     tracker: u32,
 ) -> u32
-    ensures { Shows (λ rs t. set_position_on rs t h at tracker) (reply result 0) records nums reals ints map pool spots cells }
+    ensures { Shows (λ rs t. set_position_on rs t h at tracker) (reply result 0) records.old (tables nums.old reals.old ints.old map.now pool.now spots.now cells.old) records.new (tables nums.new reals.new ints.new map.now pool.now spots.now cells.new) }
 {
     records::spread(records, nums, reals, ints);
     let n = records.len();
@@ -72,7 +74,7 @@ pub fn remove_for(
     h: Handle,
     tracker: u32,
 ) -> Reply
-    ensures { outcome result (after nums reals ints map pool spots cells) ≡ remove_for n (before nums reals ints map pool spots cells) h tracker }
+    ensures { outcome result (tables nums.new reals.new ints.new map.now pool.now spots.now cells.new) ≡ remove_for n (tables nums.old reals.old ints.old map.now pool.now spots.now cells.old) h tracker }
 {
     if n != nums.len() {
         return Reply { answer: 3, obj: 0 };
@@ -93,7 +95,7 @@ pub fn remove(
     h: Handle,
     tracker: u32,
 ) -> Reply
-    ensures { Shows (λ rs t. remove_on rs t h tracker) result records nums reals ints map pool spots cells }
+    ensures { Shows (λ rs t. remove_on rs t h tracker) result records.old (tables nums.old reals.old ints.old map.now pool.now spots.now cells.old) records.new (tables nums.new reals.new ints.new map.now pool.now spots.now cells.new) }
 {
     records::spread(records, nums, reals, ints);
     let n = records.len();

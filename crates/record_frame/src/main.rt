@@ -1,17 +1,19 @@
 // A small history on a table of records that is made by value: an object that is on its way to another cell is asked for, is settled, and is
 // asked for again; tables that are no grid are refused. Each line is what was asked, get's answer, the data and the tracker, and the state of the
 // record: 0 unchanged, 1 new position, 2 relocate, 3 removed. The columns are scratch. Before it, who may send the object there: the tracker and the answer.
-ghost use Rattle.basics.specs.Words.{◌≡◌};
-ghost use Rattle.point_tables.specs.Meaning.Lent.{before};
+#![tactic(auto)]
+
+ghost use Rattle.std.specs.Prelude.{◌≡◌};
 ghost use Rattle.record_maintain.specs.Meaning.Calls.{maintain_on};
 ghost use Rattle.record_get.specs.Meaning.Calls.{get_on};
+ghost use Rattle.point_tables.specs.Meaning.Tables.{tables};
 
 use cells::Cell;
 use geometry::Position;
-use libc::STDOUT_FILENO;
 use point_get::Got;
 use point_records::{Record, State, Tracker};
 use slots::{Handle, Row};
+use std::io;
 
 // ---- a call on a table that is handed over by value
 fn maintain_in2(
@@ -24,7 +26,7 @@ fn maintain_in2(
     spots: &mut [[f32; 2]],
     cells: &mut [[u64; 2]],
 ) -> [Record; 2]
-    ensures { result ≡ (maintain_on t (before nums reals ints map pool spots cells)).records }
+    ensures { result ≡ (maintain_on t (tables nums.old reals.old ints.old map.old pool.old spots.old cells.old)).records }
 {
     let mut u = t;
     record_maintain::maintain(&mut u, nums, reals, ints, map, pool, spots, cells);
@@ -42,38 +44,39 @@ fn get_in2(
     cells: &mut [[u64; 2]],
     h: Handle,
 ) -> Got
-    ensures { result ≡ (get_on t (before nums reals ints map pool spots cells) h).result }
+    ensures { result ≡ (get_on t (tables nums.old reals.old ints.old map.old pool.old spots.old cells.old) h).result }
 {
     let u = t;
     record_get::get(&u, nums, reals, ints, map, pool, spots, cells, h)
 }
 
 // ---- what is said of it
-fn say(what: &[u8]) {
-    io::write_all(STDOUT_FILENO, what);
+fn say(rt: &impl Print, what: &str) -> io::Result<()> {
+    print!(rt; "{what}")
 }
 
-fn number(n: u32) {
-    io::print_decimal(STDOUT_FILENO, n as u64);
+fn number(rt: &impl Print, n: u32) -> io::Result<()> {
+    print!(rt; "{n}")
 }
 
-fn tell(what: &[u8], g: Got, t: [Record; 2]) {
+fn tell(rt: &impl Print, what: &str, g: Got, t: [Record; 2]) -> io::Result<()> {
     let r = t[0];
-    say(what);
-    number(g.answer);
-    say(b",");
-    number(g.obj);
-    say(b",");
-    number(g.tracker);
-    say(b",");
+    say(rt, what)?;
+    number(rt, g.answer)?;
+    say(rt, ",")?;
+    number(rt, g.obj)?;
+    say(rt, ",")?;
+    number(rt, g.tracker)?;
+    say(rt, ",")?;
     let s = r.state;
     let k = point_records::tag_of(s);
-    number(k);
-    say(b"\n");
+    number(rt, k)?;
+    say(rt, "\n")
 }
 
 fn ask(
-    what: &[u8],
+    rt: &impl Print,
+    what: &str,
     t: [Record; 2],
     nums: &mut [[u32; 4]; 2],
     reals: &mut [[f32; 4]; 2],
@@ -82,13 +85,13 @@ fn ask(
     pool: &mut [[u64; 2]; 2],
     spots: &mut [[f32; 2]; 2],
     cells: &mut [[u64; 2]; 2],
-) {
+) -> io::Result<()> {
     let one = Handle {
         slot: 0,
         version: 1,
     };
     let g = get_in2(t, nums, reals, ints, map, pool, spots, cells, one);
-    tell(what, g, t);
+    tell(rt, what, g, t)
 }
 
 // The object of slot 0, a tracker's, at the origin, of a version, on its way to (16, 0), which is of cell (1, 0); slot 1 is free.
@@ -118,6 +121,7 @@ fn table(version: u32, target: Cell, tracker: Tracker) -> [Record; 2] {
 }
 
 fn history(
+    rt: &impl Print,
     nums: &mut [[u32; 4]; 2],
     reals: &mut [[f32; 4]; 2],
     ints: &mut [[i32; 4]; 2],
@@ -125,11 +129,12 @@ fn history(
     pool: &mut [[u64; 2]; 2],
     spots: &mut [[f32; 2]; 2],
     cells: &mut [[u64; 2]; 2],
-) {
+) -> io::Result<()> {
     let t = table(1, Cell { x: 1, y: 0 }, Tracker::T1);
-    ask(b"moving ", t, nums, reals, ints, map, pool, spots, cells);
+    ask(rt, "moving ", t, nums, reals, ints, map, pool, spots, cells)?;
     ask(
-        b"of tracker 2 ",
+        rt,
+        "of tracker 2 ",
         table(1, Cell { x: 1, y: 0 }, Tracker::T2),
         nums,
         reals,
@@ -138,10 +143,11 @@ fn history(
         pool,
         spots,
         cells,
-    );
+    )?;
     let wrong = table(1, Cell { x: 5, y: 0 }, Tracker::T1);
     ask(
-        b"wrong target ",
+        rt,
+        "wrong target ",
         wrong,
         nums,
         reals,
@@ -150,10 +156,11 @@ fn history(
         pool,
         spots,
         cells,
-    );
+    )?;
     let same = maintain_in2(wrong, nums, reals, ints, map, pool, spots, cells);
     ask(
-        b"not maintained ",
+        rt,
+        "not maintained ",
         same,
         nums,
         reals,
@@ -162,9 +169,10 @@ fn history(
         pool,
         spots,
         cells,
-    );
+    )?;
     ask(
-        b"version 0 ",
+        rt,
+        "version 0 ",
         table(0, Cell { x: 1, y: 0 }, Tracker::T1),
         nums,
         reals,
@@ -173,10 +181,11 @@ fn history(
         pool,
         spots,
         cells,
-    );
+    )?;
     let u = maintain_in2(t, nums, reals, ints, map, pool, spots, cells);
     ask(
-        b"maintained ",
+        rt,
+        "maintained ",
         u,
         nums,
         reals,
@@ -185,11 +194,12 @@ fn history(
         pool,
         spots,
         cells,
-    );
+    )
 }
 
 // A tracker sends the object to (16, 0): its number and the answer.
 fn send(
+    rt: &impl Print,
     nums: &mut [[u32; 4]; 2],
     reals: &mut [[f32; 4]; 2],
     ints: &mut [[i32; 4]; 2],
@@ -199,17 +209,17 @@ fn send(
     cells: &mut [[u64; 2]; 2],
     h: Handle,
     tracker: u32,
-) {
+) -> io::Result<()> {
     let away = Position { x: 16.0, y: 0.0 };
     let answer = points::set_position(nums, reals, ints, map, pool, spots, cells, h, away, tracker);
-    say(b"sent by ");
-    number(tracker);
-    say(b" ");
-    number(answer);
-    say(b"\n");
+    say(rt, "sent by ")?;
+    number(rt, tracker)?;
+    say(rt, " ")?;
+    number(rt, answer)?;
+    say(rt, "\n")
 }
 
-fn main() {
+fn main(rt: HostRuntime) -> io::Result<()> {
     let mut nums = [[0u32; 4]; 2];
     let mut reals = [[0.0f32; 4]; 2];
     let mut ints = [[0i32; 4]; 2];
@@ -225,12 +235,12 @@ fn main() {
         &mut nums, &mut reals, &mut ints, &mut map, &mut pool, &mut spots, &mut cells, origin, 7, 1,
     );
     send(
-        &mut nums, &mut reals, &mut ints, &map, &pool, &spots, &mut cells, r.handle, 2,
-    );
+        &rt, &mut nums, &mut reals, &mut ints, &map, &pool, &spots, &mut cells, r.handle, 2,
+    )?;
     send(
-        &mut nums, &mut reals, &mut ints, &map, &pool, &spots, &mut cells, r.handle, 1,
-    );
+        &rt, &mut nums, &mut reals, &mut ints, &map, &pool, &spots, &mut cells, r.handle, 1,
+    )?;
     history(
-        &mut nums, &mut reals, &mut ints, &mut map, &mut pool, &mut spots, &mut cells,
-    );
+        &rt, &mut nums, &mut reals, &mut ints, &mut map, &mut pool, &mut spots, &mut cells,
+    )
 }

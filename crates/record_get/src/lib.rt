@@ -1,10 +1,11 @@
 // `get` and `len` on a table of records: the records are spread into the columns and stay as they are.
-ghost use Rattle.basics.specs.Words.{◌≡◌};
-ghost use Rattle.basics.specs.Meaning.Lent.{was};
-ghost use Rattle.point_tables.specs.Meaning.Lent.{after, before};
+#![tactic(auto)]
+
+ghost use Rattle.std.specs.Prelude.{◌≡◌};
 ghost use Rattle.point_tables.specs.Meaning.Outcome.{outcome};
 ghost use Rattle.record_get.specs.Inner.Calls.{get_for, len_for};
 ghost use Rattle.record_get.specs.Meaning.Calls.{get_on, len_on};
+ghost use Rattle.point_tables.specs.Meaning.Tables.{tables};
 
 use geometry::Position;
 use point_get::Got;
@@ -24,7 +25,7 @@ pub fn get_for(
     cells: &[[u64; 2]],
     h: Handle,
 ) -> Got
-    ensures { result ≡ get_for n (before nums reals ints map pool spots cells) h }
+    ensures { result ≡ get_for n (tables nums.now reals.now ints.now map.now pool.now spots.now cells.now) h }
 {
     if n != nums.len() {
         return Got {
@@ -49,7 +50,7 @@ pub fn get(
     cells: &[[u64; 2]],
     h: Handle,
 ) -> Got
-    ensures { outcome result (after nums reals ints map pool spots cells) ≡ get_on (was records) (before nums reals ints map pool spots cells) h }
+    ensures { outcome result (tables nums.new reals.new ints.new map.now pool.now spots.now cells.now) ≡ get_on records.now (tables nums.old reals.old ints.old map.now pool.now spots.now cells.now) h }
 {
     records::spread(records, nums, reals, ints);
     let n = records.len();
@@ -67,7 +68,7 @@ pub fn len_for(
     spots: &[[f32; 2]],
     cells: &[[u64; 2]],
 ) -> Count
-    ensures { result ≡ len_for n (before nums reals ints map pool spots cells) }
+    ensures { result ≡ len_for n (tables nums.now reals.now ints.now map.now pool.now spots.now cells.now) }
 {
     if n != nums.len() {
         return Count {
@@ -89,7 +90,7 @@ pub fn len(
     spots: &[[f32; 2]],
     cells: &[[u64; 2]],
 ) -> Count
-    ensures { outcome result (after nums reals ints map pool spots cells) ≡ len_on (was records) (before nums reals ints map pool spots cells) }
+    ensures { outcome result (tables nums.new reals.new ints.new map.now pool.now spots.now cells.now) ≡ len_on records.now (tables nums.old reals.old ints.old map.now pool.now spots.now cells.now) }
 {
     records::spread(records, nums, reals, ints);
     let n = records.len();

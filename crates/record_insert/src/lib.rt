@@ -1,10 +1,12 @@
 // `insert` on a table of records, in the form of `record_deferred`.
-ghost use Rattle.basics.specs.Words.{◌≡◌};
-ghost use Rattle.point_tables.specs.Meaning.Lent.{after, before};
+#![tactic(auto)]
+
+ghost use Rattle.std.specs.Prelude.{◌≡◌};
 ghost use Rattle.point_tables.specs.Meaning.Outcome.{outcome};
 ghost use Rattle.records.specs.Meaning.Seen.{Shows};
 ghost use Rattle.record_insert.specs.Inner.Calls.{insert_for};
 ghost use Rattle.record_insert.specs.Meaning.Calls.{insert_on};
+ghost use Rattle.point_tables.specs.Meaning.Tables.{tables};
 
 use geometry::Position;
 use point_records::Record;
@@ -25,7 +27,7 @@ pub fn insert_for(
     obj: u32,
     tracker: u32,
 ) -> Inserted
-    ensures { outcome result (after nums reals ints map pool spots cells) ≡ insert_for n (before nums reals ints map pool spots cells) at obj tracker }
+    ensures { outcome result (tables nums.new reals.new ints.new map.new pool.new spots.new cells.new) ≡ insert_for n (tables nums.old reals.old ints.old map.old pool.old spots.old cells.old) at obj tracker }
 {
     if n != nums.len() {
         return Inserted {
@@ -53,7 +55,7 @@ pub fn insert(
     obj: u32,
     tracker: u32,
 ) -> Inserted
-    ensures { Shows (λ rs t. insert_on rs t at obj tracker) result records nums reals ints map pool spots cells }
+    ensures { Shows (λ rs t. insert_on rs t at obj tracker) result records.old (tables nums.old reals.old ints.old map.old pool.old spots.old cells.old) records.new (tables nums.new reals.new ints.new map.new pool.new spots.new cells.new) }
 {
     records::spread(records, nums, reals, ints);
     let n = records.len();

@@ -1,10 +1,12 @@
 // `maintain` on a table of records, in the form of `record_deferred`.
-ghost use Rattle.basics.specs.Words.{◌≡◌};
-ghost use Rattle.point_tables.specs.Meaning.Lent.{after, before};
+#![tactic(auto)]
+
+ghost use Rattle.std.specs.Prelude.{◌≡◌};
 ghost use Rattle.point_tables.specs.Meaning.Outcome.{outcome};
 ghost use Rattle.records.specs.Meaning.Seen.{Shows};
 ghost use Rattle.record_maintain.specs.Inner.Calls.{maintain_for};
 ghost use Rattle.record_maintain.specs.Meaning.Calls.{maintain_on};
+ghost use Rattle.point_tables.specs.Meaning.Tables.{tables};
 
 use point_maintain::Maintained;
 use point_records::Record;
@@ -21,7 +23,7 @@ pub fn maintain_for(
     spots: &mut [[f32; 2]],
     cells: &mut [[u64; 2]],
 ) -> Maintained
-    ensures { outcome result (after nums reals ints map pool spots cells) ≡ maintain_for n (before nums reals ints map pool spots cells) }
+    ensures { outcome result (tables nums.new reals.new ints.new map.new pool.new spots.new cells.new) ≡ maintain_for n (tables nums.old reals.old ints.old map.old pool.old spots.old cells.old) }
 {
     if n != nums.len() {
         return Maintained {
@@ -44,7 +46,7 @@ pub fn maintain(
     spots: &mut [[f32; 2]],
     cells: &mut [[u64; 2]],
 ) -> Maintained
-    ensures { Shows maintain_on result records nums reals ints map pool spots cells }
+    ensures { Shows maintain_on result records.old (tables nums.old reals.old ints.old map.old pool.old spots.old cells.old) records.new (tables nums.new reals.new ints.new map.new pool.new spots.new cells.new) }
 {
     records::spread(records, nums, reals, ints);
     let n = records.len();

@@ -1,7 +1,11 @@
 // `query_around` on a table of records, in the form of `record_get`.
+#![tactic(auto)]
+
 ghost use Rattle.point_search.specs.Meaning.Lent.{Finds};
 ghost use Rattle.record_query.specs.Inner.Calls.{around_for};
 ghost use Rattle.record_query.specs.Meaning.Calls.{around_on, FindsIn};
+ghost use Rattle.point_search.specs.Meaning.Searches.{outputs};
+ghost use Rattle.point_tables.specs.Meaning.Tables.{tables};
 
 use geometry::Position;
 use point_records::Record;
@@ -24,7 +28,7 @@ pub fn query_around_for(
     places: &mut [[f32; 2]],
     objs: &mut [[u32; 2]],
 ) -> Count
-    ensures { Finds (λ t. around_for n t centre radius) result found places objs nums reals ints map pool spots cells }
+    ensures { Finds (λ t. around_for n t centre radius) result (tables nums.now reals.now ints.now map.now pool.now spots.now cells.now) (outputs found.old places.old objs.old) (outputs found.new places.new objs.new) }
 {
     if n != nums.len() {
         return Count {
@@ -53,7 +57,7 @@ pub fn query_around(
     places: &mut [[f32; 2]],
     objs: &mut [[u32; 2]],
 ) -> Count
-    ensures { FindsIn (λ rs t. around_on rs t centre radius) result found places objs records nums reals ints map pool spots cells }
+    ensures { FindsIn (λ rs t. around_on rs t centre radius) result records.now (tables nums.old reals.old ints.old map.now pool.now spots.now cells.now) (outputs found.old places.old objs.old) (outputs found.new places.new objs.new) (tables nums.new reals.new ints.new map.now pool.now spots.now cells.now) }
 {
     records::spread(records, nums, reals, ints);
     let n = records.len();

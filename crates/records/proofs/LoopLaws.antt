@@ -1,5 +1,5 @@
 -- What the proofs of `spread` and `gather` share: columns and records written one after the other. Assumes nothing.
-use Rattle.basics.specs.Words.{ℕ, zero, suc, ◌<◌, ◌≤◌, zero-le, ◌≡◌, refl, sym, ap, ◌∙◌, Bool, true, false, List, [], ◌∷◌, length, get_or, set, ltb, leb·suc-suc}
+use Rattle.basics.specs.Words.{ℕ, zero, suc, ◌<◌, ◌≤◌, zero-le, ◌≡◌, refl, sym, ap, ◌∙◌, Bool, true, false, List, [], ◌∷◌, length, get_or, set, ltb, leb-suc-suc}
 use Rattle.basics.specs.Words.{ℤ, not-suc-le-zero, le_of_suc-le-suc, arith, lt-ltb, le-ltb}
 use lib.Ieee.{Float}
 use Rattle.basics.specs.Meaning.Refusals.{pick}
@@ -109,7 +109,7 @@ row_first : (n : List ℕ) (ns : List (List ℕ)) (q : List Float) (qs : List (L
 row_first n ns q qs z zs r = sym (row_there (n ∷ ns) (q ∷ qs) (z ∷ zs) 0 r (omega arith) (omega arith) (omega arith))
 
 less_next : (i k : ℕ) → ltb (suc i) (suc k) ≡ ltb i k
-less_next i k = leb·suc-suc (suc i) k
+less_next i k = leb-suc-suc (suc i) k
 
 row_next : (n : List ℕ) (ns : List (List ℕ)) (q : List Float) (qs : List (List Float)) (z : List ℤ) (zs : List (List ℤ)) (i : ℕ) (r : Record) → row_or (n ∷ ns) (q ∷ qs) (z ∷ zs) (suc i) r ≡ row_or ns qs zs i r
 row_next n ns q qs z zs i r = cc (less_next i (length ns), less_next i (length qs), less_next i (length zs))

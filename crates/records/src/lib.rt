@@ -1,7 +1,9 @@
 // The object records as one lent table, a record for each slot: the Rust's SlotMap of StoreObject. The columns that the core works on are
 // lent as scratch: a call spreads the records into them, runs the core's call, and gathers the records again.
-ghost use Rattle.basics.specs.Words.{◌<◌, ◌≡◌, length, get_or, set};
-ghost use Rattle.basics.specs.Meaning.Lent.{was, is};
+#![tactic(auto)]
+
+ghost use Rattle.std.specs.Prelude.{◌<◌, ◌≡◌};
+ghost use Rattle.basics.specs.Words.{length, get_or, set};
 ghost use Rattle.point_records.specs.Meaning.Columns.{nums_of, reals_of, ints_of};
 ghost use Rattle.records.specs.Inner.Spread.{no_record, row_or};
 ghost use Rattle.records.specs.Meaning.Spread.{laid, gathered};
@@ -12,21 +14,21 @@ use slots::Row;
 // ---- one record
 pub fn record_at(records: &[Record], i: usize) -> Record
     requires { i < length records.now }
-    ensures { result ≡ get_or (was records) i no_record }
+    ensures { result ≡ get_or records.now i no_record }
 {
     records[i]
 }
 
 pub fn put_record(records: &mut [Record], i: usize, r: Record)
     requires { i < length records.old }
-    ensures { is records ≡ set (was records) i r }
+    ensures { records.new ≡ set records.old i r }
 {
     records[i] = r;
 }
 
 // ---- the rows of a record
 pub fn put_nums(nums: &mut [Row], i: usize, r: Record)
-    ensures { is nums ≡ set (was nums) i (nums_of r) }
+    ensures { nums.new ≡ set nums.old i (nums_of r) }
 {
     if i < nums.len() {
         nums[i] = point_records::nums_of(r);
@@ -34,7 +36,7 @@ pub fn put_nums(nums: &mut [Row], i: usize, r: Record)
 }
 
 pub fn put_reals(reals: &mut [[f32; 4]], i: usize, r: Record)
-    ensures { is reals ≡ set (was reals) i (reals_of r) }
+    ensures { reals.new ≡ set reals.old i (reals_of r) }
 {
     if i < reals.len() {
         let p = r.position;
@@ -45,7 +47,7 @@ pub fn put_reals(reals: &mut [[f32; 4]], i: usize, r: Record)
 }
 
 pub fn put_ints(ints: &mut [[i32; 4]], i: usize, r: Record)
-    ensures { is ints ≡ set (was ints) i (ints_of r) }
+    ensures { ints.new ≡ set ints.old i (ints_of r) }
 {
     if i < ints.len() {
         let c = r.cell;
@@ -57,7 +59,7 @@ pub fn put_ints(ints: &mut [[i32; 4]], i: usize, r: Record)
 
 // The record of row i of the columns; r where a column has no such row.
 pub fn row_or(nums: &[Row], reals: &[[f32; 4]], ints: &[[i32; 4]], i: usize, r: Record) -> Record
-    ensures { result ≡ row_or (was nums) (was reals) (was ints) i r }
+    ensures { result ≡ row_or nums.now reals.now ints.now i r }
 {
     if i < nums.len() {
         if i < reals.len() {
@@ -71,9 +73,9 @@ pub fn row_or(nums: &[Row], reals: &[[f32; 4]], ints: &[[i32; 4]], i: usize, r: 
 
 // ---- all records
 pub fn spread(records: &[Record], nums: &mut [Row], reals: &mut [[f32; 4]], ints: &mut [[i32; 4]])
-    ensures { (is nums ≡ laid nums_of (was records) (was nums))
-        × (is reals ≡ laid reals_of (was records) (was reals))
-        × (is ints ≡ laid ints_of (was records) (was ints)) }
+    ensures { (nums.new ≡ laid nums_of records.now nums.old)
+        × (reals.new ≡ laid reals_of records.now reals.old)
+        × (ints.new ≡ laid ints_of records.now ints.old) }
 {
     let mut i = 0;
     while i < records.len() {
@@ -86,7 +88,7 @@ pub fn spread(records: &[Record], nums: &mut [Row], reals: &mut [[f32; 4]], ints
 }
 
 pub fn gather(records: &mut [Record], nums: &[Row], reals: &[[f32; 4]], ints: &[[i32; 4]])
-    ensures { is records ≡ gathered (was nums) (was reals) (was ints) (was records) }
+    ensures { records.new ≡ gathered nums.now reals.now ints.now records.old }
 {
     let mut i = 0;
     while i < records.len() {

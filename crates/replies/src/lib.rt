@@ -1,33 +1,35 @@
 // What calls return beside their tables and outputs. An answer is a number of document 01.
-ghost use Rattle.basics.specs.Words.{◌≡◌};
+#![tactic(auto)]
+
+ghost use Rattle.std.specs.Prelude.{◌≡◌};
 ghost use Rattle.replies.specs.Meaning.Replies.{count, inserted};
 
 use geometry::Position;
 use slots::Handle;
 
 // The data of an object beside the answer.
-#[derive(Drop)]
+#[derive(Clone, Copy)]
 pub struct Reply {
     pub answer: u32,
     pub obj: u32,
 }
 
 // A number beside the answer.
-#[derive(Drop)]
+#[derive(Clone, Copy)]
 pub struct Count {
     pub answer: u32,
     pub count: u32,
 }
 
 // The handle of a new object beside the answer.
-#[derive(Drop)]
+#[derive(Clone, Copy)]
 pub struct Inserted {
     pub answer: u32,
     pub handle: Handle,
 }
 
 // What is reported of the nearest point, with count 1, beside the answer; zeros where there is none.
-#[derive(Drop)]
+#[derive(Clone, Copy)]
 pub struct Nearest {
     pub answer: u32,
     pub count: u32,

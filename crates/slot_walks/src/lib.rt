@@ -1,7 +1,9 @@
 // Walks over the slots of a grid, for points and boxes alike: the live slots counted, their handles written out, all of them emptied.
-ghost use Rattle.basics.specs.Words.{◌+◌, ◌≤◌, ◌≡◌, length};
+#![tactic(auto)]
+
+ghost use Rattle.std.specs.Prelude.{◌+◌, ◌≤◌, ◌≡◌};
+ghost use Rattle.basics.specs.Words.{length};
 ghost use Rattle.basics.specs.Meaning.Limits.{most_slots};
-ghost use Rattle.basics.specs.Meaning.Lent.{was, is};
 ghost use Rattle.slots.specs.Meaning.Map.{words_for};
 ghost use Rattle.storage.specs.Meaning.Keyed.{written};
 ghost use Rattle.slot_walks.specs.Meaning.Live.{row_live, live_from, handles_in};
@@ -19,7 +21,7 @@ pub fn is_live(row: Row) -> bool
 // The number of live slots.
 pub fn count_live(nums: &[Row]) -> u32
     requires { length nums.now ≤ most_slots }
-    ensures { result ≡ length (live_from 0 (was nums)) }
+    ensures { result ≡ length (live_from 0 nums.now) }
 {
     let mut k = 0u32;
     let mut i = 0;
@@ -36,7 +38,7 @@ pub fn count_live(nums: &[Row]) -> u32
 // The handles of the live slots, from place 0 of the output on.
 pub fn put_handles(nums: &[Row], out: &mut [[u32; 2]])
     requires { (length nums.now ≤ most_slots) × (length (live_from 0 nums.now) ≤ length out.old) }
-    ensures { is out ≡ written (handles_in (was nums)) (was out) }
+    ensures { out.new ≡ written (handles_in nums.now) out.old }
 {
     let mut k = 0;
     let mut i = 0;
@@ -53,8 +55,8 @@ pub fn put_handles(nums: &[Row], out: &mut [[u32; 2]])
 // Every live slot is emptied.
 pub fn empty_slots(nums: &mut [Row], map: &mut [u64])
     requires { length map.old ≡ 3 + words_for (length nums.old) }
-    ensures nums { is nums ≡ cleared_rows (was nums) }
-    ensures map { is map ≡ cleared_map 0 (was nums) (was map) }
+    ensures nums { nums.new ≡ cleared_rows nums.old }
+    ensures map { map.new ≡ cleared_map 0 nums.old map.old }
 {
     let mut i = 0;
     while i < nums.len() {

@@ -1,7 +1,9 @@
 // Handles, versions and the slot map: what the Rust's SlotMap becomes.
-ghost use Rattle.basics.specs.Words.{◌+◌, ◌*◌, ◌/◌, ◌%◌, ◌^◌, ◌≤◌, ◌<◌, ◌≡◌, length, eqb};
+#![tactic(auto)]
+
+ghost use Rattle.std.specs.Prelude.{◌+◌, ◌*◌, ◌/◌, ◌%◌, ◌^◌, ◌≤◌, ◌<◌, ◌≡◌};
+ghost use Rattle.basics.specs.Words.{length, eqb};
 ghost use Rattle.basics.specs.Meaning.Limits.{most_slots};
-ghost use Rattle.basics.specs.Meaning.Lent.{was, is};
 ghost use Rattle.basics.specs.Meaning.Says.{Says};
 ghost use Rattle.basics.specs.Meaning.Refusals.{pick};
 ghost use Rattle.slots.specs.Meaning.Map.{words_for, usable, taken, given_back, lowest_usable};
@@ -22,19 +24,22 @@ pub const RETIRED: u32 = 2;
 // A slot that is emptied at this version is retired.
 pub const LAST_VERSION: u32 = 4294967295;
 
+// No slot's version.
+pub const NO_VERSION: u32 = 0;
+
 // Why a handle is refused.
 pub const NEVER_ISSUED: u32 = 11;
 
 pub const GONE: u32 = 12;
 
-#[derive(Drop)]
+#[derive(Clone, Copy)]
 pub struct Handle {
     pub slot: u32,
     pub version: u32,
 }
 
 // The lowest usable slot, or none.
-#[derive(Drop)]
+#[derive(Clone, Copy)]
 pub enum Usable {
     At(usize),
     Nothing,
@@ -42,7 +47,7 @@ pub enum Usable {
 
 // Whether the handle's slot is occupied at its version.
 pub fn is_good(nums: &[Row], h: Handle) -> bool
-    ensures { result ≡ good (was nums) h.slot h.version }
+    ensures { result ≡ good nums.now h.slot h.version }
 {
     let s = basics::wide(h.slot);
     if s >= nums.len() {
@@ -57,7 +62,7 @@ pub fn is_good(nums: &[Row], h: Handle) -> bool
 
 // Whether the handle's object has been taken out: its slot is past its version, or retired at it.
 pub fn is_gone(nums: &[Row], h: Handle) -> bool
-    ensures { result ≡ gone (was nums) h.slot h.version }
+    ensures { result ≡ gone nums.now h.slot h.version }
 {
     let s = basics::wide(h.slot);
     if s >= nums.len() {
@@ -67,7 +72,7 @@ pub fn is_gone(nums: &[Row], h: Handle) -> bool
     if row[0] == h.version {
         return row[1] == RETIRED;
     }
-    if h.version == 0 {
+    if h.version == NO_VERSION {
         return false;
     }
     h.version < row[0]
@@ -75,7 +80,7 @@ pub fn is_gone(nums: &[Row], h: Handle) -> bool
 
 // Why a handle is refused, or 0: every call that takes one asks here.
 pub fn refusal_of(nums: &[Row], h: Handle) -> u32
-    ensures { result ≡ handle_refusal (was nums) h }
+    ensures { result ≡ handle_refusal nums.now h }
 {
     if is_good(nums, h) {
         return 0;
@@ -104,7 +109,7 @@ fn bit_of(s: usize) -> u64
 // The lowest usable slot of n: the lowest bit of the first word that has one.
 pub fn lowest(map: &[u64], n: usize) -> Usable
     requires { (length map.now ≡ 3 + words_for n) × (n ≤ most_slots) × NonePast map.now n }
-    ensures { result ≡ lowest_usable (was map) n }
+    ensures { result ≡ lowest_usable map.now n }
 {
     let words = words_for(n);
     let mut w = 0;
@@ -122,7 +127,7 @@ pub fn lowest(map: &[u64], n: usize) -> Usable
 // How many of n slots are usable: the ones of the words.
 pub fn count_usable(map: &[u64], n: usize) -> usize
     requires { (length map.now ≡ 3 + words_for n) × (n ≤ most_slots) }
-    ensures { result ≡ usable_below (was map) (words_for n * 64) }
+    ensures { result ≡ usable_below map.now (words_for n * 64) }
 {
     let words = words_for(n);
     let mut count = 0;
@@ -138,7 +143,7 @@ pub fn count_usable(map: &[u64], n: usize) -> usize
 // Whether the map has slot s as usable.
 pub fn is_usable(map: &[u64], s: usize) -> bool
     requires { 3 + s / 64 < length map.now }
-    ensures { Says result (usable (was map) s ≡ 1) }
+    ensures { Says result (usable map.now s ≡ 1) }
 {
     let w = 3 + s / 64;
     let b = s % 64;
@@ -152,7 +157,7 @@ pub fn is_usable(map: &[u64], s: usize) -> bool
 // Slot s is usable no more.
 pub fn take(map: &mut [u64], s: usize)
     requires { 3 + s / 64 < length map.old }
-    ensures { is map ≡ taken (was map) s }
+    ensures { map.new ≡ taken map.old s }
 {
     let w = 3 + s / 64;
     let m = bit_of(s);
@@ -163,7 +168,7 @@ pub fn take(map: &mut [u64], s: usize)
 // Slot s is usable again.
 pub fn give_back(map: &mut [u64], s: usize)
     requires { 3 + s / 64 < length map.old }
-    ensures { is map ≡ given_back (was map) s }
+    ensures { map.new ≡ given_back map.old s }
 {
     let w = 3 + s / 64;
     let m = bit_of(s);
@@ -193,7 +198,7 @@ pub fn next_phase(v: u32) -> u32
 // Slot s gives its bit back to the map, unless its version was the last.
 fn release(map: &mut [u64], s: usize, v: u32)
     requires { 3 + s / 64 < length map.old }
-    ensures { is map ≡ pick (eqb v last_version) (was map) (given_back (was map) s) }
+    ensures { map.new ≡ pick (eqb v last_version) map.old (given_back map.old s) }
 {
     if v != LAST_VERSION {
         give_back(map, s);
@@ -214,8 +219,8 @@ fn emptied_row(row: Row) -> Row
 // Slot s is emptied: its version rises and the map has it again, or it is retired.
 pub fn empty(nums: &mut [Row], map: &mut [u64], s: usize)
     requires { (s < length nums.old) × (3 + s / 64 < length map.old) }
-    ensures nums { is nums ≡ emptied_nums (was nums) s }
-    ensures map { is map ≡ emptied_map (was nums) (was map) s }
+    ensures nums { nums.new ≡ emptied_nums nums.old s }
+    ensures map { map.new ≡ emptied_map nums.old map.old s }
 {
     let row = nums[s];
     nums[s] = emptied_row(row);
@@ -249,7 +254,7 @@ pub fn slot_ok(version: u32, phase: u32, mapped: bool) -> bool
 // Whether no bit past the last of n slots is set: only the last word can have one.
 pub fn past_ok(map: &[u64], n: usize) -> bool
     requires { length map.now ≡ 3 + words_for n }
-    ensures { Says result (NonePast (was map) n) }
+    ensures { Says result (NonePast map.now n) }
 {
     let b = n % 64;
     if b == 0 {

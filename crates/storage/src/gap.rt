@@ -1,11 +1,11 @@
 // Rows and spots that move up to let one in, or down to close a gap.
-ghost use Rattle.basics.specs.Words.{◌≤◌, ◌<◌, ◌≡◌, [], length, get_or, set};
-ghost use Rattle.basics.specs.Meaning.Lent.{was, is};
+ghost use Rattle.std.specs.Prelude.{◌≤◌, ◌<◌, ◌≡◌};
+ghost use Rattle.basics.specs.Words.{[], length, get_or, set};
 ghost use Rattle.storage.specs.Inner.Places.{opened, closed};
 
 pub fn open_row(s: &mut [[u64; 2]], p: usize, k: usize, v: [u64; 2])
     requires { (p ≤ k) × (k < length s.old) }
-    ensures { is s ≡ opened (was s) p k v }
+    ensures { s.new ≡ opened s.old p k v }
 {
     let mut j = k;
     while p < j {
@@ -17,7 +17,7 @@ pub fn open_row(s: &mut [[u64; 2]], p: usize, k: usize, v: [u64; 2])
 
 pub fn open_spot(s: &mut [[f32; 2]], p: usize, k: usize, v: [f32; 2])
     requires { (p ≤ k) × (k < length s.old) }
-    ensures { is s ≡ opened (was s) p k v }
+    ensures { s.new ≡ opened s.old p k v }
 {
     let mut j = k;
     while p < j {
@@ -29,7 +29,7 @@ pub fn open_spot(s: &mut [[f32; 2]], p: usize, k: usize, v: [f32; 2])
 
 pub fn close_row(s: &mut [[u64; 2]], p: usize, k: usize)
     requires { (p < k) × (k ≤ length s.old) }
-    ensures { is s ≡ closed (was s) p k }
+    ensures { s.new ≡ closed s.old p k }
 {
     let mut j = p;
     while j + 1 < k {
@@ -40,7 +40,7 @@ pub fn close_row(s: &mut [[u64; 2]], p: usize, k: usize)
 
 pub fn close_spot(s: &mut [[f32; 2]], p: usize, k: usize)
     requires { (p < k) × (k ≤ length s.old) }
-    ensures { is s ≡ closed (was s) p k }
+    ensures { s.new ≡ closed s.old p k }
 {
     let mut j = p;
     while j + 1 < k {
@@ -52,7 +52,7 @@ pub fn close_spot(s: &mut [[f32; 2]], p: usize, k: usize)
 // The row at j goes to place i, and its own place is closed.
 pub fn pull_row(s: &mut [[u64; 2]], i: usize, j: usize, k: usize)
     requires { (i ≤ j) × (j < k) × (k ≤ length s.old) }
-    ensures { is s ≡ closed (set (was s) i (get_or (was s) j [])) j k }
+    ensures { s.new ≡ closed (set s.old i (get_or s.old j [])) j k }
 {
     s[i] = s[j];
     close_row(s, j, k);
@@ -60,7 +60,7 @@ pub fn pull_row(s: &mut [[u64; 2]], i: usize, j: usize, k: usize)
 
 pub fn pull_spot(s: &mut [[f32; 2]], i: usize, j: usize, k: usize)
     requires { (i ≤ j) × (j < k) × (k ≤ length s.old) }
-    ensures { is s ≡ closed (set (was s) i (get_or (was s) j [])) j k }
+    ensures { s.new ≡ closed (set s.old i (get_or s.old j [])) j k }
 {
     s[i] = s[j];
     close_spot(s, j, k);

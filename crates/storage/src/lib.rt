@@ -1,4 +1,6 @@
 // The cell storage: find, append, take out, mark, walk. The pool is kept sorted by cell key.
+#![tactic(auto)]
+
 mod find;
 mod gap;
 mod pool;
@@ -11,7 +13,7 @@ pub use table::{drop_cell, enter_cell, has_key, mark_cell, rebuild};
 pub use walk::{list_end, next_run};
 
 // Places of a table, from one up to another that is not counted.
-#[derive(Drop)]
+#[derive(Clone, Copy)]
 pub struct Run {
     pub from: usize,
     pub to: usize,

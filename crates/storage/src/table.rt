@@ -1,6 +1,6 @@
 // The table of the cells in use: a row (key, mark) for each, in the order of the keys.
-ghost use Rattle.basics.specs.Words.{◌≤◌, ◌<◌, ◌≡◌, length, take};
-ghost use Rattle.basics.specs.Meaning.Lent.{was, is};
+ghost use Rattle.std.specs.Prelude.{◌≤◌, ◌<◌, ◌≡◌};
+ghost use Rattle.basics.specs.Words.{length, take};
 ghost use Rattle.basics.specs.Meaning.Says.{Says};
 ghost use Rattle.storage.specs.Inner.Keyed.{Sorted};
 ghost use Rattle.storage.specs.Meaning.Keyed.{under, written};
@@ -17,7 +17,7 @@ use crate::gap::{close_row, open_row};
 // Whether the row at a place is there and has the key.
 fn is_key(rows: &[[u64; 2]], k: usize, at: usize, key: u64) -> bool
     requires { k ≤ length rows.now }
-    ensures { Says result ((at < k) × (first (was rows) at ≡ key)) }
+    ensures { Says result ((at < k) × (first rows.now at ≡ key)) }
 {
     if k <= at {
         return false;
@@ -28,7 +28,7 @@ fn is_key(rows: &[[u64; 2]], k: usize, at: usize, key: u64) -> bool
 // Whether some row has the key.
 pub fn has_key(rows: &[[u64; 2]], k: usize, key: u64) -> bool
     requires { (k ≤ length rows.now) × Sorted row_key (take k rows.now) }
-    ensures { Says result (Filled (under row_key key (take k (was rows)))) }
+    ensures { Says result (Filled (under row_key key (take k rows.now))) }
 {
     let at = lower_bound(rows, k, key);
     is_key(rows, k, at, key)
@@ -37,7 +37,7 @@ pub fn has_key(rows: &[[u64; 2]], k: usize, key: u64) -> bool
 // The cell has a row: a new one has no mark. Returns how many rows there are.
 pub fn enter_cell(cells: &mut [[u64; 2]], rows: usize, key: u64) -> usize
     requires { (rows < length cells.old) × Sorted row_key (take rows cells.old) }
-    ensures { (result ≡ length (entered key (take rows (was cells)))) × (is cells ≡ written (entered key (take rows (was cells))) (was cells)) }
+    ensures { (result ≡ length (entered key (take rows cells.old))) × (cells.new ≡ written (entered key (take rows cells.old)) cells.old) }
 {
     let at = lower_bound(cells, rows, key);
     if is_key(cells, rows, at, key) {
@@ -50,7 +50,7 @@ pub fn enter_cell(cells: &mut [[u64; 2]], rows: usize, key: u64) -> usize
 // The cell has no row. Returns how many rows there are.
 pub fn drop_cell(cells: &mut [[u64; 2]], rows: usize, key: u64) -> usize
     requires { (rows ≤ length cells.old) × Rising row_key (take rows cells.old) }
-    ensures { (result ≡ length (dropped key (take rows (was cells)))) × (is cells ≡ written (dropped key (take rows (was cells))) (was cells)) }
+    ensures { (result ≡ length (dropped key (take rows cells.old))) × (cells.new ≡ written (dropped key (take rows cells.old)) cells.old) }
 {
     let at = lower_bound(cells, rows, key);
     if is_key(cells, rows, at, key) {
@@ -63,7 +63,7 @@ pub fn drop_cell(cells: &mut [[u64; 2]], rows: usize, key: u64) -> usize
 // The cell's mark is set, if it has a row.
 pub fn mark_cell(cells: &mut [[u64; 2]], rows: usize, key: u64)
     requires { (rows ≤ length cells.old) × Rising row_key (take rows cells.old) }
-    ensures { is cells ≡ written (marked key (take rows (was cells))) (was cells) }
+    ensures { cells.new ≡ written (marked key (take rows cells.old)) cells.old }
 {
     let at = lower_bound(cells, rows, key);
     if is_key(cells, rows, at, key) {
@@ -74,7 +74,7 @@ pub fn mark_cell(cells: &mut [[u64; 2]], rows: usize, key: u64)
 // Whether an entry begins a list.
 fn begins(pool: &[[u64; 2]], j: usize) -> bool
     requires { j < length pool.now }
-    ensures { Says result (Begins (was pool) j) }
+    ensures { Says result (Begins pool.now j) }
 {
     if j == 0 {
         return true;
@@ -85,7 +85,7 @@ fn begins(pool: &[[u64; 2]], j: usize) -> bool
 // The table of the pool, with no mark set. Returns how many rows there are.
 pub fn rebuild(cells: &mut [[u64; 2]], pool: &[[u64; 2]], used: usize) -> usize
     requires { (used ≤ length pool.now) × (length (fresh (take used pool.now)) ≤ length cells.old) }
-    ensures { (result ≡ length (fresh (take used (was pool)))) × (is cells ≡ written (fresh (take used (was pool))) (was cells)) }
+    ensures { (result ≡ length (fresh (take used pool.now))) × (cells.new ≡ written (fresh (take used pool.now)) cells.old) }
 {
     let mut rows = 0;
     let mut j = 0;

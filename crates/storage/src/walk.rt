@@ -1,7 +1,7 @@
 // The walk of a range of cells: the entries of one row of cells after those of another, each found by its place.
 // A range goes from the key `low` of the lower left cell to the key `high` of the upper right one.
-ghost use Rattle.basics.specs.Words.{◌≤◌, ◌<◌, ◌≡◌, true, length, take};
-ghost use Rattle.basics.specs.Meaning.Lent.{was};
+ghost use Rattle.std.specs.Prelude.{◌≤◌, ◌<◌, ◌≡◌};
+ghost use Rattle.basics.specs.Words.{true, length, take};
 ghost use Rattle.storage.specs.Inner.Keyed.{Sorted};
 ghost use Rattle.storage.specs.Meaning.Entries.{row_key};
 ghost use Rattle.storage.specs.Meaning.Packed.{first};
@@ -35,7 +35,7 @@ fn next_key(key: u64, low: u64, high: u64) -> u64
 // The first place from `i` on whose entry is in the range, or `used`.
 fn first_in(pool: &[[u64; 2]], used: usize, i: usize, low: u64, high: u64) -> usize
     requires { (i ≤ used) × (used ≤ length pool.now) × Sorted row_key (take used pool.now) }
-    ensures { FirstIn (was pool) used i (column_of low) (line_of low) (column_of high) (line_of high) result }
+    ensures { FirstIn pool.now used i (column_of low) (line_of low) (column_of high) (line_of high) result }
 {
     let mut p = i;
     while p < used {
@@ -55,7 +55,7 @@ fn first_in(pool: &[[u64; 2]], used: usize, i: usize, low: u64, high: u64) -> us
 // The end of the entries from `from` on that are in the row of cells of that entry, and in the range.
 fn run_end(pool: &[[u64; 2]], used: usize, from: usize, low: u64, high: u64) -> usize
     requires { (from < used) × (used ≤ length pool.now) × Sorted row_key (take used pool.now) × (in_range low high (first pool.now from) ≡ true) }
-    ensures { RunEnd (was pool) used from (column_of low) (line_of low) (column_of high) (line_of high) result }
+    ensures { RunEnd pool.now used from (column_of low) (line_of low) (column_of high) (line_of high) result }
 {
     let last = key_at(pool, from) / 4294967296 * 4294967296 + high % 4294967296;
     let mut to = from + 1;
@@ -71,7 +71,7 @@ fn run_end(pool: &[[u64; 2]], used: usize, from: usize, low: u64, high: u64) -> 
 // The next entries of the range from place `i` on: a stretch of the pool within one row of cells.
 pub fn next_run(pool: &[[u64; 2]], used: usize, i: usize, low: u64, high: u64) -> Run
     requires { (i ≤ used) × (used ≤ length pool.now) × Sorted row_key (take used pool.now) }
-    ensures { NextRun (was pool) used i (column_of low) (line_of low) (column_of high) (line_of high) result }
+    ensures { NextRun pool.now used i (column_of low) (line_of low) (column_of high) (line_of high) result }
 {
     let from = first_in(pool, used, i, low, high);
     if from == used {
@@ -87,7 +87,7 @@ pub fn next_run(pool: &[[u64; 2]], used: usize, i: usize, low: u64, high: u64) -
 // The end of the entries of the key that stand from `from` on.
 pub fn list_end(pool: &[[u64; 2]], from: usize, used: usize, key: u64) -> usize
     requires { (from ≤ used) × (used ≤ length pool.now) }
-    ensures { ListEnd (was pool) from used key result }
+    ensures { ListEnd pool.now from used key result }
 {
     let mut to = from;
     while to < used {

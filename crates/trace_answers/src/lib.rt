@@ -1,9 +1,14 @@
 // The two grids of the trace answer a request: a call of one of them, or for `cell` of both.
-ghost use Rattle.basics.specs.Words.{◌≡◌};
+#![tactic(auto)]
+
+ghost use Rattle.std.specs.Prelude.{◌≡◌};
 ghost use Rattle.trace_telling.specs.Inner.InRange.{InRange};
 ghost use Rattle.trace_telling.specs.Meaning.Tells.{tells, done_or};
 ghost use Rattle.trace_answers.specs.Meaning.Cell.{Builds};
 ghost use Rattle.trace_answers.specs.Inner.Answer.{Answers};
+ghost use Rattle.trace_answers.specs.Meaning.State.{state};
+ghost use Rattle.point_tables.specs.Meaning.Tables as PointTables;
+ghost use Rattle.box_tables.specs.Meaning.Tables as BoxTables;
 
 use slots::Row;
 use trace_boxes::{change_boxes, search_boxes};
@@ -36,7 +41,7 @@ pub fn cell(
     bpool: &[[u64; 2]],
     size: u32,
 ) -> Said
-    ensures { Builds size result nums reals ints map pool spots cells bnums breals bmap bpool }
+    ensures { Builds size result (PointTables.tables nums.old reals.now ints.now map.old pool.now spots.now cells.now) (BoxTables.tables bnums.old breals.now bmap.old bpool.now) (PointTables.tables nums.new reals.now ints.now map.new pool.now spots.now cells.now) (BoxTables.tables bnums.new breals.now bmap.new bpool.now) }
 {
     let a = points::new(nums, reals, ints, map, pool, spots, cells, size);
     let b = boxes::new(bnums, breals, bmap, bpool, size);
@@ -63,7 +68,7 @@ pub fn answer(
     r: Request,
 ) -> Said
     requires { InRange r }
-    ensures { Answers r result nums reals ints map pool spots cells bnums breals bmap bpool handles places corners objs }
+    ensures { Answers r result (state (PointTables.tables nums.old reals.old ints.old map.old pool.old spots.old cells.old) (BoxTables.tables bnums.old breals.old bmap.old bpool.old) handles.old places.old corners.old objs.old) (state (PointTables.tables nums.new reals.new ints.new map.new pool.new spots.new cells.new) (BoxTables.tables bnums.new breals.new bmap.new bpool.new) handles.new places.new corners.new objs.new) }
 {
     let line = r.line;
     match line {

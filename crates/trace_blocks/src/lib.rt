@@ -1,15 +1,18 @@
 // How far the trace program is, and the blocks that it reads and writes: on to the next record of its input, with room for one answer more.
-ghost use Rattle.basics.specs.Words.{◌<◌, ◌≤◌, ◌≡◌, true};
+#![tactic(auto)]
+
+ghost use Rattle.std.specs.Prelude.{◌<◌, ◌≤◌, ◌≡◌};
+ghost use Rattle.basics.specs.Words.{true};
 ghost use Rattle.trace_blocks.specs.Inner.Ready.{Fits, Ready};
 
-use libc::{STDIN_FILENO, STDOUT_FILENO};
+use std::io::{Read, Stdin, Stdout, Write};
 use trace_printing::LONGEST;
 use trace_splits::Splitter;
 
 mod records;
 
 // Where a walk came to; and if a record ended there, what is kept of it is the line's first `len` bytes.
-#[derive(Drop)]
+#[derive(Clone, Copy)]
 struct Found {
     state: Splitter,
     ended: bool,
@@ -19,7 +22,7 @@ struct Found {
 
 // How far the program is: `have` bytes in the block, of which those before `at` are used; `put` bytes of answers that are not written yet;
 // whether a record has ended, which is the line's first `len` bytes; whether there may be more to read.
-#[derive(Drop)]
+#[derive(Clone, Copy)]
 pub struct Progress {
     pub state: Splitter,
     pub have: usize,
@@ -62,13 +65,13 @@ pub fn answered(p: Progress, put: usize) -> Progress
 }
 
 // The answers so far are written. If nobody takes them there is nothing more to do.
-fn flush(out: &[u8; 65536], p: Progress) -> Progress
+fn flush(mut stdout: Stdout, out: &[u8; 65536], p: Progress) -> Progress
     requires { Fits p }
     ensures { Ready result }
 {
     let put = p.put;
     let all: &[u8] = out;
-    let taken = io::write_all(STDOUT_FILENO, &all[..put]);
+    let taken = stdout.write_all(&all[..put]).is_ok();
     let state = p.state;
     Progress {
         state,
@@ -82,7 +85,7 @@ fn flush(out: &[u8; 65536], p: Progress) -> Progress
 }
 
 // Room for one answer more; after the input's end, what is left is written.
-fn make_room(out: &[u8; 65536], p: Progress) -> Progress
+fn make_room(stdout: Stdout, out: &[u8; 65536], p: Progress) -> Progress
     requires { Fits p }
     ensures { Ready result }
 {
@@ -91,7 +94,7 @@ fn make_room(out: &[u8; 65536], p: Progress) -> Progress
             return p;
         }
     }
-    flush(out, p)
+    flush(stdout, out, p)
 }
 
 // The input has ended: what stands in the line is the last record.
@@ -112,13 +115,12 @@ fn finish(line: &[u8; 130], p: Progress) -> Progress
     }
 }
 
-// The next block, or the input's end.
-fn read_block(line: &[u8; 130], block: &mut [u8; 65536], p: Progress) -> Progress
+// The next block, or the input's end. A read that fails is the end.
+fn read_block(mut stdin: Stdin, line: &[u8; 130], block: &mut [u8; 65536], p: Progress) -> Progress
     requires { Ready p }
     ensures { Ready result }
 {
-    let got = libc::read(STDIN_FILENO, block);
-    let have = io::count(got, block);
+    let have = stdin.read(block).unwrap_or(0);
     if have == 0 {
         return finish(line, p);
     }
@@ -135,13 +137,20 @@ fn read_block(line: &[u8; 130], block: &mut [u8; 65536], p: Progress) -> Progres
 }
 
 // What is written so far is not kept back while the program waits for more.
-fn refill(line: &[u8; 130], block: &mut [u8; 65536], out: &[u8; 65536], p: Progress) -> Progress
+fn refill(
+    stdin: Stdin,
+    stdout: Stdout,
+    line: &[u8; 130],
+    block: &mut [u8; 65536],
+    out: &[u8; 65536],
+    p: Progress,
+) -> Progress
     requires { Ready p }
     ensures { Ready result }
 {
-    let q = flush(out, p);
+    let q = flush(stdout, out, p);
     if q.open {
-        return read_block(line, block, q);
+        return read_block(stdin, line, block, q);
     }
     q
 }
@@ -168,6 +177,8 @@ fn seek(line: &mut [u8; 130], block: &[u8; 65536], p: Progress) -> Progress
 
 // Reads on where the block has no whole record more, and seeks there.
 fn further(
+    stdin: Stdin,
+    stdout: Stdout,
     line: &mut [u8; 130],
     block: &mut [u8; 65536],
     out: &[u8; 65536],
@@ -176,7 +187,7 @@ fn further(
     requires { Ready p }
     ensures { Ready result }
 {
-    let q = refill(line, block, out, p);
+    let q = refill(stdin, stdout, line, block, out, p);
     if q.open {
         return seek(line, block, q);
     }
@@ -186,6 +197,8 @@ fn further(
 // On to the next record, or to the end. A proved loop has to end, and nothing says that an input does: it counts its turns down from a
 // number that no run uses up.
 pub fn advance(
+    stdin: Stdin,
+    stdout: Stdout,
     line: &mut [u8; 130],
     block: &mut [u8; 65536],
     out: &[u8; 65536],
@@ -194,10 +207,10 @@ pub fn advance(
     requires { Fits p }
     ensures { Ready result }
 {
-    let mut q = seek(line, block, make_room(out, p));
+    let mut q = seek(line, block, make_room(stdout, out, p));
     let mut turns = u64::MAX;
     while turns > 0 && q.open && !q.ended {
-        q = further(line, block, out, q);
+        q = further(stdin, stdout, line, block, out, q);
         turns -= 1;
     }
     q

@@ -1,6 +1,6 @@
 // The records of the input out of its blocks, so that a record may begin in one block and end in another.
-ghost use Rattle.basics.specs.Words.{◌≡◌, length, drop};
-ghost use Rattle.basics.specs.Meaning.Lent.{was, is};
+ghost use Rattle.std.specs.Prelude.{◌≡◌};
+ghost use Rattle.basics.specs.Words.{length, drop};
 ghost use Rattle.trace_splits.specs.Meaning.Sofar.{sofar};
 ghost use Rattle.trace_blocks.specs.Meaning.Next.{next_found, next_of};
 
@@ -9,7 +9,7 @@ use trace_splits::Splitter;
 
 // From place `from` of the block up to the end of a record, or of the block.
 pub fn next_record(line: &mut [u8], state: Splitter, block: &[u8], from: usize) -> Found
-    ensures { next_found (is line) result ≡ next_of (length (was line)) (sofar (was line) state) from (drop from (was block)) }
+    ensures { next_found line.new result ≡ next_of (length line.old) (sofar line.old state) from (drop from block.now) }
 {
     let mut so_far = state;
     let mut at = from;

@@ -1,11 +1,12 @@
 // What the box grid of the trace answers to a line: each is one call of the grid.
-ghost use Rattle.basics.specs.Words.{◌≡◌};
-ghost use Rattle.basics.specs.Meaning.Lent.{was, is};
+#![tactic(auto)]
+
+ghost use Rattle.std.specs.Prelude.{◌≡◌};
 ghost use Rattle.trace_lines.specs.Inner.Texts.{SpotInRange};
-ghost use Rattle.box_tables.specs.Meaning.Lent.{after, before};
 ghost use Rattle.box_tables.specs.Meaning.Outcome.{outcome};
 ghost use Rattle.trace_boxes.specs.Meaning.Changes.{change_of, inserted_of, placed_of, taken_of};
 ghost use Rattle.trace_boxes.specs.Meaning.Searches.{searched, box_search_of};
+ghost use Rattle.box_tables.specs.Meaning.Tables.{tables};
 
 use slots::{Handle, Row};
 use trace_lines::{BoxChange, Spot};
@@ -21,7 +22,7 @@ fn bin(
     obj: u32,
 ) -> Said
     requires { SpotInRange ll × SpotInRange ur }
-    ensures { outcome result (after nums reals map pool) ≡ inserted_of (before nums reals map pool) ll ur obj }
+    ensures { outcome result (tables nums.new reals.new map.new pool.new) ≡ inserted_of (tables nums.old reals.old map.old pool.old) ll ur obj }
 {
     let b = trace_telling::corners(ll, ur);
     let r = boxes::insert(nums, reals, map, pool, b, obj);
@@ -39,7 +40,7 @@ fn bset(
     ur: Spot,
 ) -> Said
     requires { SpotInRange ll × SpotInRange ur }
-    ensures { outcome result (after nums reals map pool) ≡ placed_of (before nums reals map pool) h ll ur }
+    ensures { outcome result (tables nums.now reals.new map.new pool.new) ≡ placed_of (tables nums.now reals.old map.old pool.old) h ll ur }
 {
     let b = trace_telling::corners(ll, ur);
     let answer = boxes::set_aabb(nums, reals, map, pool, h, b);
@@ -53,7 +54,7 @@ fn brem(
     pool: &mut [[u64; 2]],
     h: Handle,
 ) -> Said
-    ensures { outcome result (after nums reals map pool) ≡ taken_of (before nums reals map pool) h }
+    ensures { outcome result (tables nums.new reals.now map.new pool.new) ≡ taken_of (tables nums.old reals.now map.old pool.old) h }
 {
     let r = boxes::remove(nums, reals, map, pool, h);
     trace_telling::one(r.answer, r.obj)
@@ -72,7 +73,7 @@ pub fn change_boxes(
     n: u32,
 ) -> Said
     requires { SpotInRange p × SpotInRange q }
-    ensures { outcome result (after nums reals map pool) ≡ change_of (before nums reals map pool) k h p q n }
+    ensures { outcome result (tables nums.new reals.new map.new pool.new) ≡ change_of (tables nums.old reals.old map.old pool.old) k h p q n }
 {
     match k {
         BoxChange::Bin => bin(nums, reals, map, pool, p, q, n),
@@ -93,7 +94,7 @@ pub fn search_boxes(
     corners: &mut [[f32; 4]],
 ) -> Said
     requires { SpotInRange ll × SpotInRange ur }
-    ensures { searched result (is handles) (is corners) ≡ box_search_of (before nums reals map pool) ll ur (was handles) (was corners) }
+    ensures { searched result handles.new corners.new ≡ box_search_of (tables nums.now reals.now map.now pool.now) ll ur handles.old corners.old }
 {
     let q = trace_telling::corners(ll, ur);
     let mut objs = [0u32; 64];

@@ -1,20 +1,22 @@
 // Decimals in the fields of a record: read from a part of a slice, and written into one from a place on.
-ghost use Rattle.basics.specs.Words.{◌+◌, ◌-◌, ◌≤◌, ◌<◌, ◌≡◌, [], ◌∷◌, length, slice, nat_abs};
-ghost use Rattle.basics.specs.Meaning.Lent.{was, is};
+#![tactic(auto)]
+
+ghost use Rattle.std.specs.Prelude.{◌+◌, ◌-◌, ◌≤◌, ◌<◌, ◌≡◌, ◌∷◌};
+ghost use Rattle.basics.specs.Words.{[], length, slice, nat_abs};
 ghost use Rattle.trace_decimals.specs.Meaning.Text.{decimal, signed_text};
-ghost use Rattle.trace_decimals.specs.Meaning.Fields.{digits_from, up_to, number_of, count_of, plain as Fields·plain, negative as Fields·negative};
+ghost use Rattle.trace_decimals.specs.Meaning.Fields.{digits_from, up_to, number_of, count_of, plain as Fields-plain, negative as Fields-negative};
 ghost use Rattle.trace_decimals.specs.Inner.Fields.{Short};
 ghost use Rattle.trace_decimals.specs.Meaning.Written.{buffer, put_text};
 
 // What a field reads as.
-#[derive(Drop)]
+#[derive(Clone, Copy)]
 pub enum Number {
     Read(u32),
     Unreadable,
 }
 
 // What a field reads as that holds a count of sixteenths.
-#[derive(Drop)]
+#[derive(Clone, Copy)]
 pub enum Count {
     Counted(i32),
     NoCount,
@@ -30,7 +32,7 @@ fn digit(c: u8) -> u64
 // The digits of b from `from` to `to`, none of which takes the number past `most`.
 fn read_digits(b: &[u8], from: usize, to: usize, most: u32) -> Number
     requires { (from ≤ to) × (to ≤ length b.now) }
-    ensures { result ≡ digits_from most 0 (slice from to (was b)) }
+    ensures { result ≡ digits_from most 0 (slice from to b.now) }
 {
     let limit = most as u64;
     let mut v: u64 = 0;
@@ -53,16 +55,19 @@ fn read_digits(b: &[u8], from: usize, to: usize, most: u32) -> Number
     Number::Read(v as u32)
 }
 
+// The byte with which a number of several digits does not begin.
+const ZERO: u8 = 48;
+
 // The number up to `most` in the bytes of b from `from` to `to`.
 fn read_up_to(b: &[u8], from: usize, to: usize, most: u32) -> Number
     requires { (from ≤ to) × (to ≤ length b.now) }
-    ensures { result ≡ up_to most (slice from to (was b)) }
+    ensures { result ≡ up_to most (slice from to b.now) }
 {
     if from == to {
         return Number::Unreadable;
     }
     if from + 1 < to {
-        if b[from] == 48 {
+        if b[from] == ZERO {
             return Number::Unreadable;
         }
     }
@@ -72,7 +77,7 @@ fn read_up_to(b: &[u8], from: usize, to: usize, most: u32) -> Number
 // The number in the bytes of b from `from` to `to`.
 pub fn read_number(b: &[u8], from: usize, to: usize) -> Number
     requires { (from ≤ to) × (to ≤ length b.now) }
-    ensures { result ≡ number_of (slice from to (was b)) }
+    ensures { result ≡ number_of (slice from to b.now) }
 {
     read_up_to(b, from, to, 4294967295)
 }
@@ -80,7 +85,7 @@ pub fn read_number(b: &[u8], from: usize, to: usize) -> Number
 // What was read with no minus before it.
 fn plain(n: Number) -> Count
     requires { Short n }
-    ensures { result ≡ Fields·plain n }
+    ensures { result ≡ Fields-plain n }
 {
     match n {
         Number::Read(v) => Count::Counted(v as i32),
@@ -91,7 +96,7 @@ fn plain(n: Number) -> Count
 // What was read behind a minus.
 fn negative(n: Number) -> Count
     requires { Short n }
-    ensures { result ≡ Fields·negative n }
+    ensures { result ≡ Fields-negative n }
 {
     match n {
         Number::Read(v) => {
@@ -107,7 +112,7 @@ fn negative(n: Number) -> Count
 // The count of sixteenths in the bytes of b from `from` to `to`.
 pub fn read_count(b: &[u8], from: usize, to: usize) -> Count
     requires { (from ≤ to) × (to ≤ length b.now) }
-    ensures { result ≡ count_of (slice from to (was b)) }
+    ensures { result ≡ count_of (slice from to b.now) }
 {
     if from == to {
         return Count::NoCount;
@@ -121,7 +126,7 @@ pub fn read_count(b: &[u8], from: usize, to: usize) -> Count
 // One byte at `at`, as all that is written here: answers where the next one goes.
 pub fn put_byte(out: &mut [u8], at: usize, c: u8) -> usize
     requires { at < length out.old }
-    ensures { buffer (is out) result ≡ put_text (buffer (was out) at) (c ∷ []) }
+    ensures { buffer out.new result ≡ put_text (buffer out.old at) (c ∷ []) }
 {
     out[at] = c;
     at + 1
@@ -137,7 +142,7 @@ fn digit_of(d: u32) -> u8
 // The digits of n.
 fn put_digits(out: &mut [u8], at: usize, n: u32) -> usize
     requires { at + length (decimal n) ≤ length out.old }
-    ensures { buffer (is out) result ≡ put_text (buffer (was out) at) (decimal n) }
+    ensures { buffer out.new result ≡ put_text (buffer out.old at) (decimal n) }
 {
     let last = digit_of(n % 10);
     if n < 10 {
@@ -150,7 +155,7 @@ fn put_digits(out: &mut [u8], at: usize, n: u32) -> usize
 // n in decimal. The longest text has 10 digits.
 pub fn put_number(out: &mut [u8], at: usize, n: u32) -> usize
     requires { at + 10 ≤ length out.old }
-    ensures { buffer (is out) result ≡ put_text (buffer (was out) at) (decimal n) }
+    ensures { buffer out.new result ≡ put_text (buffer out.old at) (decimal n) }
 {
     put_digits(out, at, n)
 }
@@ -167,7 +172,7 @@ fn magnitude(k: i32) -> u32
 // k in decimal. The longest text has a minus and 10 digits.
 pub fn put_count(out: &mut [u8], at: usize, k: i32) -> usize
     requires { at + 11 ≤ length out.old }
-    ensures { buffer (is out) result ≡ put_text (buffer (was out) at) (signed_text k) }
+    ensures { buffer out.new result ≡ put_text (buffer out.old at) (signed_text k) }
 {
     if k < 0 {
         let next = put_byte(out, at, 45);

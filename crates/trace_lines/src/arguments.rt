@@ -1,8 +1,8 @@
 // What the word of a record asks for, and no field more.
-ghost use Rattle.basics.specs.Words.{◌≤◌, ◌≡◌, length};
-ghost use Rattle.basics.specs.Meaning.Lent.{was};
+ghost use Rattle.std.specs.Prelude.{◌≤◌, ◌≡◌};
+ghost use Rattle.basics.specs.Words.{length};
 ghost use Rattle.trace_lines.specs.Meaning.Taken.{taken};
-ghost use Rattle.trace_lines.specs.Meaning.Requests.{arguments_of, unreadable as Requests·unreadable, whole as Requests·whole};
+ghost use Rattle.trace_lines.specs.Meaning.Requests.{arguments_of, unreadable as Requests-unreadable, whole as Requests-whole};
 ghost use Rattle.trace_lines.specs.Inner.Cursor.{fields_from};
 
 use crate::fields::{count_if, handle_if, number_if, spots_if};
@@ -10,7 +10,7 @@ use crate::{Asks, Line, Request, Spot, TakenCount, TakenHandle, TakenNumber, Tak
 use slots::Handle;
 
 pub fn unreadable() -> Request
-    ensures { result ≡ Requests·unreadable }
+    ensures { result ≡ Requests-unreadable }
 {
     let h = Handle {
         slot: 0,
@@ -30,7 +30,7 @@ pub fn unreadable() -> Request
 
 // The request, if no field is left.
 fn whole(b: &[u8], at: usize, r: Request) -> Request
-    ensures { result ≡ Requests·whole (taken r (fields_from (was b) at)) }
+    ensures { result ≡ Requests-whole (taken r (fields_from b.now at)) }
 {
     if b.len() < at {
         return r;
@@ -41,7 +41,7 @@ fn whole(b: &[u8], at: usize, r: Request) -> Request
 // What is behind the word.
 pub fn arguments(asks: Asks, b: &[u8], at: usize) -> Request
     requires { length b.now ≤ 128 }
-    ensures { result ≡ Requests·whole (arguments_of asks (fields_from (was b) at)) }
+    ensures { result ≡ Requests-whole (arguments_of asks (fields_from b.now at)) }
 {
     let line = asks.line;
     let first = handle_if(b, at, asks.handle);

@@ -1,6 +1,6 @@
 // The fields of a record from a place on: a number, a count, a spot, a handle, as they are asked for. No field is past the record's end.
-ghost use Rattle.basics.specs.Words.{◌≤◌, ◌≡◌, length, pos};
-ghost use Rattle.basics.specs.Meaning.Lent.{was};
+ghost use Rattle.std.specs.Prelude.{◌≤◌, ◌≡◌};
+ghost use Rattle.basics.specs.Words.{length, pos};
 ghost use Rattle.trace_lines.specs.Meaning.Taken.{take_number, take_count, take_spot, take_handle, if_asked, nobody, no_spot, take_places};
 ghost use Rattle.trace_lines.specs.Inner.Cursor.{end_from, fields_from, number_taken, count_taken, spot_taken, spots_taken, handle_taken};
 
@@ -11,7 +11,7 @@ use trace_decimals::{Count, Number};
 // Where the field that begins at `at` ends: at a comma, or with the record.
 pub fn field_end(b: &[u8], at: usize) -> usize
     requires { at ≤ length b.now }
-    ensures { result ≡ end_from (was b) at }
+    ensures { result ≡ end_from b.now at }
 {
     let mut i = at;
     while i < b.len() {
@@ -26,7 +26,7 @@ pub fn field_end(b: &[u8], at: usize) -> usize
 // Where a field is not asked for none is taken, and the value is zero.
 pub fn number_if(b: &[u8], at: usize, asked: bool) -> TakenNumber
     requires { length b.now ≤ 128 }
-    ensures { number_taken (was b) result ≡ if_asked asked 0 take_number (fields_from (was b) at) }
+    ensures { number_taken b.now result ≡ if_asked asked 0 take_number (fields_from b.now at) }
 {
     if !asked {
         return TakenNumber::At(0, at);
@@ -44,7 +44,7 @@ pub fn number_if(b: &[u8], at: usize, asked: bool) -> TakenNumber
 
 pub fn count_if(b: &[u8], at: usize, asked: bool) -> TakenCount
     requires { length b.now ≤ 128 }
-    ensures { count_taken (was b) result ≡ if_asked asked (pos 0) take_count (fields_from (was b) at) }
+    ensures { count_taken b.now result ≡ if_asked asked (pos 0) take_count (fields_from b.now at) }
 {
     if !asked {
         return TakenCount::At(0, at);
@@ -62,7 +62,7 @@ pub fn count_if(b: &[u8], at: usize, asked: bool) -> TakenCount
 
 pub fn handle_if(b: &[u8], at: usize, asked: bool) -> TakenHandle
     requires { length b.now ≤ 128 }
-    ensures { handle_taken (was b) result ≡ if_asked asked nobody take_handle (fields_from (was b) at) }
+    ensures { handle_taken b.now result ≡ if_asked asked nobody take_handle (fields_from b.now at) }
 {
     let first = number_if(b, at, asked);
     let TakenNumber::At(slot, next) = first else {
@@ -77,7 +77,7 @@ pub fn handle_if(b: &[u8], at: usize, asked: bool) -> TakenHandle
 
 fn spot_if(b: &[u8], at: usize, asked: bool) -> TakenSpot
     requires { length b.now ≤ 128 }
-    ensures { spot_taken (was b) result ≡ if_asked asked no_spot take_spot (fields_from (was b) at) }
+    ensures { spot_taken b.now result ≡ if_asked asked no_spot take_spot (fields_from b.now at) }
 {
     let first = count_if(b, at, asked);
     let TakenCount::At(x, next) = first else {
@@ -93,7 +93,7 @@ fn spot_if(b: &[u8], at: usize, asked: bool) -> TakenSpot
 // So many places, of two.
 pub fn spots_if(b: &[u8], at: usize, places: u32) -> TakenSpots
     requires { length b.now ≤ 128 }
-    ensures { spots_taken (was b) result ≡ take_places places (fields_from (was b) at) }
+    ensures { spots_taken b.now result ≡ take_places places (fields_from b.now at) }
 {
     let first = spot_if(b, at, 0 < places);
     let TakenSpot::At(p, next) = first else {

@@ -1,7 +1,9 @@
 // A record of the trace read as a request: its word, then what the word asks for, field by field.
-ghost use Rattle.basics.specs.Words.{◌≤◌, ◌≡◌, length, take};
-ghost use Rattle.basics.specs.Meaning.Lent.{was};
-ghost use Rattle.trace_lines.specs.Meaning.Words.{word_row as Words·row, row_says, point_changes, point_searches, box_lines, found_in, asked_by};
+#![tactic(auto)]
+
+ghost use Rattle.std.specs.Prelude.{◌≤◌, ◌≡◌};
+ghost use Rattle.basics.specs.Words.{length, take};
+ghost use Rattle.trace_lines.specs.Meaning.Words.{word_row as Words-row, row_says, point_changes, point_searches, box_lines, found_in, asked_by};
 ghost use Rattle.trace_lines.specs.Meaning.Requests.{request_of};
 
 use slots::Handle;
@@ -11,7 +13,7 @@ mod fields;
 mod words;
 
 // The lines that change the points, those that search them, and those that change the boxes.
-#[derive(Drop)]
+#[derive(Clone, Copy)]
 pub enum PointChange {
     Ins,
     Pos,
@@ -20,7 +22,7 @@ pub enum PointChange {
     Mnt,
 }
 
-#[derive(Drop)]
+#[derive(Clone, Copy)]
 pub enum PointSearch {
     Cir,
     Rec,
@@ -28,7 +30,7 @@ pub enum PointSearch {
     Near,
 }
 
-#[derive(Drop)]
+#[derive(Clone, Copy)]
 pub enum BoxChange {
     Bin,
     Bset,
@@ -36,7 +38,7 @@ pub enum BoxChange {
 }
 
 // What a line is for, by grid and kind. One line searches the boxes, and `cell` is for both grids.
-#[derive(Drop)]
+#[derive(Clone, Copy)]
 pub enum Line {
     Cell,
     PointChange(PointChange),
@@ -47,7 +49,7 @@ pub enum Line {
 }
 
 // What a word asks for: slot and version, so many places, a radius, one more number, a tracker; in this order.
-#[derive(Drop)]
+#[derive(Clone, Copy)]
 pub struct Asks {
     pub line: Line,
     pub handle: bool,
@@ -58,14 +60,14 @@ pub struct Asks {
 }
 
 // A place by its counts of sixteenths.
-#[derive(Drop)]
+#[derive(Clone, Copy)]
 pub struct Spot {
     pub x: i32,
     pub y: i32,
 }
 
 // What is not asked for is zero. The number is n, the tracker's number k.
-#[derive(Drop)]
+#[derive(Clone, Copy)]
 pub struct Request {
     pub line: Line,
     pub h: Handle,
@@ -77,31 +79,31 @@ pub struct Request {
 }
 
 // What was taken from a place on, and the place of the next field.
-#[derive(Drop)]
+#[derive(Clone, Copy)]
 pub enum TakenNumber {
     At(u32, usize),
     Missing,
 }
 
-#[derive(Drop)]
+#[derive(Clone, Copy)]
 pub enum TakenCount {
     At(i32, usize),
     Missing,
 }
 
-#[derive(Drop)]
+#[derive(Clone, Copy)]
 pub enum TakenSpot {
     At(Spot, usize),
     Missing,
 }
 
-#[derive(Drop)]
+#[derive(Clone, Copy)]
 pub enum TakenSpots {
     At(Spot, Spot, usize),
     Missing,
 }
 
-#[derive(Drop)]
+#[derive(Clone, Copy)]
 pub enum TakenHandle {
     At(Handle, usize),
     Missing,
@@ -119,7 +121,7 @@ fn row(
     number: bool,
     tracker: bool,
 ) -> Asks
-    ensures { result ≡ row_says (Words·row (was w) line handle places radius number tracker) (was word) others }
+    ensures { result ≡ row_says (Words-row w.now line handle places radius number tracker) word.now others }
 {
     if words::same(word, w) {
         return Asks {
@@ -136,7 +138,7 @@ fn row(
 
 // The table of words, by grid and kind: slot and version, places, radius, number, tracker. The last row is looked at first.
 fn point_changes(word: &[u8], t: Asks) -> Asks
-    ensures { result ≡ found_in point_changes (was word) t }
+    ensures { result ≡ found_in point_changes word.now t }
 {
     let k = Line::PointChange(PointChange::Mnt);
     let t = row(word, t, b"mnt", k, false, 0, false, false, false);
@@ -151,7 +153,7 @@ fn point_changes(word: &[u8], t: Asks) -> Asks
 }
 
 fn point_searches(word: &[u8], t: Asks) -> Asks
-    ensures { result ≡ found_in point_searches (was word) t }
+    ensures { result ≡ found_in point_searches word.now t }
 {
     let k = Line::PointSearch(PointSearch::Near);
     let t = row(word, t, b"near", k, false, 1, true, false, false);
@@ -164,7 +166,7 @@ fn point_searches(word: &[u8], t: Asks) -> Asks
 }
 
 fn box_lines(word: &[u8], t: Asks) -> Asks
-    ensures { result ≡ found_in box_lines (was word) t }
+    ensures { result ≡ found_in box_lines word.now t }
 {
     let k = Line::BoxSearch;
     let t = row(word, t, b"bqry", k, false, 2, false, false, false);
@@ -178,7 +180,7 @@ fn box_lines(word: &[u8], t: Asks) -> Asks
 
 // What a word asks for; any other word is unreadable and asks for nothing.
 fn asked(word: &[u8]) -> Asks
-    ensures { result ≡ asked_by (was word) }
+    ensures { result ≡ asked_by word.now }
 {
     let t = Asks {
         line: Line::Unreadable,
@@ -197,7 +199,7 @@ fn asked(word: &[u8]) -> Asks
 // A record that is not too long.
 fn read_short(b: &[u8]) -> Request
     requires { length b.now ≤ 128 }
-    ensures { result ≡ request_of (was b) }
+    ensures { result ≡ request_of b.now }
 {
     let end = fields::field_end(b, 0);
     let k = asked(&b[..end]);
@@ -205,7 +207,7 @@ fn read_short(b: &[u8]) -> Request
 }
 
 fn read_record(b: &[u8]) -> Request
-    ensures { result ≡ request_of (was b) }
+    ensures { result ≡ request_of b.now }
 {
     if 128 < b.len() {
         return arguments::unreadable();
@@ -215,7 +217,7 @@ fn read_record(b: &[u8]) -> Request
 
 // The record that is the first `len` bytes of the line.
 pub fn read(line: &[u8], len: usize) -> Request
-    ensures { result ≡ request_of (take len (was line)) }
+    ensures { result ≡ request_of (take len line.now) }
 {
     if len <= line.len() {
         return read_record(&line[..len]);

@@ -1,10 +1,9 @@
 // Whether a word is another.
-ghost use Rattle.basics.specs.Words.{◌≡◌};
-ghost use Rattle.basics.specs.Meaning.Lent.{was};
+ghost use Rattle.std.specs.Prelude.{◌≡◌};
 ghost use Rattle.trace_lines.specs.Meaning.Words.{same_bytes};
 
 pub fn same(word: &[u8], w: &[u8]) -> bool
-    ensures { result ≡ same_bytes (was word) (was w) }
+    ensures { result ≡ same_bytes word.now w.now }
 {
     if word.len() != w.len() {
         return false;

@@ -1,12 +1,14 @@
 // What the point grid of the trace answers to a line: each is one call of the grid.
-ghost use Rattle.basics.specs.Words.{◌≡◌};
+#![tactic(auto)]
+
+ghost use Rattle.std.specs.Prelude.{◌≡◌};
 ghost use Rattle.trace_lines.specs.Inner.Texts.{SpotInRange, CountInRange};
-ghost use Rattle.point_tables.specs.Meaning.Lent.{after, before};
 ghost use Rattle.point_tables.specs.Meaning.Outcome.{outcome};
 ghost use Rattle.trace_points.specs.Meaning.Changes.{change_of, moved_of, inserted_of, taken_of, marked_of, maintained_of};
 ghost use Rattle.trace_points.specs.Meaning.Searches.{searched, nearest_finds, findings_of, point_search_of};
-ghost use Rattle.point_search.specs.Meaning.Searches.{findings};
-ghost use Rattle.point_search.specs.Meaning.Lent.{outputs_before, outputs_after, Finds};
+ghost use Rattle.point_search.specs.Meaning.Searches.{findings, outputs};
+ghost use Rattle.point_search.specs.Meaning.Lent.{Finds};
+ghost use Rattle.point_tables.specs.Meaning.Tables.{tables};
 
 use geometry::Position;
 use replies::{Count, Nearest};
@@ -27,7 +29,7 @@ fn ins(
     tracker: u32,
 ) -> Said
     requires { SpotInRange at }
-    ensures { outcome result (after nums reals ints map pool spots cells) ≡ inserted_of (before nums reals ints map pool spots cells) at obj tracker }
+    ensures { outcome result (tables nums.new reals.new ints.new map.new pool.new spots.new cells.new) ≡ inserted_of (tables nums.old reals.old ints.old map.old pool.old spots.old cells.old) at obj tracker }
 {
     let p = trace_telling::place(at);
     let r = points::insert(nums, reals, ints, map, pool, spots, cells, p, obj, tracker);
@@ -48,7 +50,7 @@ fn pos(
     tracker: u32,
 ) -> Said
     requires { SpotInRange at }
-    ensures { outcome result (after nums reals ints map pool spots cells) ≡ moved_of (before nums reals ints map pool spots cells) h at tracker }
+    ensures { outcome result (tables nums.new reals.new ints.new map.now pool.now spots.now cells.new) ≡ moved_of (tables nums.old reals.old ints.old map.now pool.now spots.now cells.old) h at tracker }
 {
     let p = trace_telling::place(at);
     let answer = points::set_position(nums, reals, ints, map, pool, spots, cells, h, p, tracker);
@@ -66,7 +68,7 @@ fn rem(
     h: Handle,
     tracker: u32,
 ) -> Said
-    ensures { outcome result (after nums reals ints map pool spots cells) ≡ marked_of (before nums reals ints map pool spots cells) h tracker }
+    ensures { outcome result (tables nums.new reals.new ints.new map.now pool.now spots.now cells.new) ≡ marked_of (tables nums.old reals.old ints.old map.now pool.now spots.now cells.old) h tracker }
 {
     let r = points::remove(nums, reals, ints, map, pool, spots, cells, h, tracker);
     trace_telling::one(r.answer, r.obj)
@@ -83,7 +85,7 @@ fn now(
     h: Handle,
     tracker: u32,
 ) -> Said
-    ensures { outcome result (after nums reals ints map pool spots cells) ≡ taken_of (before nums reals ints map pool spots cells) h tracker }
+    ensures { outcome result (tables nums.new reals.now ints.now map.new pool.new spots.new cells.new) ≡ taken_of (tables nums.old reals.now ints.now map.old pool.old spots.old cells.old) h tracker }
 {
     let r = points::remove_maintain(nums, reals, ints, map, pool, spots, cells, h, tracker);
     trace_telling::one(r.answer, r.obj)
@@ -98,7 +100,7 @@ fn mnt(
     spots: &mut [[f32; 2]],
     cells: &mut [[u64; 2]],
 ) -> Said
-    ensures { outcome result (after nums reals ints map pool spots cells) ≡ maintained_of (before nums reals ints map pool spots cells) }
+    ensures { outcome result (tables nums.new reals.new ints.new map.new pool.new spots.new cells.new) ≡ maintained_of (tables nums.old reals.old ints.old map.old pool.old spots.old cells.old) }
 {
     let r = points::maintain(nums, reals, ints, map, pool, spots, cells);
     trace_telling::two(r.answer, r.moved, r.removed)
@@ -120,7 +122,7 @@ pub fn change_points(
     k: u32,
 ) -> Said
     requires { SpotInRange p }
-    ensures { outcome result (after nums reals ints map pool spots cells) ≡ change_of (before nums reals ints map pool spots cells) change h p n k }
+    ensures { outcome result (tables nums.new reals.new ints.new map.new pool.new spots.new cells.new) ≡ change_of (tables nums.old reals.old ints.old map.old pool.old spots.old cells.old) change h p n k }
 {
     match change {
         PointChange::Ins => ins(nums, reals, ints, map, pool, spots, cells, p, n, k),
@@ -138,7 +140,7 @@ fn near(
     places: &mut [[f32; 2]],
     objs: &mut [[u32; 2]],
 ) -> Count
-    ensures { findings result (outputs_after handles places objs) ≡ nearest_finds r (outputs_before handles places objs) }
+    ensures { findings result (outputs handles.new places.new objs.new) ≡ nearest_finds r (outputs handles.old places.old objs.old) }
 {
     let answer = r.answer;
     let count = r.count;
@@ -173,7 +175,7 @@ fn find(
     places: &mut [[f32; 2]],
     objs: &mut [[u32; 2]],
 ) -> Count
-    ensures { Finds (λ t. findings_of t s p q far) result handles places objs nums reals ints map pool spots cells }
+    ensures { Finds (λ t. findings_of t s p q far) result (tables nums.now reals.now ints.now map.now pool.now spots.now cells.now) (outputs handles.old places.old objs.old) (outputs handles.new places.new objs.new) }
 {
     match s {
         PointSearch::Cir => {
@@ -216,7 +218,7 @@ pub fn search_points(
     objs: &mut [[u32; 2]],
 ) -> Said
     requires { (SpotInRange p × SpotInRange q) × CountInRange far }
-    ensures { searched result (outputs_after handles places objs) ≡ point_search_of (before nums reals ints map pool spots cells) s p q far (outputs_before handles places objs) }
+    ensures { searched result (outputs handles.new places.new objs.new) ≡ point_search_of (tables nums.now reals.now ints.now map.now pool.now spots.now cells.now) s p q far (outputs handles.old places.old objs.old) }
 {
     let a = trace_telling::place(p);
     let b = trace_telling::place(q);

@@ -1,6 +1,8 @@
 // An answer as a record of the trace: decimal numbers with commas between them, CR LF at the end.
-ghost use Rattle.basics.specs.Words.{◌+◌, ◌*◌, ◌≤◌, ◌++◌, length};
-ghost use Rattle.basics.specs.Meaning.Lent.{was, is};
+#![tactic(auto)]
+
+ghost use Rattle.std.specs.Prelude.{◌+◌, ◌*◌, ◌≤◌, ◌++◌};
+ghost use Rattle.basics.specs.Words.{length};
 ghost use Rattle.trace_printing.specs.Meaning.Said.{number_field, coordinate_field, pair_text, place_text, corners_text, points_text, boxes_text};
 ghost use Rattle.trace_printing.specs.Meaning.Said.{said_text, record_text, longest};
 ghost use Rattle.trace_printing.specs.Inner.Said.{longest_said, Told};
@@ -11,7 +13,7 @@ ghost use Rattle.trace_decimals.specs.Meaning.Text.{decimal};
 pub const LONGEST: usize = 18000;
 
 // What a request got: its answer, and after a 0 what there is to tell. Points and Boxes are findings, so many of them.
-#[derive(Drop)]
+#[derive(Clone, Copy)]
 pub enum Said {
     Refused(u32),
     Done,
@@ -23,7 +25,7 @@ pub enum Said {
 
 fn put_first(out: &mut [u8], at: usize, n: u32) -> usize
     requires { at + 10 ≤ length out.old }
-    ensures { Puts (was out) at (is out) result (decimal n) 10 }
+    ensures { Puts out.old at out.new result (decimal n) 10 }
 {
     trace_decimals::put_number(out, at, n)
 }
@@ -31,7 +33,7 @@ fn put_first(out: &mut [u8], at: usize, n: u32) -> usize
 // A number behind a comma.
 fn put_number(out: &mut [u8], at: usize, n: u32) -> usize
     requires { at + 11 ≤ length out.old }
-    ensures { Puts (was out) at (is out) result (number_field n) 11 }
+    ensures { Puts out.old at out.new result (number_field n) 11 }
 {
     let next = trace_decimals::put_byte(out, at, 44);
     trace_decimals::put_number(out, next, n)
@@ -40,7 +42,7 @@ fn put_number(out: &mut [u8], at: usize, n: u32) -> usize
 // A coordinate behind a comma, as a count of sixteenths.
 fn put_coordinate(out: &mut [u8], at: usize, x: f32) -> usize
     requires { at + 12 ≤ length out.old }
-    ensures { Puts (was out) at (is out) result (coordinate_field x) 12 }
+    ensures { Puts out.old at out.new result (coordinate_field x) 12 }
 {
     let k = trace_sixteenths::sixteenths(x);
     let next = trace_decimals::put_byte(out, at, 44);
@@ -50,7 +52,7 @@ fn put_coordinate(out: &mut [u8], at: usize, x: f32) -> usize
 // Slot and version, or data and tracker.
 fn put_pair(out: &mut [u8], at: usize, h: [u32; 2]) -> usize
     requires { at + 22 ≤ length out.old }
-    ensures { Puts (was out) at (is out) result (pair_text h) 22 }
+    ensures { Puts out.old at out.new result (pair_text h) 22 }
 {
     let next = put_number(out, at, h[0]);
     put_number(out, next, h[1])
@@ -58,7 +60,7 @@ fn put_pair(out: &mut [u8], at: usize, h: [u32; 2]) -> usize
 
 fn put_corner(out: &mut [u8], at: usize, x: f32, y: f32) -> usize
     requires { at + 24 ≤ length out.old }
-    ensures { Puts (was out) at (is out) result (coordinate_field x ++ coordinate_field y) 24 }
+    ensures { Puts out.old at out.new result (coordinate_field x ++ coordinate_field y) 24 }
 {
     let next = put_coordinate(out, at, x);
     put_coordinate(out, next, y)
@@ -66,7 +68,7 @@ fn put_corner(out: &mut [u8], at: usize, x: f32, y: f32) -> usize
 
 fn put_corners(out: &mut [u8], at: usize, b: [f32; 4]) -> usize
     requires { at + 48 ≤ length out.old }
-    ensures { Puts (was out) at (is out) result (corners_text b) 48 }
+    ensures { Puts out.old at out.new result (corners_text b) 48 }
 {
     let next = put_corner(out, at, b[0], b[1]);
     put_corner(out, next, b[2], b[3])
@@ -74,7 +76,7 @@ fn put_corners(out: &mut [u8], at: usize, b: [f32; 4]) -> usize
 
 fn put_point(out: &mut [u8], at: usize, h: [u32; 2], p: [f32; 2], d: [u32; 2]) -> usize
     requires { at + 68 ≤ length out.old }
-    ensures { Puts (was out) at (is out) result (pair_text h ++ (place_text p ++ pair_text d)) 68 }
+    ensures { Puts out.old at out.new result (pair_text h ++ (place_text p ++ pair_text d)) 68 }
 {
     let next = put_pair(out, at, h);
     let end = put_corner(out, next, p[0], p[1]);
@@ -83,7 +85,7 @@ fn put_point(out: &mut [u8], at: usize, h: [u32; 2], p: [f32; 2], d: [u32; 2]) -
 
 fn put_box(out: &mut [u8], at: usize, h: [u32; 2], b: [f32; 4]) -> usize
     requires { at + 70 ≤ length out.old }
-    ensures { Puts (was out) at (is out) result (pair_text h ++ corners_text b) 70 }
+    ensures { Puts out.old at out.new result (pair_text h ++ corners_text b) 70 }
 {
     let next = put_pair(out, at, h);
     put_corners(out, next, b)
@@ -99,7 +101,7 @@ fn put_points(
     n: usize,
 ) -> usize
     requires { (n ≤ length handles.now) × (n ≤ length places.now) × (n ≤ length objs.now) × (at + n * 68 ≤ length out.old) }
-    ensures { Puts (was out) at (is out) result (points_text (was handles) (was places) (was objs) n) (n * 68) }
+    ensures { Puts out.old at out.new result (points_text handles.now places.now objs.now n) (n * 68) }
 {
     let mut next = at;
     let mut i = 0;
@@ -113,7 +115,7 @@ fn put_points(
 // The first n findings of the box query.
 fn put_boxes(out: &mut [u8], at: usize, handles: &[[u32; 2]], boxes: &[[f32; 4]], n: usize) -> usize
     requires { (n ≤ length handles.now) × (n ≤ length boxes.now) × (at + n * 70 ≤ length out.old) }
-    ensures { Puts (was out) at (is out) result (boxes_text (was handles) (was boxes) n) (n * 70) }
+    ensures { Puts out.old at out.new result (boxes_text handles.now boxes.now n) (n * 70) }
 {
     let mut next = at;
     let mut i = 0;
@@ -127,7 +129,7 @@ fn put_boxes(out: &mut [u8], at: usize, handles: &[[u32; 2]], boxes: &[[f32; 4]]
 // 0 and a number.
 fn put_one(out: &mut [u8], at: usize, x: u32) -> usize
     requires { at + 21 ≤ length out.old }
-    ensures { Puts (was out) at (is out) result (decimal 0 ++ number_field x) 21 }
+    ensures { Puts out.old at out.new result (decimal 0 ++ number_field x) 21 }
 {
     let next = put_first(out, at, 0);
     put_number(out, next, x)
@@ -143,7 +145,7 @@ fn put_said(
     objs: &[[u32; 2]],
 ) -> usize
     requires { Told said (length handles.now) (length places.now) (length boxes.now) (length objs.now) × (at + longest_said ≤ length out.old) }
-    ensures { Puts (was out) at (is out) result (said_text said (was handles) (was places) (was boxes) (was objs)) longest_said }
+    ensures { Puts out.old at out.new result (said_text said handles.now places.now boxes.now objs.now) longest_said }
 {
     match said {
         Said::Refused(a) => put_first(out, at, a),
@@ -175,7 +177,7 @@ pub fn put_record(
     objs: &[[u32; 2]],
 ) -> usize
     requires { Told said (length handles.now) (length places.now) (length boxes.now) (length objs.now) × (at + longest ≤ length out.old) }
-    ensures { Puts (was out) at (is out) result (record_text said (was handles) (was places) (was boxes) (was objs)) longest }
+    ensures { Puts out.old at out.new result (record_text said handles.now places.now boxes.now objs.now) longest }
 {
     let next = put_said(out, at, said, handles, places, boxes, objs);
     let end = trace_decimals::put_byte(out, next, 13);

@@ -1,10 +1,12 @@
 // The two grids of the trace, and what they answer to a record.
-ghost use Rattle.basics.specs.Words.{◌+◌, ◌≤◌, length, take};
-ghost use Rattle.basics.specs.Meaning.Lent.{was, is};
+ghost use Rattle.std.specs.Prelude.{◌+◌, ◌≤◌};
+ghost use Rattle.basics.specs.Words.{length, take};
 ghost use Rattle.trace_decimals.specs.Meaning.Written.{buffer};
 ghost use Rattle.trace_printing.specs.Meaning.Said.{longest};
-ghost use Rattle.trace_replay.specs.Meaning.Replay.{Replays};
+ghost use Rattle.trace_replay.specs.Meaning.Replay.{Replays, grids};
 ghost use Rattle.trace_answers.specs.Meaning.Cell.{Builds};
+ghost use Rattle.point_tables.specs.Meaning.Tables as PointTables;
+ghost use Rattle.box_tables.specs.Meaning.Tables as BoxTables;
 
 use slots::Row;
 use trace_printing::Said;
@@ -23,7 +25,7 @@ pub fn start(
     bmap: &mut [u64],
     bpool: &[[u64; 2]],
 ) -> Said
-    ensures { Builds 16 result nums reals ints map pool spots cells bnums breals bmap bpool }
+    ensures { Builds 16 result (PointTables.tables nums.old reals.now ints.now map.old pool.now spots.now cells.now) (BoxTables.tables bnums.old breals.now bmap.old bpool.now) (PointTables.tables nums.new reals.now ints.now map.new pool.now spots.now cells.now) (BoxTables.tables bnums.new breals.now bmap.new bpool.now) }
 {
     trace_answers::cell(
         nums, reals, ints, map, pool, spots, cells, bnums, breals, bmap, bpool, 16,
@@ -49,7 +51,7 @@ pub fn answer_record(
     at: usize,
 ) -> usize
     requires { at + longest ≤ length out.old }
-    ensures replays { Replays (take len (was line)) (buffer (was out) at) (buffer (is out) result) nums reals ints map pool spots cells bnums breals bmap bpool }
+    ensures replays { Replays (take len line.now) (buffer out.old at) (buffer out.new result) (grids (PointTables.tables nums.old reals.old ints.old map.old pool.old spots.old cells.old) (BoxTables.tables bnums.old breals.old bmap.old bpool.old)) (grids (PointTables.tables nums.new reals.new ints.new map.new pool.new spots.new cells.new) (BoxTables.tables bnums.new breals.new bmap.new bpool.new)) }
     ensures upper_bound { result ≤ at + longest }
 {
     let mut handles = [[0u32; 2]; 256];

@@ -1,5 +1,8 @@
 // Coordinates as counts of sixteenths, and as binary32 numbers.
-ghost use Rattle.basics.specs.Words.{◌≤◌, ◌≡◌, nat_abs};
+#![tactic(auto)]
+
+ghost use Rattle.std.specs.Prelude.{◌≤◌, ◌≡◌};
+ghost use Rattle.basics.specs.Words.{nat_abs};
 ghost use Rattle.trace_sixteenths.specs.Meaning.Sixteenth.{sixteenth, sixteenths_of};
 
 use cells::whole;

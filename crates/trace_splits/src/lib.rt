@@ -1,18 +1,20 @@
 // The input split into records at CR LF, a byte at a time, so that a record may straddle reads.
-ghost use Rattle.basics.specs.Words.{ℕ, ◌-◌, min, ◌≡◌, ◌&&◌, List, [], ◌∷◌, ◌++◌, length, take, eqb};
-ghost use Rattle.basics.specs.Meaning.Lent.{was, is};
+#![tactic(auto)]
+
+ghost use Rattle.std.specs.Prelude.{◌-◌, ◌≡◌, ◌&&◌, ◌∷◌, ◌++◌};
+ghost use Rattle.basics.specs.Words.{ℕ, min, List, [], length, take, eqb};
 ghost use Rattle.trace_splits.specs.Meaning.Sofar.{sofar, begun, feed};
 ghost use Rattle.trace_splits.specs.Inner.Sofar.{fed, finished};
 
 // How many bytes stand in the line since the last line end, and whether the last byte was a CR.
-#[derive(Drop)]
+#[derive(Clone, Copy)]
 pub struct Splitter {
     pub len: usize,
     pub cr: bool,
 }
 
 // Where a byte leads; and if it ended a record, what is kept of the record is the line's first `len` bytes.
-#[derive(Drop)]
+#[derive(Clone, Copy)]
 pub struct Stepped {
     pub state: Splitter,
     pub ended: bool,
@@ -49,7 +51,7 @@ fn ends(cr: bool, byte: u8) -> bool
 
 // A byte more in the line, if there is room.
 fn push(line: &mut [u8], len: usize, byte: u8) -> usize
-    ensures { take result (is line) ≡ take (length (was line)) (take len (was line) ++ byte ∷ []) }
+    ensures { take result line.new ≡ take (length line.old) (take len line.old ++ byte ∷ []) }
 {
     if len < line.len() {
         line[len] = byte;
@@ -66,7 +68,7 @@ pub fn start() -> Splitter
 }
 
 pub fn step(line: &mut [u8], s: Splitter, byte: u8) -> Stepped
-    ensures { fed (is line) result ≡ feed (length (was line)) (sofar (was line) s) byte }
+    ensures { fed line.new result ≡ feed (length line.old) (sofar line.old s) byte }
 {
     if ends(s.cr, byte) {
         let n = lesser(s.len, line.len());
@@ -89,7 +91,7 @@ pub fn step(line: &mut [u8], s: Splitter, byte: u8) -> Stepped
 
 // The input's end: what stands in the line is a record, if anything does.
 pub fn finish(line: &[u8], s: Splitter) -> Stepped
-    ensures { fed (was line) result ≡ finished (length (was line)) (sofar (was line) s) }
+    ensures { fed line.now result ≡ finished (length line.now) (sofar line.now s) }
 {
     let n = lesser(s.len, line.len());
     let most = one_less(line.len());

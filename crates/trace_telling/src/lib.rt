@@ -1,5 +1,7 @@
 // What the answer of a grid's call says in the trace, and the places that a request names.
-ghost use Rattle.basics.specs.Words.{◌≡◌};
+#![tactic(auto)]
+
+ghost use Rattle.std.specs.Prelude.{◌≡◌};
 ghost use Rattle.trace_lines.specs.Inner.Texts.{SpotInRange};
 ghost use Rattle.trace_telling.specs.Meaning.Places.{place_of, box_of};
 ghost use Rattle.trace_telling.specs.Meaning.Tells.{done_or, one_or, two_or, points_or, boxes_or};

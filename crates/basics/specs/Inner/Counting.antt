@@ -1,6 +1,7 @@
 -- How many numbers below n pass a test; and that they are as many as the places of a list that names each of them once. Assumes nothing.
 -- Here: what only inner contracts cite.
-use Rattle.basics.specs.Words.{ℕ, zero, suc, ◌+◌, Bool}
+use Rattle.std.specs.Prelude.{◌+◌}
+use Rattle.basics.specs.Words.{ℕ, zero, suc, Bool}
 use Rattle.basics.specs.Meaning.Refusals.{pick}
 
 abbrev pub one : Bool → ℕ

@@ -1,5 +1,6 @@
 -- The answer of a call: the first refusal that applies, out of a list in the order of document 01; else 0. Assumes nothing.
-use Rattle.basics.specs.Words.{ℕ, Bool, true, false, not, ◌&&◌, ◌||◌, List, [], ◌∷◌, eqb}
+use Rattle.std.specs.Prelude.{◌&&◌, ◌||◌, ◌∷◌}
+use Rattle.basics.specs.Words.{ℕ, Bool, true, false, not, List, [], eqb}
 
 -- a test that must pass, and the answer number if it does not
 pub record Refusal : Type 0 where

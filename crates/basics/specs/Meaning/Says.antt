@@ -1,5 +1,6 @@
 -- A bool that says whether a fact holds, and facts that can be decided. Assumes nothing.
-use Rattle.basics.specs.Words.{◌≡◌, Bool, true, false, ◌⊎◌, inl, inr}
+use Rattle.std.specs.Prelude.{◌≡◌, ◌⊎◌}
+use Rattle.basics.specs.Words.{Bool, true, false, inl, inr}
 
 -- r is true exactly when P holds
 pub record Says (r : Bool) (P : Type 0) : Type 0 where

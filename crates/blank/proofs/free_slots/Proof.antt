@@ -8,16 +8,16 @@ use Rattle.blank.proofs.free_slots.Tie as tie
 abbrev row : List ℕ
 row = 1 ∷ 0 ∷ 0 ∷ 0 ∷ []
 
-abbrev invariant-loop : tie.invariant-loop
-invariant-loop nums₀ i₀ nums i =
+abbrev invariant-loop-i : tie.invariant-loop-i
+invariant-loop-i nums₀ i₀ nums i =
     (length nums ≡ length nums₀) × (i ≤ length nums₀) × (nums ≡ paste nums₀ 0 (replicate (length nums₀) row) i)
 
-abbrev decreases-loop : tie.decreases-loop
-decreases-loop nums₀ i₀ nums i = length nums₀ - i
+abbrev decreases-loop-i : tie.decreases-loop-i
+decreases-loop-i nums₀ i₀ nums i = length nums₀ - i
 
-loop-again : tie.Need-loop-preserved invariant-loop decreases-loop
+loop-again : tie.Need-loop-i-preserved invariant-loop-i decreases-loop-i
 loop-again c =
-    let l = c.before.loop in
+    let l = c.before.loop-i in
     let d = c.before.before.args.nums.now in
     let full = length-replicate (length d) row in (
       length-set l.nums l.i _ ∙ l.invariant.0,
@@ -25,24 +25,24 @@ loop-again c =
       fill_step d 0 (replicate (length d) row) [] _ l.nums l.i l.i (omega arith) (sym (get_or-replicate (length d) l.i row [] (omega arith))) (omega arith) (omega arith) l.invariant.2,
     )
 
-returns : tie.Need-returns invariant-loop decreases-loop
+returns : tie.Need-returns invariant-loop-i decreases-loop-i
 returns c =
-    let l = c.before.loop in
+    let l = c.before.loop-i in
     let d = c.before.before.args.nums.now in
     let full = length-replicate (length d) row in
     fill_end d 0 (replicate (length d) row) l.nums l.i (omega arith) (omega arith) l.invariant.2
 
-pub free-slots-spec : {M : Type 1} → statement M
-free-slots-spec =
+pub free_slots_spec : {M : Type 1} → statement M
+free_slots_spec =
     tie.close
     (tie.spec
-    invariant-loop
-    decreases-loop
+    invariant-loop-i
+    decreases-loop-i
     (λ c. (refl, omega arith, paste-zero c.args.nums.now 0 (replicate (length c.args.nums.now) row)))
     (λ c. omega arith)
     (λ c. omega arith)
     (λ c. omega arith)
     (λ c. omega arith)
     loop-again
-    (λ c. c.before.loop.invariant.0)
+    (λ c. c.before.loop-i.invariant.0)
     returns)

@@ -1,6 +1,6 @@
 -- The map of a new grid: the words of n slots have a bit for each slot, and none past the last. Assumes nothing.
 use Rattle.basics.specs.Words.{ℕ, zero, suc, ◌+◌, ◌-◌, ◌*◌, ◌/◌, ◌%◌, ◌^◌, ◌≤◌, ◌<◌, ◌≡◌, refl, ◌∙◌, ap, Bool, true, false, ◌∷◌, length, get_or}
-use Rattle.basics.specs.Words.{List·getD-eq-default, leb, div-eq_of_lt, pow-succ', not-suc-le-zero, arith, leb-true, leb-false}
+use Rattle.basics.specs.Words.{get_or-eq_default, leb, div-eq_of_lt, pow-succ', not-suc-le-zero, arith, leb-true, leb-false}
 use lib.Pow.{pow_pos, pow_mono, ones_lt, ones_split, high}
 use Rattle.basics.specs.Meaning.Refusals.{pick}
 use Rattle.slots.specs.Meaning.Map.{words_for, bit, usable}
@@ -70,5 +70,5 @@ module _ (a b c n : ℕ) where
       go : (t : Bool) → leb (words_for n) (s / 64) ≡ t → usable (a ∷ b ∷ c ∷ free_words (words_for n) n) s ≡ 0
       go true e =
           let l : length (free_words (words_for n) n) ≤ s / 64 = rw free-length (leb-true (words_for n) (s / 64) e) in
-          at_word s ∙ rw (List·getD-eq-default (free_words (words_for n) n) 0 l) (bit_of_zero (s % 64))
+          at_word s ∙ rw (get_or-eq_default (free_words (words_for n) n) 0 l) (bit_of_zero (s % 64))
       go false e = in_words s h (leb-false (words_for n) (s / 64) e)

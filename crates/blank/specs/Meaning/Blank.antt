@@ -1,5 +1,6 @@
 -- Slots that are all free: every row at version 1, every bit of the map set and none past the last slot. Assumes nothing.
-use Rattle.basics.specs.Words.{ℕ, zero, suc, ◌-◌, ◌^◌, Bool, ◌&&◌, List, [], ◌∷◌, replicate, leb}
+use Rattle.std.specs.Prelude.{◌-◌, ◌^◌, ◌&&◌, ◌∷◌}
+use Rattle.basics.specs.Words.{ℕ, zero, suc, Bool, List, [], replicate, leb}
 use Rattle.basics.specs.Meaning.Refusals.{Refusal, unless, pick}
 use Rattle.slots.specs.Meaning.Map.{words_for}
 use Rattle.slots.specs.Meaning.Slot.{free}

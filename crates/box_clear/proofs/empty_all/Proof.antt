@@ -1,11 +1,11 @@
 -- `box_clear::empty_all` meets its contract. Assumes nothing.
-use Rattle.basics.specs.Words.{needs}
+use Rattle.basics.specs.Words.{rules}
 use Rattle.box_clear.proofs.empty_all.Statement.{statement}
 use Rattle.box_clear.proofs.empty_all.Tie as tie
 
 returns : tie.Need-returns
-returns c = (c.before.before.before.empty-slots.ensures.0, cc c.before.before.before.empty-slots.ensures.1)
+returns c = (c.before.before.before.empty_slots.ensures.0, cc c.before.before.before.empty_slots.ensures.1)
 
-pub empty-all-spec : {M : Type 1} → statement M
-empty-all-spec =
-    tie.close (tie.spec (λ c κs. search needs) (λ c. search needs) (λ c. search needs) (λ c. search needs) returns)
+pub empty_all_spec : {M : Type 1} → statement M
+empty_all_spec =
+    tie.close (tie.spec (λ c κs. search rules) (λ c. search rules) (λ c. search rules) (λ c. search rules) returns)

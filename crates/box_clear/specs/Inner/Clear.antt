@@ -1,7 +1,7 @@
 -- `clear` of a box grid writes box and data, ascending by slot, then empties the grid: versions rise as with any emptying. Assumes nothing.
 -- Here: what only inner contracts cite.
-use Rattle.basics.specs.Words.{ℕ, ◌≤◌, ◌≡◌, List, length}
-use Rattle.std.specs.Prelude.{Float}
+use Rattle.std.specs.Prelude.{◌≤◌, ◌≡◌, Float}
+use Rattle.basics.specs.Words.{ℕ, List, length}
 use Rattle.basics.specs.Meaning.Limits.{most_boxes}
 use Rattle.slot_walks.specs.Meaning.Live.{live_from}
 

@@ -1,6 +1,7 @@
 -- A box in the lists of the cells that it covers: a range of cells, from the cell of its lower left to that of its upper right. Its entry in
 -- each list is the same item. Assumes nothing.
-use Rattle.basics.specs.Words.{ℕ, ◌≡◌, List, [], ◌∷◌, map}
+use Rattle.std.specs.Prelude.{◌≡◌, ◌∷◌}
+use Rattle.basics.specs.Words.{ℕ, List, [], map}
 use Rattle.cells.specs.declared.Cell.{Cell}
 use Rattle.cells.specs.Meaning.Key.{key_of}
 use Rattle.cells.specs.Meaning.Range.{range_cells}

@@ -8,5 +8,5 @@ returns : tie.Need-returns
 unfolding of_bits
 returns c = refl
 
-pub no-box-spec : {M : Type 1} → statement M
-no-box-spec = tie.close (tie.spec returns)
+pub no_box_spec : {M : Type 1} → statement M
+no_box_spec = tie.close (tie.spec returns)

@@ -1,5 +1,6 @@
 -- The objects of a box grid, which are its live slots, and the tests of a call that writes a row for each of them. Assumes nothing.
-use Rattle.basics.specs.Words.{ℕ, Bool, List, [], ◌∷◌, length, leb}
+use Rattle.std.specs.Prelude.{◌∷◌}
+use Rattle.basics.specs.Words.{ℕ, Bool, List, [], length, leb}
 use Rattle.basics.specs.Meaning.Refusals.{Refusal, unless}
 use Rattle.slot_walks.specs.Meaning.Live.{live_from}
 use Rattle.box_tables.specs.Meaning.Tables.{Tables}

@@ -1,5 +1,6 @@
 -- `get`, `len` and `handles` of a box grid: box and data, the number of objects, their handles ascending by slot. Assumes nothing.
-use Rattle.basics.specs.Words.{ℕ, List, [], ◌∷◌, length, eqb}
+use Rattle.std.specs.Prelude.{◌∷◌}
+use Rattle.basics.specs.Words.{ℕ, List, [], length, eqb}
 use Rattle.basics.specs.Meaning.Refusals.{Refusal, unless, pick, by_tests}
 use Rattle.geometry.specs.declared.Aabb.{Aabb}
 use Rattle.geometry.specs.Meaning.Zero.{zero-aabb}

@@ -28,7 +28,7 @@ module _ (t u : Tables) (s : ℕ) (o : Others t u s) where
   same_item i n = rw (o.same_size, o.same-corners i n)
 
   same_box : (i : ℕ) → (i ≡ s → ⊥) → BoxHolds t i → BoxHolds u i
-  same_box i n b = record { in_domain_lem = rw (o.same-corners i n) b.in_domain_lem; cells-most = rw (o.same_size, o.same-corners i n) b.cells-most }
+  same_box i n b = record { within_domain = rw (o.same-corners i n) b.within_domain; cells-most = rw (o.same_size, o.same-corners i n) b.cells-most }
 
   same-stands : (rows : List (List ℕ)) (i : ℕ) → (i ≡ s → ⊥) → StandsOn t rows i → StandsOn u rows i
   same-stands rows i n st = rw (o.same_size, o.same-corners i n) st

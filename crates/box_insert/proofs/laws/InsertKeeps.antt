@@ -76,7 +76,7 @@ module _ (t : Tables) (h : Holds t) (s : ℕ) (inside : s < slots_of t) (is_free
       as_written : take (length (entries_with t s b)) (put t s b d).pool ≡ entries_with t s b
       as_written = unfold put in take-append_seam (entries_with t s b) (drop (length (entries_with t s b)) t.pool)
 
-  module _ (in_domain_lem : T (aabb_in_domain b)) (few : covers (size_of t) b ≤ most_cells) (room : used_of t + covers (size_of t) b ≤ length t.pool) where
+  module _ (within_domain : T (aabb_in_domain b)) (few : covers (size_of t) b ≤ most_cells) (room : used_of t + covers (size_of t) b ≤ length t.pool) where
     -- ---- the lengths and the counts
     pool-length : length (put t s b d).pool ≡ length t.pool
     unfolding put
@@ -100,7 +100,7 @@ module _ (t : Tables) (h : Holds t) (s : ℕ) (inside : s < slots_of t) (is_free
 
     -- ---- its own box, and where it stands
     own_box : BoxHolds (put t s b d) s
-    own_box = record { in_domain_lem = rw put-corners in_domain_lem; cells-most = rw (put-size, put-corners) few }
+    own_box = record { within_domain = rw put-corners within_domain; cells-most = rw (put-size, put-corners) few }
 
     own-item : item_for (size_of t) s b ≡ item_on (put t s b d) s
     own-item = rw (put-size, put-corners)
@@ -109,7 +109,7 @@ module _ (t : Tables) (h : Holds t) (s : ℕ) (inside : s < slots_of t) (is_free
     own-stands =
         rw (put-size, put-corners)
         (entered-stands (low_cell (size_of t) b) (high_cell (size_of t) b) (item_for (size_of t) s b) (entries_in t)
-        (low_near b in_domain_lem (size_of t)) (high-near b in_domain_lem (size_of t)) (entries_sorted t h) (unnamed t h s not_live (eqb (covers (size_of t) b) 1)))
+        (low_near b within_domain (size_of t)) (high-near b within_domain (size_of t)) (entries_sorted t h) (unnamed t h s not_live (eqb (covers (size_of t) b) 1)))
 
     kept : All (Kept t (put t s b d) s put_others) (entries_with t s b)
     kept =

@@ -1,5 +1,6 @@
 -- What the steps of an insert are asked for and give. Assumes nothing.
-use Rattle.basics.specs.Words.{ℕ, ◌+◌, ◌<◌, ◌≤◌, ◌≡◌, List, length, get_or, T}
+use Rattle.std.specs.Prelude.{◌+◌, ◌<◌, ◌≤◌, ◌≡◌}
+use Rattle.basics.specs.Words.{ℕ, List, length, get_or, T}
 use Rattle.basics.specs.Meaning.Limits.{most_boxes, most_entries, most_cells}
 use Rattle.geometry.specs.declared.Aabb.{Aabb}
 use Rattle.geometry.specs.Meaning.Domain.{aabb_in_domain}
@@ -23,6 +24,6 @@ pub record Fresh (t : Tables) (s : ℕ) (b : Aabb) : Type 0 where
   pub holds : Holds t
   pub inside : s < slots_of t
   pub is_free : phase_at t.nums s ≡ free
-  pub in_domain_lem : T (aabb_in_domain b)
+  pub within_domain : T (aabb_in_domain b)
   pub few : covers (size_of t) b ≤ most_cells
   pub room : used_of t + covers (size_of t) b ≤ length t.pool

@@ -1,6 +1,7 @@
 -- `insert`: the lowest usable slot takes the box, which goes to the end of the list of every cell that it covers. Assumes nothing.
 -- Here: what only inner contracts cite.
-use Rattle.basics.specs.Words.{ℕ, ◌+◌, ◌≡◌, Bool, List, length, get_or, leb}
+use Rattle.std.specs.Prelude.{◌+◌, ◌≡◌}
+use Rattle.basics.specs.Words.{ℕ, Bool, List, length, get_or, leb}
 use Rattle.basics.specs.Meaning.Refusals.{first_of}
 use Rattle.geometry.specs.declared.Aabb.{Aabb}
 use Rattle.geometry.specs.Meaning.Domain.{aabb_in_domain}

@@ -1,5 +1,6 @@
 -- `insert`: the lowest usable slot takes the box, which goes to the end of the list of every cell that it covers. Assumes nothing.
-use Rattle.basics.specs.Words.{ℕ, ◌+◌, Bool, List, [], ◌∷◌, length, set, leb}
+use Rattle.std.specs.Prelude.{◌+◌, ◌∷◌}
+use Rattle.basics.specs.Words.{ℕ, Bool, List, [], length, set, leb}
 use Rattle.basics.specs.Meaning.Limits.{most_cells}
 use Rattle.basics.specs.Meaning.Refusals.{Refusal, unless, first_of, by_tests}
 use Rattle.geometry.specs.Meaning.Domain.{aabb_in_domain}

@@ -1,6 +1,6 @@
 -- What the two queries make of document 01's cases, whatever else the grid holds: a box that intersects by rounding is reported at size 10
 -- and not at size 1, where no cell is shared; a range of 4,096 cells is accepted, and one of 4,160 gets answer 7. Assumes nothing.
-use Rattle.basics.specs.Words.{ℕ, ◌<◌, ◌≡◌, refl, sym, ap, ◌∙◌, true, false, List, List-as-Memᴰ, T, arith}
+use Rattle.basics.specs.Words.{ℕ, ◌<◌, ◌≡◌, refl, sym, ap, ◌∙◌, true, false, List, Memᴰ, T, arith}
 use lib.Ieee.{Float, of_bits, lt, le, eq, add, sub, neg, fits}
 use Rattle.basics.proofs.laws.Says.{apart}
 use Rattle.geometry.specs.Meaning.Domain.{aabb_in_domain}
@@ -38,12 +38,12 @@ unfolding of_bits cell_of
 apart_at_1 = refl
 
 module _ (t : Tables) (h : Holds t) (s : ℕ) (b : aabb_on t s ≡ stored) where
-  pub rounding_reported : s < slots_of t → phase_at t.nums s ≡ live → size_of t ≡ 10 → List-as-Memᴰ s (narrow t asked)
+  pub rounding_reported : s < slots_of t → phase_at t.nums s ≡ live → size_of t ≡ 10 → Memᴰ s (narrow t asked)
   rounding_reported l o e =
       let r : ranged (size_of t) asked (aabb_on t s) ≡ true = (λ z. ranged (e z) asked (b z)) ∙ shared_at_10 in
       (query_exactly t h asked asked-fits s).1 (broad-met t h asked asked-fits s (ranged_broad t h asked asked-fits s l o r)) (ap (intersects asked) b ∙ asked_meets)
 
-  pub rounding_missed : size_of t ≡ 1 → List-as-Memᴰ s (broad t asked) → ⊥
+  pub rounding_missed : size_of t ≡ 1 → Memᴰ s (broad t asked) → ⊥
   rounding_missed e m =
       let r : ranged (size_of t) asked (aabb_on t s) ≡ false = (λ z. ranged (e z) asked (b z)) ∙ apart_at_1 in
       apart (sym r ∙ broad_ranged t h asked asked-fits s m)

@@ -1,6 +1,6 @@
 -- Document 01's cases of boxes and cells, as data and one computed test: whether the query box intersects the stored one and whether
 -- their ranges share a cell; how many cells a box covers. Numbers are bit patterns. Assumes nothing.
-use Rattle.basics.specs.Words.{ℕ, ◌≡◌, refl, Bool, true, false, ◌&&◌, Bool·beq, List, [], ◌∷◌, eqb}
+use Rattle.basics.specs.Words.{ℕ, ◌≡◌, refl, Bool, true, false, ◌&&◌, beq, List, [], ◌∷◌, eqb}
 use lib.Ieee.{binary32, of_bits, lt, le, eq, add, sub, neg}
 use Rattle.geometry.specs.declared.Aabb.{Aabb}
 use Rattle.geometry.specs.Meaning.Intersects.{overlaps, intersects}
@@ -25,7 +25,7 @@ pub data Row : Type 0 where
 
 unfoldable pub right : Row → Bool
 unfolding of_bits lt le eq add sub neg overlaps intersects cell_of cells_in
-right (pair size q b meets shares) = Bool·beq (intersects q b) meets && Bool·beq (ranged size q b) shares
+right (pair size q b meets shares) = beq (intersects q b) meets && beq (ranged size q b) shares
 right (cells size b n) = eqb (covers size b) n
 
 unfoldable pub all : List Row → Bool

@@ -1,5 +1,6 @@
 -- What looking for the boxes of a range comes to, before it is known whether the outputs have room. Assumes nothing.
-use Rattle.basics.specs.Words.{ℕ, ◌≤◌, ◌≡◌, List, length, take}
+use Rattle.std.specs.Prelude.{◌≤◌, ◌≡◌}
+use Rattle.basics.specs.Words.{ℕ, List, length, take}
 use Rattle.basics.specs.Meaning.Limits.{most_boxes}
 use Rattle.geometry.specs.declared.Aabb.{Aabb}
 use Rattle.box_tables.specs.Meaning.Tables.{Tables}

@@ -1,7 +1,7 @@
 -- `query_broad` and `query`: the boxes of a range of cells, each once, at its first place in the walk; of these `query` keeps those for
 -- which `intersects` holds, the query box first. Assumes nothing.
-use Rattle.basics.specs.Words.{ℕ, min, List, [], ◌∷◌, map, length, eqb, leb}
-use Rattle.std.specs.Prelude.{Float}
+use Rattle.std.specs.Prelude.{◌∷◌, Float}
+use Rattle.basics.specs.Words.{ℕ, min, List, [], map, length, eqb, leb}
 use Rattle.basics.specs.Meaning.Limits.{most_cells}
 use Rattle.basics.specs.Meaning.Refusals.{Refusal, unless, first_of, pick, by_tests}
 use Rattle.geometry.specs.declared.Aabb.{Aabb}

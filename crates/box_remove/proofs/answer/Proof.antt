@@ -1,13 +1,13 @@
 -- `box_remove::answer` meets its contract. Assumes nothing.
-use Rattle.basics.specs.Words.{not-true, not-false, needs}
+use Rattle.basics.specs.Words.{rules}
 use Rattle.box_remove.proofs.answer.Statement.{statement}
 use Rattle.box_remove.proofs.answer.Tie as tie
 
-returns : tie.Need-returns
-returns c = rw (not-true c.before.args.held c.if1.true)
+returns : tie.Need-returns-then-not-held
+returns c = rw c.if-not-held.true
 
-returns-2 : tie.Need-returns-2
-returns-2 c = rw (not-false c.before.before.args.held c.before.if1.false) c.refusal-of.ensures
+returns-2 : tie.Need-returns
+returns-2 c = rw c.if-not-held.false c.refusal_of.ensures
 
-pub answer-spec : {M : Type 1} → statement M
-answer-spec = tie.close (tie.spec returns (λ c κs. search needs) returns-2)
+pub answer_spec : {M : Type 1} → statement M
+answer_spec = tie.close (tie.spec returns (λ c κs. search rules) returns-2)

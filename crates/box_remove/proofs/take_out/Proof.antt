@@ -1,5 +1,5 @@
 -- `box_remove::take_out` meets its contract. Assumes nothing.
-use Rattle.basics.specs.Words.{refl, sym, subst, ap, ◌∙◌, T, needs}
+use Rattle.basics.specs.Words.{refl, sym, subst, ap, ◌∙◌, T, rules}
 use Rattle.box_remove.proofs.Taken.{leave_asks, taken_is}
 use Rattle.geometry.specs.declared.Aabb.{Aabb}
 use Rattle.geometry.specs.Meaning.Domain.{aabb_in_domain}
@@ -12,21 +12,21 @@ use Rattle.box_remove.proofs.take_out.Tie as tie
 abbrev at_entry : tie.Start → Tables
 at_entry c = tables c.args.nums.now c.args.reals.now c.args.map.now c.args.pool.now
 
-span-of-requires : tie.Need-span-of-requires
+span-of-requires : tie.Need-span_of-p-requires
 span-of-requires c κs =
     let l = c.before in
     let s = c.before.before.before.before.before.before in
     let o = s.requires in
-    (o.held.counted.size, subst (λ (b : Aabb). T (aabb_in_domain b)) (sym l.load-box.ensures) (o.held.boxes s.args.s o.inside o.occupied).in-domain)
+    (o.held.counted.size, subst (λ (b : Aabb). T (aabb_in_domain b)) (sym l.load_box-b.ensures) (o.held.boxes s.args.s o.inside o.occupied).within_domain)
 
-leave-requires : tie.Need-leave-requires
+leave-requires : tie.Need-leave-left-requires
 leave-requires c κs =
     let i = c.before in
     let p = i.before.before.before in
     let l = p.before.before in
     let u = l.before in
     let s = u.before.before.before.before in
-    leave_asks (at_entry s) s.args.s s.requires u.index_of.result u.index_of.ensures p.Span-of.result (p.Span-of.ensures ∙ ap (span_of _) l.load-box.ensures) i.item_of.result i.item_of.ensures
+    leave_asks (at_entry s) s.args.s s.requires u.index_of-used.result u.index_of-used.ensures p.span_of-p.result (p.span_of-p.ensures ∙ ap (span_of _) l.load_box-b.ensures) i.item_of-item.result i.item_of-item.ensures
 
 returns : tie.Need-returns
 returns c =
@@ -37,25 +37,25 @@ returns c =
     let l = p.before.before in
     let u = l.before in
     let s = u.before.before.before.before in
-    taken_is (at_entry s) s.args.s s.requires u.index_of.result u.index_of.ensures p.Span-of.result (p.Span-of.ensures ∙ ap (span_of _) l.load-box.ensures) i.item_of.result i.item_of.ensures
-    v.leave.result _ _ _ _ v.leave.ensures e.empty.ensures.0 e.empty.ensures.1 refl
+    taken_is (at_entry s) s.args.s s.requires u.index_of-used.result u.index_of-used.ensures p.span_of-p.result (p.span_of-p.ensures ∙ ap (span_of _) l.load_box-b.ensures) i.item_of-item.result i.item_of-item.ensures
+    v.leave-left.result _ _ _ _ v.leave-left.ensures e.empty.ensures.0 e.empty.ensures.1 refl
 
-pub take-out-spec : {M : Type 1} → statement M
-take-out-spec =
+pub take_out_spec : {M : Type 1} → statement M
+take_out_spec =
     tie.close
     (tie.spec
-    (λ c. search needs)
-    (λ c. search needs)
-    (λ c. search needs)
-    (λ c κs. search needs)
-    (λ c κs. search needs)
-    (λ c. search needs)
+    (λ c. search rules)
+    (λ c. search rules)
+    (λ c. search rules)
+    (λ c κs. search rules)
+    (λ c κs. search rules)
+    (λ c. search rules)
     span-of-requires
-    (λ c κs. search needs)
+    (λ c κs. search rules)
     leave-requires
-    (λ c κs. search needs)
-    (λ c. search needs)
-    (λ c. search needs)
-    (λ c. search needs)
-    (λ c. search needs)
+    (λ c κs. search rules)
+    (λ c. search rules)
+    (λ c. search rules)
+    (λ c. search rules)
+    (λ c. search rules)
     returns)

@@ -1,6 +1,7 @@
 -- What the steps of the code are asked for and give. Assumes nothing.
 -- Here: what only inner contracts cite.
-use Rattle.basics.specs.Words.{ℕ, ◌<◌, ◌≡◌}
+use Rattle.std.specs.Prelude.{◌<◌, ◌≡◌}
+use Rattle.basics.specs.Words.{ℕ}
 use Rattle.slots.specs.Meaning.Slot.{live, phase_at}
 use Rattle.box_tables.specs.Meaning.Tables.{Tables, slots_of}
 use Rattle.box_tables.specs.Meaning.Holds.{Holds}

@@ -1,5 +1,6 @@
 -- `remove` takes the box out of all its lists at once, and empties its slot: in each list the last entry moves into the gap. Assumes nothing.
-use Rattle.basics.specs.Words.{ℕ, List, [], ◌∷◌, length}
+use Rattle.std.specs.Prelude.{◌∷◌}
+use Rattle.basics.specs.Words.{ℕ, List, [], length}
 use Rattle.basics.specs.Meaning.Refusals.{Refusal, unless, first_of, by_tests}
 use Rattle.geometry.specs.declared.Aabb.{Aabb}
 use Rattle.slots.specs.declared.Handle.{Handle}

@@ -1,6 +1,6 @@
 -- What `firsts` keeps: the same numbers, and no number twice. Assumes nothing.
-use Rattle.basics.specs.Words.{ℕ, ◌≡◌, sym, ap, ◌∙◌, Bool, true, not, List, [], ◌∷◌, List-as-Memᴰ, List·Memᴰ·head, List·Memᴰ·tail, List·Memᴰ·cases-cons}
-use Rattle.basics.specs.Words.{List·Memᴰ·not-nil, ⊎_elim, eq-eqb, ne_eqb}
+use Rattle.basics.specs.Words.{ℕ, ◌≡◌, sym, ap, ◌∙◌, Bool, true, not, List, [], ◌∷◌, Memᴰ, Memᴰ-head, Memᴰ-tail, Memᴰ-cases_cons}
+use Rattle.basics.specs.Words.{Memᴰ-not_nil, ⊎_elim, eq-eqb, ne_eqb}
 use Rattle.basics.proofs.laws.Says.{apart, d_eq}
 use Rattle.storage.specs.Meaning.Keyed.{All, filter}
 use Rattle.storage.proofs.laws.FilterLaws.{by_test, filter_all, filter_gives}
@@ -8,24 +8,24 @@ use Rattle.box_search.specs.Meaning.Firsts.{is_other, firsts}
 
 -- ---- members of a filter
 module _ {A : Type 0} (test : A → Bool) (x : A) where
-  pub filter_member : (l : List A) → List-as-Memᴰ x l → test x ≡ true → List-as-Memᴰ x (filter test l)
+  pub filter_member : (l : List A) → Memᴰ x l → test x ≡ true → Memᴰ x (filter test l)
   filter_member [] m t = m
   filter_member (y ∷ l) m t =
       ⊎_elim
-      (λ q. let y-passes : test y ≡ true = ap test (sym q) ∙ t in rw y-passes (List·Memᴰ·head q))
-      (λ k. by_test (test y) (λ q. rw q (List·Memᴰ·tail (filter_member l k t))) (λ q. rw q (filter_member l k t)))
-      (List·Memᴰ·cases-cons m)
+      (λ q. let y-passes : test y ≡ true = ap test (sym q) ∙ t in rw y-passes (Memᴰ-head q))
+      (λ k. by_test (test y) (λ q. rw q (Memᴰ-tail (filter_member l k t))) (λ q. rw q (filter_member l k t)))
+      (Memᴰ-cases_cons m)
 
-  pub member_filter : (l : List A) → List-as-Memᴰ x (filter test l) → List-as-Memᴰ x l × (test x ≡ true)
-  member_filter [] m = absurd (List·Memᴰ·not-nil m)
+  pub member_filter : (l : List A) → Memᴰ x (filter test l) → Memᴰ x l × (test x ≡ true)
+  member_filter [] m = absurd (Memᴰ-not_nil m)
   member_filter (y ∷ l) m =
       by_test (test y)
       (λ q.
       ⊎_elim
-      (λ e. (List·Memᴰ·head e, ap test e ∙ q))
-      (λ k. let f = member_filter l k in (List·Memᴰ·tail f.0, f.1))
-      (List·Memᴰ·cases-cons (rw q at m)))
-      (λ q. let f = member_filter l (rw q at m) in (List·Memᴰ·tail f.0, f.1))
+      (λ e. (Memᴰ-head e, ap test e ∙ q))
+      (λ k. let f = member_filter l k in (Memᴰ-tail f.0, f.1))
+      (Memᴰ-cases_cons (rw q at m)))
+      (λ q. let f = member_filter l (rw q at m) in (Memᴰ-tail f.0, f.1))
 
 -- ---- another number than x
 pub other_yes : (x y : ℕ) → (y ≡ x → ⊥) → is_other x y ≡ true
@@ -52,19 +52,19 @@ firsts-once [] = tt
 firsts-once (x ∷ l) = (filter_gives (is_other x) (λ y. y ≡ x → ⊥) (other_no x) (firsts l), once-filter (is_other x) (firsts l) (firsts-once l))
 
 -- ---- the same numbers
-pub firsts_of : (x : ℕ) (l : List ℕ) → List-as-Memᴰ x (firsts l) → List-as-Memᴰ x l
+pub firsts_of : (x : ℕ) (l : List ℕ) → Memᴰ x (firsts l) → Memᴰ x l
 unfolding firsts
 firsts_of x [] m = m
-firsts_of x (y ∷ l) m = ⊎_elim (λ e. List·Memᴰ·head e) (λ k. List·Memᴰ·tail (firsts_of x l (member_filter (is_other y) x (firsts l) k).0)) (List·Memᴰ·cases-cons m)
+firsts_of x (y ∷ l) m = ⊎_elim (λ e. Memᴰ-head e) (λ k. Memᴰ-tail (firsts_of x l (member_filter (is_other y) x (firsts l) k).0)) (Memᴰ-cases_cons m)
 
-pub of_firsts : (x : ℕ) (l : List ℕ) → List-as-Memᴰ x l → List-as-Memᴰ x (firsts l)
+pub of_firsts : (x : ℕ) (l : List ℕ) → Memᴰ x l → Memᴰ x (firsts l)
 unfolding firsts
 of_firsts x [] m = m
 of_firsts x (y ∷ l) m =
     ⊎_elim
-    (λ e. List·Memᴰ·head e)
-    (λ k. ⊎_elim (λ e. List·Memᴰ·head e) (λ n. List·Memᴰ·tail (filter_member (is_other y) x (firsts l) (of_firsts x l k) (other_yes y x n))) (d_eq x y))
-    (List·Memᴰ·cases-cons m)
+    (λ e. Memᴰ-head e)
+    (λ k. ⊎_elim (λ e. Memᴰ-head e) (λ n. Memᴰ-tail (filter_member (is_other y) x (firsts l) (of_firsts x l k) (other_yes y x n))) (d_eq x y))
+    (Memᴰ-cases_cons m)
 
 pub all_firsts : (P : ℕ → Type 0) (l : List ℕ) → All P l → All P (firsts l)
 unfolding firsts

@@ -1,5 +1,5 @@
 -- Two boxes share a cell exactly when, on both axes, neither range of cells ends before the other begins. Assumes nothing.
-use Rattle.basics.specs.Words.{ℕ, suc, ◌+◌, ◌<◌, ◌≤◌, ◌≡◌, sym, ap, ◌∙◌, Bool, true, false, ◌&&◌, List-as-Memᴰ, inl, inr, T, ℤ, pos, ◌+ℤ◌}
+use Rattle.basics.specs.Words.{ℕ, suc, ◌+◌, ◌<◌, ◌≤◌, ◌≡◌, sym, ap, ◌∙◌, Bool, true, false, ◌&&◌, Memᴰ, inl, inr, T, ℤ, pos, ◌+ℤ◌}
 use lib.Signed.{le_z}
 use Rattle.basics.proofs.laws.Says.{apart, both_true, and_true, says_t}
 use Rattle.geometry.specs.declared.Aabb.{Aabb}
@@ -83,9 +83,9 @@ module _ (size : ℕ) (p q : Aabb) where
 
 -- ---- found exactly when, by numbers
 module _ (t : Tables) (h : Holds t) (q : Aabb) (dq : T (aabb_in_domain q)) (s : ℕ) where
-  pub broad_ranged : List-as-Memᴰ s (broad t q) → ranged (size_of t) q (aabb_on t s) ≡ true
+  pub broad_ranged : Memᴰ s (broad t q) → ranged (size_of t) q (aabb_on t s) ≡ true
   broad_ranged m = shared_ranged (size_of t) q (aabb_on t s) (broad-met t h q dq s m).shared
 
-  pub ranged_broad : s < slots_of t → phase_at t.nums s ≡ live → ranged (size_of t) q (aabb_on t s) ≡ true → List-as-Memᴰ s (broad t q)
+  pub ranged_broad : s < slots_of t → phase_at t.nums s ≡ live → ranged (size_of t) q (aabb_on t s) ≡ true → Memᴰ s (broad t q)
   ranged_broad l o e =
-      met-broad t h q dq s (record { inside = l; occupied = o; shared = ranged_shared (size_of t) q (aabb_on t s) h.counted.size.0 dq (h.boxes s l o).in_domain_lem e })
+      met-broad t h q dq s (record { inside = l; occupied = o; shared = ranged_shared (size_of t) q (aabb_on t s) h.counted.size.0 dq (h.boxes s l o).within_domain e })

@@ -1,6 +1,6 @@
 -- The walk of a query box in tables that hold a grid: the entries whose cell is in its range, in the pool's own order; and what gathering
 -- makes of them. Assumes nothing.
-use Rattle.basics.specs.Words.{ℕ, ◌<◌, ◌≡◌, sym, ap, ◌∙◌, subst, true, List, map, List-as-Memᴰ, take, T, arith}
+use Rattle.basics.specs.Words.{ℕ, ◌<◌, ◌≡◌, sym, ap, ◌∙◌, subst, true, List, map, Memᴰ, take, T, arith}
 use Rattle.geometry.specs.declared.Aabb.{Aabb}
 use Rattle.geometry.specs.Meaning.Domain.{aabb_in_domain}
 use Rattle.cells.specs.declared.Cell.{Cell}
@@ -38,16 +38,16 @@ module _ (t : Tables) (h : Holds t) where
     high_fits = near_fits (high_cell (size_of t) (aabb_on t s)) (high-near t h s l p)
 
   -- ---- each entry names a slot, and has the key of a cell that the box of the slot covers
-  pub entry_named : (r : List ℕ) → List-as-Memᴰ r (entries_in t) → Named t r
+  pub entry_named : (r : List ℕ) → Memᴰ r (entries_in t) → Named t r
   entry_named = all_member (Named t) (entries_in t) (entries-named t h)
 
-  pub entry-cell : (r : List ℕ) (m : List-as-Memᴰ r (entries_in t)) → let s = (entry_named r m).slot in
+  pub entry-cell : (r : List ℕ) (m : Memᴰ r (entries_in t)) → let s = (entry_named r m).slot in
       (c : Cell) × (in_range (low_cell (size_of t) (aabb_on t s)) (high_cell (size_of t) (aabb_on t s)) c ≡ true) × (key_of c ≡ row_key r)
   entry-cell r m =
       let n = entry_named r m in
       stands-cell (low_cell (size_of t) (aabb_on t n.slot)) (high_cell (size_of t) (aabb_on t n.slot)) (item_on t n.slot) (entries_in t) (h.every n.slot n.inside n.occupied) r m n.item
 
-  pub entry-fits : (r : List ℕ) (m : List-as-Memᴰ r (entries_in t)) → Fits (entry-cell r m).0
+  pub entry-fits : (r : List ℕ) (m : Memᴰ r (entries_in t)) → Fits (entry-cell r m).0
   entry-fits r m =
       let n = entry_named r m in
       let s = n.slot in

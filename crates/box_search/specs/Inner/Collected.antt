@@ -1,5 +1,6 @@
 -- What collecting the slots of a list behind the first n of `fs`, with the marks m, comes to. Assumes nothing.
-use Rattle.basics.specs.Words.{ℕ, ◌+◌, ◌≤◌, ◌≡◌, Bool, List, ◌++◌, length, take}
+use Rattle.std.specs.Prelude.{◌+◌, ◌≤◌, ◌≡◌, ◌++◌}
+use Rattle.basics.specs.Words.{ℕ, Bool, List, length, take}
 use Rattle.basics.specs.Meaning.Limits.{most_boxes}
 use Rattle.box_search.specs.Inner.Marks.{marks_after, first_met, unmarked}
 use Rattle.box_search.specs.Inner.Gather.{Slots}

@@ -1,5 +1,6 @@
 -- The slots that the entries of a stretch of the pool name, and the entries of a range that is given by two keys. Assumes nothing.
-use Rattle.basics.specs.Words.{ℕ, ◌/◌, ◌<◌, List, map, slice}
+use Rattle.std.specs.Prelude.{◌/◌, ◌<◌}
+use Rattle.basics.specs.Words.{ℕ, List, map, slice}
 use Rattle.basics.specs.Meaning.Limits.{most_boxes}
 use Rattle.cells.specs.Inner.Key.{column_of, line_of}
 use Rattle.storage.specs.Meaning.Keyed.{filter}

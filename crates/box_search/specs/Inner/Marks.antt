@@ -1,5 +1,6 @@
 -- Collecting slots with marks: a slot that has no mark is taken and marked. Assumes nothing.
-use Rattle.basics.specs.Words.{ℕ, ◌+◌, Bool, true, false, List, [], ◌∷◌, get_or, set}
+use Rattle.std.specs.Prelude.{◌+◌, ◌∷◌}
+use Rattle.basics.specs.Words.{ℕ, Bool, true, false, List, [], get_or, set}
 use Rattle.basics.specs.Meaning.Refusals.{pick}
 
 -- the marks after the slots of a list

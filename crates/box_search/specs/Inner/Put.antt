@@ -1,6 +1,6 @@
 -- What is asked of the slots that were found: each has a row. What is kept and reported of them. Assumes nothing.
-use Rattle.basics.specs.Words.{ℕ, ◌<◌, ◌≤◌, ◌≡◌, List, map, length, get_or}
-use Rattle.std.specs.Prelude.{Float}
+use Rattle.std.specs.Prelude.{◌<◌, ◌≤◌, ◌≡◌, Float}
+use Rattle.basics.specs.Words.{ℕ, List, map, length, get_or}
 use Rattle.basics.specs.Meaning.Limits.{most_boxes}
 use Rattle.geometry.specs.declared.Aabb.{Aabb}
 use Rattle.geometry.specs.Meaning.Intersects.{intersects}

@@ -1,5 +1,6 @@
 -- Each number of a list once, at its first place. Assumes nothing.
-use Rattle.basics.specs.Words.{ℕ, Bool, not, List, [], ◌∷◌, eqb}
+use Rattle.std.specs.Prelude.{◌∷◌}
+use Rattle.basics.specs.Words.{ℕ, Bool, not, List, [], eqb}
 use Rattle.storage.specs.Meaning.Keyed.{filter}
 
 abbrev pub is_other : ℕ → ℕ → Bool

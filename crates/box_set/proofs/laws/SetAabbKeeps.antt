@@ -55,13 +55,13 @@ module _ (t : Tables) (h : Holds t) (s : ℕ) (inside : s < slots_of t) (is_live
         → All (λ r. OfOther t s r ⊎ (row_item r ≡ item_for (size_of t) s b)) rows
         → ((i : ℕ) → (i ≡ s → ⊥) → StandsOn t (entries_in t) i → StandsOn t rows i)
         → Stands (low_cell (size_of t) b) (high_cell (size_of t) b) (item_for (size_of t) s b) rows → Holds u
-    placed-holds in_domain_lem few rows e sorted kept keeps stands =
+    placed-holds within_domain few rows e sorted kept keeps stands =
         let own : item_for (size_of t) s b ≡ item_on u s = rw (p.same_size, at_slot) in
         let still : phase_at u.nums s ≡ live = rw p.same-nums is_live in
         changed-holds t u s others h inside rows sized
         (record { size = rw p.same_size h.counted.size; used-most = rw p.same-pool p.used-most })
         (rw p.same-nums p.slots)
-        (λ z. record { in_domain_lem = rw at_slot in_domain_lem; cells-most = rw (p.same_size, at_slot) few })
+        (λ z. record { within_domain = rw at_slot within_domain; cells-most = rw (p.same_size, at_slot) few })
         e sorted
         (all_map _ (Kept t u s others) (λ r k. ⊎_elim inl (λ q. inr (still, q ∙ own)) k) rows kept)
         keeps
@@ -94,8 +94,8 @@ module _ (t : Tables) (h : Holds t) (s : ℕ) (inside : s < slots_of t) (is_live
     rec_entries = refl
 
     recorded_keeps : T (aabb_in_domain b) → Holds (box_recorded t s b)
-    recorded_keeps in_domain_lem =
-        placed-holds (box_recorded t s b) rec_placed in_domain_lem (rw covers-same at (h.boxes s inside is_live).cells-most) (entries_in t) rec_entries (entries_sorted t h)
+    recorded_keeps within_domain =
+        placed-holds (box_recorded t s b) rec_placed within_domain (rw covers-same at (h.boxes s inside is_live).cells-most) (entries_in t) rec_entries (entries_sorted t h)
         (all_map (Named t) _ (λ r w.
         elim (d_eq w.slot s) [
           | inl q ↦ inr (w.item ∙ ap (item_on t) q ∙ item-stays)
@@ -121,7 +121,7 @@ module _ (t : Tables) (h : Holds t) (s : ℕ) (inside : s < slots_of t) (is_live
       as_written : take (length (entries_moved t s b)) (box_moved t s b).pool ≡ entries_moved t s b
       as_written = unfold box_moved in take-append_seam (entries_moved t s b) (drop (length (entries_moved t s b)) (written (entries_without t s) t.pool))
 
-  module _ (in_domain_lem : T (aabb_in_domain b)) (few : covers (size_of t) b ≤ most_cells) (room : used_of t + covers (size_of t) b ≤ length t.pool + covers (size_of t) (aabb_on t s)) where
+  module _ (within_domain : T (aabb_in_domain b)) (few : covers (size_of t) b ≤ most_cells) (room : used_of t + covers (size_of t) b ≤ length t.pool + covers (size_of t) (aabb_on t s)) where
     moved-placed : Placed (box_moved t s b)
     unfolding box_moved
     moved-placed =
@@ -140,14 +140,14 @@ module _ (t : Tables) (h : Holds t) (s : ℕ) (inside : s < slots_of t) (is_live
     moved_keeps : Holds (box_moved t s b)
     moved_keeps =
         let sorted = without_sorted t h s inside is_live in
-        placed-holds (box_moved t s b) moved-placed in_domain_lem few (entries_moved t s b) moved-entries
+        placed-holds (box_moved t s b) moved-placed within_domain few (entries_moved t s b) moved-entries
         (entered-sorted _ _ (item_for (size_of t) s b) (entries_without t s) sorted)
         (entered_all_lem _ _ (item_for (size_of t) s b) (entries_without t s) _ (all_map _ _ (λ r w. inl w) (entries_without t s) (without_other t h s inside is_live)) (λ c. inr refl))
         (λ i n st.
         entered_keeps _ _ (item_for (size_of t) s b) (entries_without t s) sorted (low_cell (size_of t) (aabb_on t i)) (high_cell (size_of t) (aabb_on t i)) (item_on t i)
         (λ q. n (item-same i s (eqb (covers (size_of t) (aabb_on t i)) 1) (eqb (covers (size_of t) b) 1) q)) (without_keeps t h s inside is_live i n st))
         (entered-stands _ _ (item_for (size_of t) s b) (entries_without t s)
-        (low_near b in_domain_lem (size_of t)) (high-near b in_domain_lem (size_of t)) sorted (without_none t h s inside is_live (eqb (covers (size_of t) b) 1)))
+        (low_near b within_domain (size_of t)) (high-near b within_domain (size_of t)) sorted (without_none t h s inside is_live (eqb (covers (size_of t) b) 1)))
 
     -- ---- either way
     pub other_box_keeps : Holds (with_other_box t s b)
@@ -155,7 +155,7 @@ module _ (t : Tables) (h : Holds t) (s : ℕ) (inside : s < slots_of t) (is_live
     other_box_keeps = go (cells_stay (size_of t) (aabb_on t s) b) refl
       where
         go : (p : Bool) → cells_stay (size_of t) (aabb_on t s) b ≡ p → Holds (pick p (box_recorded t s b) (box_moved t s b))
-        go true e = recorded_keeps e in_domain_lem
+        go true e = recorded_keeps e within_domain
         go false e = moved_keeps
 
   -- entries in use, less the box's old ones, plus its new ones

@@ -1,7 +1,7 @@
 -- What the steps of the code are asked for and give. Assumes nothing.
 -- Here: what only inner contracts cite.
-use Rattle.basics.specs.Words.{ℕ, ◌+◌, ◌<◌, ◌≤◌, ◌≡◌, Bool, List, length, get_or, take, eqb}
-use Rattle.std.specs.Prelude.{Float}
+use Rattle.std.specs.Prelude.{◌+◌, ◌<◌, ◌≤◌, ◌≡◌, Float}
+use Rattle.basics.specs.Words.{ℕ, Bool, List, length, get_or, take, eqb}
 use Rattle.basics.specs.Meaning.Limits.{most_boxes, most_entries, most_cells}
 use Rattle.basics.specs.Meaning.Says.{said}
 use Rattle.basics.specs.Meaning.Refusals.{pick}

@@ -1,6 +1,7 @@
 -- `set_aabb`: if both corner cells stay, only the record changes; otherwise the box leaves all its old cells and is then appended to all its
 -- new ones. Assumes nothing.
-use Rattle.basics.specs.Words.{ℕ, ◌+◌, ◌≡◌, Bool, List, [], ◌∷◌, length, set, leb}
+use Rattle.std.specs.Prelude.{◌+◌, ◌≡◌, ◌∷◌}
+use Rattle.basics.specs.Words.{ℕ, Bool, List, [], length, set, leb}
 use Rattle.basics.specs.Meaning.Says.{Decided, said}
 use Rattle.basics.proofs.laws.Says.{d_and, d_eqz}
 use Rattle.basics.specs.Meaning.Refusals.{Refusal, unless, first_of, pick, by_tests}

@@ -51,7 +51,7 @@ module _ (t : Tables) where
   live-item s p = ap item_in (way_live t.nums t.reals (size_of t) s p)
 
   pub slot-room : Sized t → CountsOf → Room t.nums t.reals t.map
-  slot-room s c = record { most = s.most; of_reals = s.of_reals; of_map = s.of_map; size = c.in_domain_lem }
+  slot-room s c = record { most = s.most; of_reals = s.of_reals; of_map = s.of_map; size = c.within_domain }
 
   module _ (z : Sized t) (c : CountsOf) (o : SlotsOf) {nexts stops jumps ends : List ℕ} (w : WaysOf nexts stops jumps ends) where
     abbrev row : ℕ → List ℕ
@@ -70,12 +70,12 @@ module _ (t : Tables) where
     row-live s l p = ap row (sym (live-item s p)) ∙ w.are s l ∙ ap track_of (way_live t.nums t.reals (size_of t) s p)
 
     bounded : (s : ℕ) → s < slots_of t → Bounded (way s)
-    bounded s l = slot_bounded t.nums t.reals (size_of t) s c.in_domain_lem.0 (λ p. ((o.each s l).if_live p).in_domain_lem)
+    bounded s l = slot_bounded t.nums t.reals (size_of t) s c.within_domain.0 (λ p. ((o.each s l).if_live p).within_domain)
 
     range_on : (s : ℕ) → s < slots_of t → phase_at t.nums s ≡ live → OnTrack (row (item_on t s)) (map key_of (range_cells (low_cell (size_of t) (aabb_on t s)) (high_cell (size_of t) (aabb_on t s))))
     range_on s l p =
         subst (λ (r : List ℕ). OnTrack r (map key_of (range_cells (low_cell (size_of t) (aabb_on t s)) (high_cell (size_of t) (aabb_on t s))))) (sym (row-live s l p))
-        (way_of_box (size_of t) c.in_domain_lem.0 (aabb_on t s) ((o.each s l).if_live p).in_domain_lem s)
+        (way_of_box (size_of t) c.within_domain.0 (aabb_on t s) ((o.each s l).if_live p).within_domain s)
 
     -- a step goes on at every item
     steps_on : (i : ℕ) → i < 512 → 1 ≤ get_or jumps i 0
@@ -129,9 +129,9 @@ module _ (t : Tables) where
       whole =
           record {
             sized = z;
-            counted = record { size = c.in_domain_lem; used-most = c.used-most };
+            counted = record { size = c.within_domain; used-most = c.used-most };
             slots = record { each = λ s l. (o.each s l).slot; past = o.past };
-            boxes = λ s l p. let b = (o.each s l).if_live p in record { in_domain_lem = b.in_domain_lem; cells-most = b.cells-most };
+            boxes = λ s l p. let b = (o.each s l).if_live p in record { within_domain = b.within_domain; cells-most = b.cells-most };
             ordered = v.ordered;
             each = λ j l. record { slot = second t.pool j / 2; inside = (own j l).0; occupied = occupied j l; item = item_is j l };
             every = stands;
@@ -140,10 +140,10 @@ module _ (t : Tables) where
   -- ---- from the whole to the parts
   module _ (h : Holds t) where
     pub counts_of : CountsOf
-    counts_of = record { in_domain_lem = h.counted.size; used-most = h.counted.used-most }
+    counts_of = record { within_domain = h.counted.size; used-most = h.counted.used-most }
 
     pub slots_of_lem : SlotsOf
-    slots_of_lem = record { each = λ s l. record { slot = h.slots.each s l; if_live = λ p. let b = h.boxes s l p in record { in_domain_lem = b.in_domain_lem; cells-most = b.cells-most } }; past = h.slots.past }
+    slots_of_lem = record { each = λ s l. record { slot = h.slots.each s l; if_live = λ p. let b = h.boxes s l p in record { within_domain = b.within_domain; cells-most = b.cells-most } }; past = h.slots.past }
 
     module _ {nexts stops jumps ends : List ℕ} (w : WaysOf nexts stops jumps ends) where
       -- an item that is no slot's has no entry

@@ -86,10 +86,10 @@ module _ (t : Tables) (h : Holds t) where
   -- ---- the corner cells of a box
   module _ (s : ℕ) (l : s < slots_of t) (p : phase_at t.nums s ≡ live) where
     pub low_near : Near (low_cell (size_of t) (aabb_on t s))
-    low_near = Box.low_near (aabb_on t s) (h.boxes s l p).in_domain_lem (size_of t)
+    low_near = Box.low_near (aabb_on t s) (h.boxes s l p).within_domain (size_of t)
 
     pub high-near : Near (high_cell (size_of t) (aabb_on t s))
-    high-near = Box.high-near (aabb_on t s) (h.boxes s l p).in_domain_lem (size_of t)
+    high-near = Box.high-near (aabb_on t s) (h.boxes s l p).within_domain (size_of t)
 
 -- ---- tables hold a grid if their parts do, and the list of their entries
 pub holds_of : (t : Tables) (rows : List (List ℕ)) → Sized t → Counted t → SlotsHold t.nums t.map → ((s : ℕ) → s < slots_of t → phase_at t.nums s ≡ live → BoxHolds t s) → entries_in t ≡ rows → Listing t rows → Holds t

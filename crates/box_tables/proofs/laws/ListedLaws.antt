@@ -138,10 +138,10 @@ module _ (t : Tables) (rows : List (List ℕ)) (named : All (Named t) rows) (s :
 
 -- tables that hold a grid
 pub listed : (t : Tables) → Holds t → (s : ℕ) → s < slots_of t → phase_at t.nums s ≡ live → Listed t (entries_in t) s
-listed t h s l p = stands-listed t (entries_in t) (entries-named t h) s (h.boxes s l p).in_domain_lem (h.every s l p)
+listed t h s l p = stands-listed t (entries_in t) (entries-named t h) s (h.boxes s l p).within_domain (h.every s l p)
 
 -- nothing is refused that 01 admits: entries in the order of the keys, which are of 64 bits, each of them of an occupied slot with its mark
 pub holds-listed : (t : Tables) → Sized t → Counted t → SlotsHold t.nums t.map → ((s : ℕ) → s < slots_of t → phase_at t.nums s ≡ live → BoxHolds t s) → Sorted row_key (entries_in t) → All (λ r. row_key r < 18446744073709551616) (entries_in t) → All (Named t) (entries_in t) → ((s : ℕ) → s < slots_of t → phase_at t.nums s ≡ live → Listed t (entries_in t) s) → Holds t
 holds-listed t sized counted slots boxes sorted small named g =
     holds_of t (entries_in t) sized counted slots boxes refl
-    (record { ordered = sorted; each = named; every = λ s l p. listed-stands t (entries_in t) named s (boxes s l p).in_domain_lem sorted small (g s l p) })
+    (record { ordered = sorted; each = named; every = λ s l p. listed-stands t (entries_in t) named s (boxes s l p).within_domain sorted small (g s l p) })

@@ -1,5 +1,5 @@
 -- The guess at a cell is a number: a product and sums of finite numbers, each rounded once, are no NaN. Assumes nothing.
-use Rattle.basics.specs.Words.{ℕ, zero, suc, ◌+◌, ◌-◌, ◌*◌, ◌^◌, Bool, true, false, not, cond, ◌&&◌, Bool·beq, T, ltb}
+use Rattle.basics.specs.Words.{ℕ, zero, suc, ◌+◌, ◌-◌, ◌*◌, ◌^◌, Bool, true, false, not, cond, ◌&&◌, beq, T, ltb}
 use lib.Ieee.{Float, nan, inf, fin, Format, binary32, prec, emax, low, odd, units, round, neg, sum, add, sub, mul, is_nan}
 use lib.Ieee.Scale.{finite}
 use Rattle.geometry.specs.Meaning.Domain.{in_domain}
@@ -30,7 +30,7 @@ either f s t u a b c d false false = round_number f u c d
 
 sum_number : (f : Format) (s : Bool) (a : ℕ) (t : Bool) (b c : ℕ) → Number (sum f s a t b c)
 unfolding sum
-sum_number f s a t b c = either f s t (s && ltb b a) (a + b) (b - a) (a - b) c (Bool·beq s t) (ltb a b)
+sum_number f s a t b c = either f s t (s && ltb b a) (a + b) (b - a) (a - b) c (beq s t) (ltb a b)
 
 -- ---- sums and products
 add-number : (f : Format) (x y : Float) → Number x → T (finite y) → Number (add f x y)

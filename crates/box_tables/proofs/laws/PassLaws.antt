@@ -1,6 +1,6 @@
 -- Laws of the pass over the entries: each goes one key on in the way of its item. Assumes nothing.
 use Rattle.basics.specs.Words.{ℕ, ◌+◌, ◌-◌, ◌*◌, ◌<◌, ◌≤◌, ◌≡◌, refl, sym, ap, ◌∙◌, subst, Bool, true, false, List, [], ◌∷◌, ◌++◌, map, map-append}
-use Rattle.basics.specs.Words.{append_assoc, append-nil, inl, inr, ◌↔◌, Iff·rfl, Iff·trans, length, get_or, set, take, drop, take-append-drop, length-set}
+use Rattle.basics.specs.Words.{append_assoc, append-nil, inl, inr, ◌↔◌, iff_rfl, iff_trans, length, get_or, set, take, drop, take-append-drop, length-set}
 use Rattle.basics.specs.Words.{length-append, take-suc, take-take, get_or-set_same, get_or-set_other, eqb, add-one, arith, eq-eqb, ne_eqb}
 use borrow.Author.Count.{below_none, below_more}
 use Rattle.basics.specs.Meaning.Says.{Decided}
@@ -69,7 +69,7 @@ going_none pool stops jumps nexts used r =
       at_first = λ e. refl;
       at_last = λ h. absurd (omega arith);
       reach = λ i h. omega (arith, r.reach i h);
-      gone = record { ordered = λ a b h. absurd (omega arith); inside = below_none _; comes = λ i h end l. Iff·rfl };
+      gone = record { ordered = λ a b h. absurd (omega arith); inside = below_none _; comes = λ i h end l. iff_rfl };
     }
 
 module _ {pool : List (List ℕ)} {stops jumps nexts₀ nexts : List ℕ} {j before : ℕ} (g : Going pool stops jumps nexts₀ nexts j before) where
@@ -107,7 +107,7 @@ module _ {pool : List (List ℕ)} {stops jumps nexts₀ nexts : List ℕ} {j bef
     comes-more : (a : ℕ) → a < 512 → (end : ℕ) (l : List ℕ) → ComesAt stops jumps a end (get_or nexts₀ a 0) (keys_of pool (j + 1) a ++ l) ↔ ComesAt stops jumps a end (get_or on a 0) l
     comes-more =
         every-item (λ a n. (end : ℕ) (l : List ℕ) → ComesAt stops jumps a end (get_or nexts₀ a 0) (keys_of pool (j + 1) a ++ l) ↔ ComesAt stops jumps a end n l)
-        (λ end l. subst (λ (m : List ℕ). ComesAt stops jumps i end (get_or nexts₀ i 0) m ↔ ComesAt stops jumps i end k l) (sym (more-own l)) (Iff·trans (g.gone.comes i inside end (first pool j ∷ l)) (step end l)))
+        (λ end l. subst (λ (m : List ℕ). ComesAt stops jumps i end (get_or nexts₀ i 0) m ↔ ComesAt stops jumps i end k l) (sym (more-own l)) (iff_trans (g.gone.comes i inside end (first pool j ∷ l)) (step end l)))
         (λ a d q end l. subst (λ (m : List ℕ). ComesAt stops jumps a end (get_or nexts₀ a 0) m ↔ ComesAt stops jumps a end (get_or nexts a 0) l) (sym (more_other a d l)) (g.gone.comes a q end l))
 
     pub going_more : Going pool stops jumps nexts₀ on (j + 1) (first pool j)

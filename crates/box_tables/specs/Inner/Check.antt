@@ -1,6 +1,6 @@
 -- What the parts of the check ask: each slot and its box, and each entry of the pool as the next on the way of its box. Assumes nothing.
-use Rattle.basics.specs.Words.{ℕ, ◌+◌, ◌/◌, ◌<◌, ◌≤◌, ◌≡◌, List, [], ◌∷◌, ◌++◌, map, ◌↔◌, length, get_or, take, T}
-use Rattle.std.specs.Prelude.{Float}
+use Rattle.std.specs.Prelude.{◌+◌, ◌/◌, ◌<◌, ◌≤◌, ◌≡◌, ◌∷◌, ◌++◌, ◌↔◌, Float}
+use Rattle.basics.specs.Words.{ℕ, List, [], map, length, get_or, take, T}
 use Rattle.basics.specs.Meaning.Limits.{most_boxes, most_entries, most_cells}
 use Rattle.geometry.specs.declared.Aabb.{Aabb}
 use Rattle.geometry.specs.Meaning.Domain.{aabb_in_domain}
@@ -16,12 +16,12 @@ use Rattle.box_tables.specs.Inner.Way.{jump_in, item_in, ToCome, track_of, OnTra
 
 -- ---- the counts, and the slots
 pub record Counts (size used pool : ℕ) : Type 0 where
-  pub in_domain_lem : SizeInDomain size
+  pub within_domain : SizeInDomain size
   pub used-most : used ≤ pool
 
 -- a box in the domain that covers at most 4,096 cells
 pub record BoxOk (size : ℕ) (b : Aabb) : Type 0 where
-  pub in_domain_lem : T (aabb_in_domain b)
+  pub within_domain : T (aabb_in_domain b)
   pub cells-most : covers size b ≤ most_cells
 
 -- ---- the ways in four arrays, by items: next key, last column, step, end

@@ -1,6 +1,7 @@
 -- Whether tables hold a box grid can be decided: `holds`. It is never computed: the check says the same. Assumes nothing.
 -- Here: what only inner contracts cite.
-use Rattle.basics.specs.Words.{ℕ, ◌≡◌, refl, ap, ap₂, List, [], ◌∷◌, inl, inr, length, get_or, drop, arith}
+use Rattle.std.specs.Prelude.{◌≡◌, ◌∷◌}
+use Rattle.basics.specs.Words.{ℕ, refl, ap, ap₂, List, [], inl, inr, length, get_or, drop, arith}
 use Rattle.basics.specs.Meaning.Says.{Decided}
 use Rattle.basics.proofs.laws.Says.{d_via, d_and, d_imp, d_eq, d_le, d_all, d_any, d_t}
 use Rattle.geometry.specs.Meaning.Domain.{aabb_in_domain}
@@ -28,7 +29,7 @@ module _ (t : Tables) where
   d_counted = d_via (λ x. record { size = x.0; used-most = x.1 }) (λ h. (h.size, h.used-most)) (d_and (d_and (d_le _ _) (d_le _ _)) (d_le _ _))
 
   d_box : (s : ℕ) → Decided (BoxHolds t s)
-  d_box s = d_via (λ x. record { in_domain_lem = x.0; cells-most = x.1 }) (λ h. (h.in_domain_lem, h.cells-most)) (d_and (d_t (aabb_in_domain (aabb_on t s))) (d_le _ _))
+  d_box s = d_via (λ x. record { within_domain = x.0; cells-most = x.1 }) (λ h. (h.within_domain, h.cells-most)) (d_and (d_t (aabb_in_domain (aabb_on t s))) (d_le _ _))
 
   d_entry : (j : ℕ) → Decided (EntryHolds t j)
   d_entry j =

@@ -1,8 +1,8 @@
 -- The way of a box through the cells that it covers, as the check goes it: the key that comes next, the last key, the step from the end of
 -- a row to the start of the row above, and the item. Assumes nothing.
 -- Here: what only inner contracts cite.
-use Rattle.basics.specs.Words.{ℕ, ◌+◌, ◌-◌, ◌≤◌, ◌≡◌, false, List, [], ◌∷◌, get_or, eqb}
-use Rattle.std.specs.Prelude.{Float}
+use Rattle.std.specs.Prelude.{◌+◌, ◌-◌, ◌≤◌, ◌≡◌, ◌∷◌, Float}
+use Rattle.basics.specs.Words.{ℕ, false, List, [], get_or, eqb}
 use Rattle.basics.specs.Meaning.Refusals.{pick}
 use Rattle.geometry.specs.declared.Aabb.{Aabb}
 use Rattle.cells.specs.declared.Cell.{Cell}

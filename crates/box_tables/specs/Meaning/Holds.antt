@@ -1,6 +1,7 @@
 -- Tables hold a box grid: the list of document 01, clause by clause. Assumes nothing.
 -- Of rows that are not in use nothing is asked but version, phase and map bit of every slot.
-use Rattle.basics.specs.Words.{ℕ, ◌<◌, ◌≤◌, ◌≡◌, length, T}
+use Rattle.std.specs.Prelude.{◌<◌, ◌≤◌, ◌≡◌}
+use Rattle.basics.specs.Words.{ℕ, length, T}
 use Rattle.basics.specs.Meaning.Limits.{most_cells}
 use Rattle.geometry.specs.Meaning.Domain.{aabb_in_domain}
 use Rattle.cells.specs.Meaning.Size.{SizeInDomain}
@@ -16,7 +17,7 @@ pub record Counted (t : Tables) : Type 0 where
 
 -- an occupied slot: its box is in the domain and not reversed, and covers at most 4,096 cells
 pub record BoxHolds (t : Tables) (s : ℕ) : Type 0 where
-  pub in_domain_lem : T (aabb_in_domain (aabb_on t s))
+  pub within_domain : T (aabb_in_domain (aabb_on t s))
   pub cells-most : covers (size_of t) (aabb_on t s) ≤ most_cells
 
 -- entry j names an occupied slot, with the mark that this box has

@@ -1,6 +1,6 @@
 -- The tables of a box grid of n slots and a pool of some entries, as lists, and their lengths. Assumes nothing.
-use Rattle.basics.specs.Words.{ℕ, ◌+◌, ◌*◌, ◌/◌, ◌≤◌, ◌≡◌, Bool, List, [], ◌∷◌, length, get_or, set, take, eqb}
-use Rattle.std.specs.Prelude.{Float}
+use Rattle.std.specs.Prelude.{◌+◌, ◌*◌, ◌/◌, ◌≤◌, ◌≡◌, ◌∷◌, Float}
+use Rattle.basics.specs.Words.{ℕ, Bool, List, [], length, get_or, set, take, eqb}
 use Rattle.std.specs.Float.{nan}
 use Rattle.basics.specs.Meaning.Limits.{most_boxes, most_entries}
 use Rattle.basics.specs.Meaning.Refusals.{pick}

@@ -1,6 +1,7 @@
 -- The nine rows of the cell table and the cases C1 to C5, with the rounding case of the box test, as one table and one computed test.
 -- Assumes nothing.
-use Rattle.basics.specs.Words.{◌+◌, ◌≡◌, refl, Bool, true, ◌&&◌, List, [], ◌∷◌, ◌++◌, map, length}
+use Rattle.std.specs.Prelude.{◌+◌, ◌≡◌, ◌&&◌, ◌∷◌, ◌++◌}
+use Rattle.basics.specs.Words.{refl, Bool, true, List, [], map, length}
 use Rattle.std.specs.Float.Ieee.{fits}
 use Rattle.cells.proofs.laws.CellTable
 use Rattle.geometry.proofs.laws.Cases

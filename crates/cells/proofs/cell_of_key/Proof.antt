@@ -1,5 +1,6 @@
 -- `cells::cell_of_key` meets its contract. Assumes nothing.
-use Rattle.basics.specs.Words.{ap, ◌∙◌, needs}
+use Rattle.basics.specs.Words.{ap, ◌∙◌, rules}
+use mir.Syntax.{w32}
 use mir.Facts.{to_z-of_z}
 use Rattle.cells.proofs.laws.Numbers.{cell_ext}
 use Rattle.cells.specs.Inner.Key.{downward, cell_of_key}
@@ -11,10 +12,10 @@ unfolding cell_of_key
 returns c =
     let x = c.before.before in
     cell_ext
-    (to_z-of_z (record { sfits = x.down-from-least.type-inv }) ∙ x.down-from-least.ensures ∙ ap downward x.before.column-of.ensures)
-    (to_z-of_z (record { sfits = c.down-from-least2.type-inv }) ∙ c.down-from-least2.ensures ∙ ap downward c.before.row_of.ensures)
+    (to_z-of_z {w = w32} (record { sfits = x.down_from_least-x.type_inv }) ∙ x.down_from_least-x.ensures ∙ ap downward x.before.column_of.ensures)
+    (to_z-of_z {w = w32} (record { sfits = c.down_from_least-y.type_inv }) ∙ c.down_from_least-y.ensures ∙ ap downward c.before.row_of.ensures)
 
-pub cell-of-key-spec : {M : Type 1} → statement M
-cell-of-key-spec =
+pub cell_of_key_spec : {M : Type 1} → statement M
+cell_of_key_spec =
     tie.close
-    (tie.spec (λ c κs. search needs) (λ c κs. search needs) (λ c κs. search needs) (λ c κs. search needs) returns)
+    (tie.spec (λ c κs. search rules) (λ c κs. search rules) (λ c κs. search rules) (λ c κs. search rules) returns)

@@ -1,5 +1,5 @@
 -- `cells::edge` meets its contract: the edge of a negative cell is the mirrored one of a positive. Assumes nothing.
-use Rattle.basics.specs.Words.{ℕ, zero, suc, ◌+◌, ◌-◌, ◌*◌, ◌/◌, ◌%◌, ◌^◌, ◌<◌, ◌≡◌, refl, sym, ap, ◌∙◌, Bool, true, false, cond, ltb, ℤ, pos, neg_ℤ, suc-mul, arith, needs}
+use Rattle.basics.specs.Words.{ℕ, zero, suc, ◌+◌, ◌-◌, ◌*◌, ◌/◌, ◌%◌, ◌^◌, ◌<◌, ◌≡◌, refl, sym, ap, ◌∙◌, Bool, true, false, cond, ltb, ℤ, pos, neg_ℤ, suc-mul, arith, rules}
 use lib.Signed.{mag, lt_z}
 use Prim.Native.Nat.{compare}
 use lib.Ieee.{Float, inf, binary32, prec, emax, low, neg, size, nearest, odd, units, round, of_int}
@@ -54,31 +54,31 @@ under-edge : (s : ℕ) (c : ℤ) → 0 < s → lt_z c (pos 0) ≡ true → neg (
 under-edge s c h z =
     neg-whole (mag c * s + s) (omega arith) ∙ ap (λ (n : ℕ). of_int binary32 (neg_ℤ (pos n))) (sym (suc-mul (mag c) s)) ∙ sym (ap (edge s) (is_under c z))
 
-mul-near : tie.Need-overflow-mul-near
+mul-near : tie.Need-overflow_mul-near
 mul-near c = omega (arith, near c, c.before.requires.1)
 
-add-exactly : tie.Need-overflow-add-exactly
+add-exactly : tie.Need-overflow_add-near
 add-exactly c = omega (arith, near c.before, c.before.before.requires.1)
 
 exactly-requires : tie.Need-exactly-requires
 exactly-requires c κs = omega (arith, near c.before, c.before.before.requires.1)
 
-returns : tie.Need-returns
+returns : tie.Need-returns-then-c-lt0
 returns c =
     let k = c.before.before in
     let s = k.before in
     let a = s.args in
-    ap neg (c.exactly.ensures ∙ ap (λ (n : ℕ). of_int binary32 (pos (n + a.size))) (near k)) ∙ under-edge a.size a.c s.requires.0 (read_sign a.c _ s.ranges.c c.before.if1.true)
+    ap neg (c.exactly.ensures ∙ ap (λ (n : ℕ). of_int binary32 (pos (n + a.size))) (near k)) ∙ under-edge a.size a.c s.requires.0 (read_sign a.c _ s.ranges.c c.before.if-c-lt0.true)
 
 exactly-requires-2 : tie.Need-exactly-requires-2
 exactly-requires-2 c κs = omega (arith, near c.before, c.before.before.requires.1)
 
-returns-2 : tie.Need-returns-2
+returns-2 : tie.Need-returns
 returns-2 c =
     let k = c.before.before in
     let s = k.before in
     let a = s.args in
-    c.exactly2.ensures ∙ ap (λ (n : ℕ). of_int binary32 (pos n)) (near k) ∙ over_edge a.size a.c (read_sign a.c _ s.ranges.c c.before.if1.false)
+    c.exactly-2.ensures ∙ ap (λ (n : ℕ). of_int binary32 (pos n)) (near k) ∙ over_edge a.size a.c (read_sign a.c _ s.ranges.c c.before.if-c-lt0.false)
 
-pub edge-spec : {M : Type 1} → statement M
-edge-spec = tie.close (tie.spec (λ c κs. search needs) mul-near add-exactly exactly-requires returns exactly-requires-2 returns-2)
+pub edge_spec : {M : Type 1} → statement M
+edge_spec = tie.close (tie.spec (λ c κs. search rules) mul-near add-exactly exactly-requires returns exactly-requires-2 returns-2)

@@ -100,14 +100,14 @@ module _ (s : ℕ) (S : SizeInDomain s) (k : ℕ) (h : k * s ≤ 1048576) (first
   last-room : t.number < overflow binary32
   last-room = lt_of_le_of_lt (t.reach t.number (le_of_eq refl)) reach-room
 
-  in_domain_lem : (x : Float) (p n : ℕ) → T (fits binary32 x) → Num binary32 x p n → p ≤ 1048576 * unit → n ≤ 1048576 * unit → T (in_domain x)
-  in_domain_lem x p n f v a b = and_i (fits binary32 x) (within 20 x) f (bounded binary32 20 x p n reach-room v a b)
+  within_domain : (x : Float) (p n : ℕ) → T (fits binary32 x) → Num binary32 x p n → p ≤ 1048576 * unit → n ≤ 1048576 * unit → T (in_domain x)
+  within_domain x p n f v a b = and_i (fits binary32 x) (within 20 x) f (bounded binary32 20 x p n reach-room v a b)
 
   pub over_span : first ≡ of_int binary32 (pos (k * s)) → Spans s (pos k) first last
   over_span e = spans_by s (pos k) first last (k * s * unit) 0 t.number 0 (rw e (near_num s k S h)) t.is (lit< tt) last-room
       (λ x p n f w v a b.
       let (z, i, j) = over_part (k * s * unit) p n t.number (either binary32 x p n v) a b in
-      let d = in_domain_lem x p n f v (t.reach p j) (none_of n _ z) in
+      let d = within_domain x p n f v (t.reach p j) (none_of n _ z) in
       (d, in_over binary32 s B x p n v room (domain_reached x d) k z i (t.below p j)))
       (λ x p n d v c.
       let (z, i, j) = over_in binary32 s B x p n v room (domain_reached x d) k c in
@@ -118,7 +118,7 @@ module _ (s : ℕ) (S : SizeInDomain s) (k : ℕ) (h : k * s ≤ 1048576) (first
   under_span g = spans_by s (negsuc k) (neg last) (neg first) 0 t.number 0 g.number (neg_num binary32 last t.number 0 t.is) (neg_num binary32 first g.number 0 g.is) last-room (lit< tt)
       (λ x p n f w v a b.
       let (z, o, i, j) = under_part g.number p n t.number (either binary32 x p n v) g.some a b in
-      let d = in_domain_lem x p n f v (none_of p _ z) (t.reach n j) in
+      let d = within_domain x p n f v (none_of p _ z) (t.reach n j) in
       (d, in_under binary32 s B x p n v room (domain_reached x d) k o (g.from n i) (t.below n j)))
       (λ x p n d v c.
       let (o, i, j) = under_in binary32 s B x p n v room (domain_reached x d) k c in

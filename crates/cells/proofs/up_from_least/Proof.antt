@@ -3,8 +3,8 @@ use Rattle.cells.proofs.Signs.{held, cast, number, widens, raised_wide, upward-s
 use Rattle.cells.proofs.up_from_least.Statement.{statement}
 use Rattle.cells.proofs.up_from_least.Tie as tie
 
-pub up-from-least-spec : {M : Type 1} → statement M
-up-from-least-spec =
+pub up_from_least_spec : {M : Type 1} → statement M
+up_from_least_spec =
     tie.close
     (tie.spec
     (λ c. widens c.args.x c.ranges.x)

@@ -1,5 +1,6 @@
 -- The whole part of a binary32's magnitude by the fields of its bit pattern. Assumes nothing.
-use Rattle.basics.specs.Words.{ℕ, ◌+◌, ◌*◌, ◌/◌, ◌%◌, ◌^◌, cond, ltb}
+use Rattle.std.specs.Prelude.{◌+◌, ◌*◌, ◌/◌, ◌%◌, ◌^◌}
+use Rattle.basics.specs.Words.{ℕ, cond, ltb}
 
 -- of the exponent field e and the digits t: without the fraction, and at most 2 ^ 31
 unfoldable pub cut_fields : ℕ → ℕ → ℕ

@@ -1,6 +1,6 @@
 -- The edges of the cells, and where a coordinate stands by comparison with them. Assumes nothing.
-use Rattle.basics.specs.Words.{ℕ, zero, suc, ◌*◌, Bool, false, ◌&&◌, ℤ, pos, negsuc, neg_ℤ}
-use Rattle.std.specs.Prelude.{Float}
+use Rattle.std.specs.Prelude.{◌*◌, ◌&&◌, Float}
+use Rattle.basics.specs.Words.{ℕ, zero, suc, Bool, false, ℤ, pos, negsuc, neg_ℤ}
 use Rattle.std.specs.Float.{fin, binary32}
 use Rattle.std.specs.Float.Ieee.{of_int, lt, le}
 

@@ -1,6 +1,7 @@
 -- The key of a cell: one number for each cell, in the order of the rows and, in a row, of x. Assumes nothing.
 -- Here: what only inner contracts cite.
-use Rattle.basics.specs.Words.{ℕ, ◌/◌, ◌%◌, ℤ, pos, ◌-ℤ◌}
+use Rattle.std.specs.Prelude.{◌/◌, ◌%◌, ◌-ℤ◌}
+use Rattle.basics.specs.Words.{ℕ, ℤ, pos}
 use Rattle.cells.specs.declared.Cell.{Cell}
 
 -- ---- back from a key

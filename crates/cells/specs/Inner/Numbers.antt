@@ -1,6 +1,6 @@
 -- A cell by its two numbers: how large they are, and that equal numbers make equal cells. Assumes nothing.
 -- Here: what only inner contracts cite.
-use Rattle.basics.specs.Words.{◌≤◌}
+use Rattle.std.specs.Prelude.{◌≤◌}
 use Rattle.std.specs.Int.Signed.{mag}
 use Rattle.cells.specs.declared.Cell.{Cell}
 

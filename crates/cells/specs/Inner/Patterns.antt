@@ -1,7 +1,8 @@
 -- The numbers that binary32 holds, by the bit patterns from 0 up: a greater pattern has the greater number, so none lies between the numbers of two
 -- patterns one after the other. Numbers are in units of the smallest. Assumes nothing.
 -- Here: what only inner contracts cite.
-use Rattle.basics.specs.Words.{ℕ, zero, suc, ◌+◌, ◌*◌, ◌/◌, ◌%◌, ◌^◌, ◌≡◌}
+use Rattle.std.specs.Prelude.{◌+◌, ◌*◌, ◌/◌, ◌%◌, ◌^◌, ◌≡◌}
+use Rattle.basics.specs.Words.{ℕ, zero, suc}
 
 -- ---- the number of an exponent's field and digits, and of a pattern
 abbrev pub fields_of : ℕ → ℕ → ℕ

@@ -1,6 +1,7 @@
 -- Numbers that rise strictly, and those one after the other. Assumes nothing.
 -- Here: what only inner contracts cite.
-use Rattle.basics.specs.Words.{ℕ, ◌<◌, List, [], ◌∷◌}
+use Rattle.std.specs.Prelude.{◌<◌, ◌∷◌}
+use Rattle.basics.specs.Words.{ℕ, List, []}
 
 -- all of them are above k
 abbrev pub Above : ℕ → List ℕ → Type 0

@@ -1,6 +1,6 @@
 -- The coordinates of a cell as all binary32 numbers from one to another. Assumes nothing.
-use Rattle.basics.specs.Words.{ℕ, ◌*◌, ◌≤◌, ◌<◌, ◌≡◌, Bool, ◌&&◌, T, ℤ, pos}
-use Rattle.std.specs.Prelude.{Float}
+use Rattle.std.specs.Prelude.{◌*◌, ◌≤◌, ◌<◌, ◌≡◌, ◌&&◌, Float}
+use Rattle.basics.specs.Words.{ℕ, Bool, T, ℤ, pos}
 use Rattle.std.specs.Float.{binary32}
 use Rattle.std.specs.Float.Ieee.{le, fits}
 use Rattle.basics.specs.Meaning.Says.{Says}

@@ -1,7 +1,7 @@
 -- The cell of a coordinate and of a position. Assumes nothing.
-use Rattle.basics.specs.Words.{ℕ, false, cond, ℤ, pos, ◌-ℤ◌}
+use Rattle.std.specs.Prelude.{◌-ℤ◌, Float}
+use Rattle.basics.specs.Words.{ℕ, false, cond, ℤ, pos}
 use Rattle.std.specs.Int.Signed.{quot_z}
-use Rattle.std.specs.Prelude.{Float}
 use Rattle.std.specs.Float.{fin}
 use Rattle.std.specs.Float.Ieee.{lt, to_signed}
 use Rattle.geometry.specs.declared.Position.{Position}

@@ -1,5 +1,6 @@
 -- The key of a cell: one number for each cell, in the order of the rows and, in a row, of x. Assumes nothing.
-use Rattle.basics.specs.Words.{ℕ, ◌+◌, ◌-◌, ◌*◌, ℤ, pos, negsuc}
+use Rattle.std.specs.Prelude.{◌+◌, ◌-◌, ◌*◌}
+use Rattle.basics.specs.Words.{ℕ, ℤ, pos, negsuc}
 use Rattle.cells.specs.declared.Cell.{Cell}
 
 -- a 32-bit number counted from the least

@@ -1,6 +1,7 @@
 -- A range of cells: from the cell of the lower left to that of the upper right, row by row, x fastest; empty if either number is
 -- reversed. Assumes nothing.
-use Rattle.basics.specs.Words.{ℕ, zero, suc, ◌*◌, List, [], ◌∷◌, ◌++◌, ℤ, pos, negsuc, ◌+ℤ◌, ◌-ℤ◌}
+use Rattle.std.specs.Prelude.{◌*◌, ◌∷◌, ◌++◌, ◌+ℤ◌, ◌-ℤ◌}
+use Rattle.basics.specs.Words.{ℕ, zero, suc, List, [], ℤ, pos, negsuc}
 use Rattle.cells.specs.declared.Cell.{Cell}
 
 -- how many whole numbers there are from a to b, both counted

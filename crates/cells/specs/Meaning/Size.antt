@@ -1,5 +1,6 @@
 -- The cell sizes of the domain. Assumes nothing.
-use Rattle.basics.specs.Words.{ℕ, ◌≤◌}
+use Rattle.std.specs.Prelude.{◌≤◌}
+use Rattle.basics.specs.Words.{ℕ}
 
 -- the one place that says how large a cell may be: 2 ^ 20
 abbrev pub size_most : ℕ

@@ -1,5 +1,5 @@
 -- What a query writes of an object, or `nearest` returns, is what `get` says of it. Assumes nothing.
-use Rattle.basics.specs.Words.{ℕ, ◌<◌, ◌≡◌, sym, ap, ◌∙◌, refl, subst, Bool, true, false, ◌&&◌, List, [], ◌∷◌, List-as-Memᴰ, List·Memᴰ·head, get_or, eqb, arith, eqb-true}
+use Rattle.basics.specs.Words.{ℕ, ◌<◌, ◌≡◌, sym, ap, ◌∙◌, refl, subst, Bool, true, false, ◌&&◌, List, [], ◌∷◌, Memᴰ, Memᴰ-head, get_or, eqb, arith, eqb-true}
 use lib.Ieee.{Float}
 use Rattle.basics.specs.Meaning.Refusals.{first_of, pick}
 use Rattle.geometry.specs.declared.Position.{Position}
@@ -80,9 +80,9 @@ module _ (t : Tables) where
   given b n near = pick b (nearest_report t near) (nearest_reply n 0 no_finding)
 
   one-given : (b : Bool) (n : ℕ) → eqb n 0 ≡ b → (near : List Entry) → (given b n near).count ≡ 1
-      → (n ≡ 0) × (e : Entry) × List-as-Memᴰ e near × (given b n near ≡ nearest_reply 0 1 (finding_on t e))
+      → (n ≡ 0) × (e : Entry) × Memᴰ e near × (given b n near ≡ nearest_reply 0 1 (finding_on t e))
   one-given true n q [] k = absurd (omega arith)
-  one-given true n q (e ∷ near) k = (eqb-true n 0 q, e, List·Memᴰ·head refl, refl)
+  one-given true n q (e ∷ near) k = (eqb-true n 0 q, e, Memᴰ-head refl, refl)
   one-given false n q near k = absurd (omega arith)
 
   -- a point that stands in tables that hold a grid: `get` of its handle says what is returned of it

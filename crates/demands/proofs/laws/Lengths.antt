@@ -39,7 +39,7 @@ point_sized n some most =
       of_map = length-replicate (head + words_for n) _;
       of_pool = length-replicate n _;
       of_spots = length-replicate n _;
-      of_cells_lem = length-replicate n _;
+      of_cells = length-replicate n _;
     })
 
 pub point_lengths : (n size : ℕ) → 1 ≤ n → n ≤ most_slots → SizeInDomain size → (PointNew.new_of (point_tables n) size).result ≡ 0

@@ -17,7 +17,7 @@ pub record Tested {T P D : Type 0} (rs : List Refusal) (refusal : ℕ → Left T
 module _ {T P D : Type 0} {rs : List Refusal} {refusal : ℕ → Left T P D} {l : Left T P D} (s : Tested rs refusal l) where
   -- the answer is the first that applies
   pub first-answer : ((n : ℕ) → (refusal n).answer ≡ n) → l.answer ≡ first_that rs
-  first-answer says = ap (λ (l : Left T P D). l.answer) s.by_tests ∙ go (eqb (first_of rs) 0) refl ∙ in_order rs s.in_turn
+  first-answer says = ap (λ (l : Left T P D). l.answer) s.by_tests_lem ∙ go (eqb (first_of rs) 0) refl ∙ in_order rs s.in_turn
     where
       go : (b : Bool) → eqb (first_of rs) 0 ≡ b → (pick b s.done (refusal (first_of rs))).answer ≡ first_of rs
       go true z = s.accepted ∙ sym (eqb-true (first_of rs) 0 z)
@@ -26,7 +26,7 @@ module _ {T P D : Type 0} {rs : List Refusal} {refusal : ℕ → Left T P D} {l 
   -- and if that is a refusal, nothing is left but what it says
   pub first-refused : (first_that rs ≡ 0 → ⊥) → l ≡ refusal (first_that rs)
   first-refused n =
-      s.by_tests ∙ rw (ne_eqb (first_of rs) 0 (λ z. n (sym (in_order rs s.in_turn) ∙ z))) (ap refusal (in_order rs s.in_turn))
+      s.by_tests_lem ∙ rw (ne_eqb (first_of rs) 0 (λ z. n (sym (in_order rs s.in_turn) ∙ z))) (ap refusal (in_order rs s.in_turn))
 
 -- ---- a handle's test in its place among the others, whichever of its two numbers it has: the order asks for the numbers alone
 abbrev numbered : List ℕ → List Refusal

@@ -1,15 +1,15 @@
 -- `encoder::circle_in_domain` meets its contract. Assumes nothing.
-use Rattle.basics.specs.Words.{◌&&◌, needs}
+use Rattle.basics.specs.Words.{◌&&◌, rules}
 use Rattle.encoder.proofs.circle_in_domain.Statement.{statement}
 use Rattle.encoder.proofs.circle_in_domain.Tie as tie
 
-pub circle-in-domain-spec : {M : Type 1} → statement M
-circle-in-domain-spec =
+pub circle_in_domain_spec : {M : Type 1} → statement M
+circle_in_domain_spec =
     tie.close
     (tie.spec
-    (λ c. search needs)
-    (λ c. search needs)
-    (λ c κs. search needs)
-    (λ c. search needs)
-    (λ c κs. search needs)
-    (λ c. λ z. c.before.position-in-domain.ensures z && c.radius-in-domain.ensures z))
+    (λ c. search rules)
+    (λ c. search rules)
+    (λ c κs. search rules)
+    (λ c. search rules)
+    (λ c κs. search rules)
+    (λ c. λ z. c.before.position_in_domain.ensures z && c.radius_in_domain.ensures z))

@@ -1,44 +1,39 @@
 -- `encoder::circles_in_range` meets its contract: those from k on decide. Assumes nothing.
-use Rattle.basics.specs.Words.{◌-◌, ◌≤◌, ◌≡◌, refl, sym, ◌∙◌, length, drop, arith, not-true, not-false, needs}
+use Rattle.basics.specs.Words.{◌-◌, ◌≤◌, ◌≡◌, refl, sym, ◌∙◌, length, drop, arith, rules}
 use Rattle.encoder.specs.Meaning.FillMap.{every, circle_in_domain, circle_in_range}
 use Rattle.encoder.proofs.laws.EveryLaws.{every-next, every_not, every_end, every_at}
 use Rattle.encoder.proofs.circles_in_range.Statement.{statement}
 use Rattle.encoder.proofs.circles_in_range.Tie as tie
 
-abbrev invariant-loop : tie.invariant-loop
-invariant-loop circles k₀ k = (k ≤ length circles) × (every circle_in_range circles ≡ every circle_in_range (drop k circles))
+abbrev invariant-loop-k : tie.invariant-loop-k
+invariant-loop-k circles k₀ k = (k ≤ length circles) × (every circle_in_range circles ≡ every circle_in_range (drop k circles))
 
-abbrev decreases-loop : tie.decreases-loop
-decreases-loop circles k₀ k = length circles - k
+abbrev decreases-loop-k : tie.decreases-loop-k
+decreases-loop-k circles k₀ k = length circles - k
 
-circle-in-range-requires : tie.Need-circle-in-range-requires invariant-loop decreases-loop
+circle-in-range-requires : tie.Need-circle_in_range-requires invariant-loop-k decreases-loop-k
 circle-in-range-requires c κs =
-    let l = c.before.before in
-    every_at circle_in_domain _ l.before.args.circles.now l.loop.k c.before.loop-test.true l.before.requires
+    every_at circle_in_domain _ c.args.circles.now c.loop-k.k c.loop-k-test.true c.requires
 
-returns : tie.Need-returns invariant-loop decreases-loop
+returns : tie.Need-returns-then-not-circle_in_range invariant-loop-k decreases-loop-k
 returns c =
-    let d = c.before in
-    let l = d.before.before.before in
-    sym (every_not circle_in_range _ l.before.args.circles.now l.loop.k d.before.before.loop-test.true l.loop.invariant.1 (sym d.circle-in-range.ensures ∙ not-true _ c.if1.true))
+    sym (every_not circle_in_range _ c.args.circles.now c.loop-k.k c.loop-k-test.true c.loop-k.invariant.1 (sym c.circle_in_range.ensures ∙ c.if-not-circle_in_range.true))
 
-loop-again : tie.Need-loop-preserved invariant-loop decreases-loop
+loop-again : tie.Need-loop-k-preserved invariant-loop-k decreases-loop-k
 loop-again c =
-    let d = c.before in
-    let l = d.before.before.before in
-    (omega arith, every-next circle_in_range _ l.before.args.circles.now l.loop.k d.before.before.loop-test.true l.loop.invariant.1 (sym d.circle-in-range.ensures ∙ not-false _ c.if1.false))
+    (omega arith, every-next circle_in_range _ c.args.circles.now c.loop-k.k c.loop-k-test.true c.loop-k.invariant.1 (sym c.circle_in_range.ensures ∙ c.if-not-circle_in_range.false))
 
-returns-2 : tie.Need-returns-2 invariant-loop decreases-loop
-returns-2 c = let l = c.before in sym (every_end circle_in_range l.before.args.circles.now l.loop.k l.loop.invariant.0 (omega arith) l.loop.invariant.1)
+returns-2 : tie.Need-returns invariant-loop-k decreases-loop-k
+returns-2 c = sym (every_end circle_in_range c.args.circles.now c.loop-k.k c.loop-k.invariant.0 (omega arith) c.loop-k.invariant.1)
 
-pub circles-in-range-spec : {M : Type 1} → statement M
-circles-in-range-spec =
+pub circles_in_range_spec : {M : Type 1} → statement M
+circles_in_range_spec =
     tie.close
     (tie.spec
-    invariant-loop
-    decreases-loop
+    invariant-loop-k
+    decreases-loop-k
     (λ c. (omega arith, refl))
-    (λ c. search needs)
+    (λ c. search rules)
     (λ c. omega arith)
     circle-in-range-requires
     returns

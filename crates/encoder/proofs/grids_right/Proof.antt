@@ -1,5 +1,5 @@
 -- `encoder::grids_right` meets its contract. Assumes nothing.
-use Rattle.basics.specs.Words.{◌≡◌, sym, ◌∙◌, Bool, true, false, ◌&&◌, eqb, arith, eq-eqb, ne_eqb, not-true, not-false, needs}
+use Rattle.basics.specs.Words.{◌≡◌, sym, ◌∙◌, Bool, true, false, ◌&&◌, eqb, arith, eq-eqb, ne_eqb, rules}
 use Rattle.point_tables.specs.Meaning.Tables as Points
 use Rattle.point_tables.specs.Meaning.Decide as PointsDecide
 use Rattle.box_tables.specs.Meaning.Tables as Boxes
@@ -45,58 +45,53 @@ boxes-size s = eqb (Boxes.size_of (boxes s)) side
 abbrev start : tie.After-check → tie.Start
 start k = k.before.before.before
 
-abbrev start-2 : tie.After-check2 → tie.Start
+abbrev start-2 : tie.After-check-2 → tie.Start
 start-2 k = start k.before.before.before.before
 
-points-held : (e : tie.Else1) → points-hold (start e.before) ≡ true
-points-held e = sym e.before.check.ensures ∙ not-false _ e.if1.false
+points-held : (e : tie.Else-not-check) → points-hold (start e.before) ≡ true
+points-held e = sym e.check.ensures ∙ e.if-not-check.false
 
-boxes-held : (e : tie.Else3) → boxes-hold (start-2 e.before) ≡ true
-boxes-held e = sym e.before.check2.ensures ∙ not-false _ e.if3.false
+boxes-held : (e : tie.Else-not-check-2) → boxes-hold (start-2 e.before) ≡ true
+boxes-held e = sym e.check-2.ensures ∙ e.if-not-check-2.false
 
-returns : tie.Need-returns
+returns : tie.Need-returns-then-not-check
 returns c =
-    let k = c.before in
-    let s = start k in
-    no-first (points-hold s) (points-size s) (boxes-hold s) (boxes-size s) (sym k.check.ensures ∙ not-true _ c.if1.true)
+    let s = start c.before in
+    no-first (points-hold s) (points-size s) (boxes-hold s) (boxes-size s) (sym c.check.ensures ∙ c.if-not-check.true)
 
 -- tables that hold a grid have the head of their map
-head_in : tie.Need-shared-slice-read-if2
-head_in c = let e = c.before in omega (arith, ((PointsDecide.holds-says (points (start e.before))).yes (points-held e)).sized.of_map)
+head_in : tie.Need-bounds-map-0
+head_in c = omega (arith, ((PointsDecide.holds_says (points (start c.before.before))).yes (points-held c.before)).sized.of_map)
 
-returns-2 : tie.Need-returns-2
+returns-2 : tie.Need-returns-then-map-ne-SIDE
 returns-2 c =
-    let e = c.before.before in
-    let s = start e.before in
-    no_second (points-hold s) (points-size s) (boxes-hold s) (boxes-size s) (points-held e) (ne_eqb (Points.size_of (points s)) side c.if2.true)
+    let s = start c.before.before.before in
+    no_second (points-hold s) (points-size s) (boxes-hold s) (boxes-size s) (points-held c.before.before) (ne_eqb (Points.size_of (points s)) side c.if-map-ne-SIDE.true)
 
-returns-3 : tie.Need-returns-3
+returns-3 : tie.Need-returns-then-not-check-2
 returns-3 c =
-    let k = c.before in
-    let e = k.before in
-    let s = start-2 k in
-    no_third (points-hold s) (points-size s) (boxes-hold s) (boxes-size s) (points-held e.before.before) (eq-eqb (Points.size_of (points s)) side e.if2.false)
-    (sym k.check2.ensures ∙ not-true _ c.if3.true)
+    let s = start-2 c.before in
+    no_third (points-hold s) (points-size s) (boxes-hold s) (boxes-size s) (points-held c.before.before.before.before) (eq-eqb (Points.size_of (points s)) side c.if-map-ne-SIDE.false)
+    (sym c.check-2.ensures ∙ c.if-not-check-2.true)
 
-box-head-in : tie.Need-shared-slice-read-result
-box-head-in c = let e = c.before in omega (arith, ((BoxesDecide.holds-says (boxes (start-2 e.before))).yes (boxes-held e)).sized.of_map)
+box-head-in : tie.Need-bounds-boxmap-0
+box-head-in c = omega (arith, ((BoxesDecide.holds_says (boxes (start-2 c.before.before))).yes (boxes-held c.before)).sized.of_map)
 
-returns-4 : tie.Need-returns-4
+returns-4 : tie.Need-returns
 returns-4 c =
     let e = c.before in
-    let k = e.before.before in
     let s = start-2 e.before in
-    the_last (points-hold s) (points-size s) (boxes-hold s) (boxes-size s) (points-held k.before.before) (eq-eqb (Points.size_of (points s)) side k.if2.false) (boxes-held e)
+    the_last (points-hold s) (points-size s) (boxes-hold s) (boxes-size s) (points-held e.before.before.before.before) (eq-eqb (Points.size_of (points s)) side c.if-map-ne-SIDE.false) (boxes-held e)
 
-pub grids-right-spec : {M : Type 1} → statement M
-grids-right-spec =
+pub grids_right_spec : {M : Type 1} → statement M
+grids_right_spec =
     tie.close
     (tie.spec
-    (λ c κs. search needs)
+    (λ c κs. search rules)
     returns
     head_in
     returns-2
-    (λ c κs. search needs)
+    (λ c κs. search rules)
     returns-3
     box-head-in
     returns-4)

@@ -85,7 +85,7 @@ module _ (t : Points.Tables) (b : Boxes.Tables) (circles : List (List Float)) (b
           boxes = (BoxesDecide.holds_says b).yes hb;
           boxes-size = eqb-true (Boxes.size_of b) side sb;
           few = (leb_says (length circles) most_circles).yes lengths.0;
-          in_domain_lem = passed.1;
+          within_domain = passed.1;
         }
 
     pub fill_done : map_filled 0 (map_of t b circles) ≡ fill_map_of t b circles bytes

@@ -50,7 +50,7 @@ module _ (t : Points.Tables) (b : Boxes.Tables) (circles : List (List Float)) (d
   byte_drawn k h =
       laid.each k h
       ∙ (λ z. box_byte (boxed_is b d.boxes d.boxes-size k h z)
-      ((marked.each k h ∙ (λ y. point_byte (circled_is t d.points d.points-size k h circles (all_in_domain circles d.in_domain_lem) y) (recorded_is t d.points d.points-size k h y))) z))
+      ((marked.each k h ∙ (λ y. point_byte (circled_is t d.points d.points-size k h circles (all_in_domain circles d.within_domain) y) (recorded_is t d.points d.points-size k h y))) z))
       ∙ overlaid (circled t circles (k % columns) (k / columns)) (boxed b (k % columns) (k / columns)) (recorded t (k % columns) (k / columns))
 
   pub map_drawn : new ≡ map_of t b circles

@@ -1,6 +1,6 @@
 -- The map by places: it has 3,600 bytes, and byte j * 80 + i is block (i, j). Assumes nothing.
 use Rattle.basics.specs.Words.{ℕ, zero, suc, ◌+◌, ◌/◌, ◌%◌, ◌*◌, ◌<◌, ◌≡◌, refl, sym, ap, ◌∙◌, List, [], ◌∷◌, map, map-append, inl, inr, length, get_or}
-use Rattle.basics.specs.Words.{length-append, List·getD-append, get_or_at, arith}
+use Rattle.basics.specs.Words.{length-append, get_or-append, get_or_at, arith}
 use lib.Ieee.{Float}
 use Rattle.basics.proofs.laws.Says.{d_lt}
 use Rattle.point_tables.specs.Meaning.Tables as Points
@@ -22,7 +22,7 @@ module _ (f : ℕ → ℕ) where
   numbers_at (suc n) k h =
       ap (λ (l : List ℕ). get_or l k 0) (map-append f (numbers n) (n ∷ []))
       ∙ elim (d_lt k n) [
-        | inl l ↦ List·getD-append (map f (numbers n)) (f n ∷ []) 0 k (omega (arith, numbers-length n)) ∙ numbers_at n k l
+        | inl l ↦ get_or-append (map f (numbers n)) (f n ∷ []) 0 k (omega (arith, numbers-length n)) ∙ numbers_at n k l
         | inr l ↦ let e : k ≡ n = omega arith in get_or_at (map f (numbers n)) (f n) [] 0 k (numbers-length n ∙ sym e) ∙ ap f (sym e)
       ]
 

@@ -1,6 +1,6 @@
 -- What drawing the map asks for: both grids are whole and have cells of 16, and the circles are not too many and each in the domain. Assumes nothing.
-use Rattle.basics.specs.Words.{◌≤◌, ◌≡◌, true, List, length}
-use Rattle.std.specs.Prelude.{Float}
+use Rattle.std.specs.Prelude.{◌≤◌, ◌≡◌, Float}
+use Rattle.basics.specs.Words.{true, List, length}
 use Rattle.point_tables.specs.Meaning.Tables as Points
 use Rattle.point_tables.specs.Meaning.Holds as PointsHold
 use Rattle.box_tables.specs.Meaning.Tables as Boxes
@@ -15,4 +15,4 @@ pub record Drawable (t : Points.Tables) (b : Boxes.Tables) (circles : List (List
   pub boxes : BoxesHold.Holds b
   pub boxes-size : Boxes.size_of b ≡ side
   pub few : length circles ≤ most_circles
-  pub in_domain_lem : every circle_in_domain circles ≡ true
+  pub within_domain : every circle_in_domain circles ≡ true

@@ -1,6 +1,6 @@
 -- `fill_map`: its refusals, and what it answers and writes. Assumes nothing.
-use Rattle.basics.specs.Words.{ℕ, Bool, true, ◌&&◌, List, [], ◌∷◌, length, eqb, leb}
-use Rattle.std.specs.Prelude.{Float}
+use Rattle.std.specs.Prelude.{◌&&◌, ◌∷◌, Float}
+use Rattle.basics.specs.Words.{ℕ, Bool, true, List, [], length, eqb, leb}
 use Rattle.basics.specs.Meaning.Limits.{most_cells}
 use Rattle.basics.specs.Meaning.Refusals.{Refusal, unless, by_tests}
 use Rattle.geometry.specs.Meaning.Domain.{position_in_domain, radius_in_domain}

@@ -1,6 +1,6 @@
 -- The map for the encoder: a byte for each block of the frame, row by row from the block at (0, 0). Assumes nothing.
-use Rattle.basics.specs.Words.{ℕ, zero, suc, ◌/◌, ◌%◌, List, [], ◌∷◌, ◌++◌, map}
-use Rattle.std.specs.Prelude.{Float}
+use Rattle.std.specs.Prelude.{◌/◌, ◌%◌, ◌∷◌, ◌++◌, Float}
+use Rattle.basics.specs.Words.{ℕ, zero, suc, List, [], map}
 use Rattle.basics.specs.Meaning.Refusals.{pick}
 use Rattle.point_tables.specs.Meaning.Tables as Points
 use Rattle.box_tables.specs.Meaning.Tables as Boxes

@@ -1,5 +1,5 @@
 -- `encoder_blocks::begins` meets its contract. Assumes nothing.
-use Rattle.basics.specs.Words.{ℕ, ◌≤◌, ◌≡◌, ap, ◌∙◌, pos, arith, needs}
+use Rattle.basics.specs.Words.{ℕ, ◌≤◌, ◌≡◌, ap, ◌∙◌, pos, arith, rules}
 use lib.Signed.{mag}
 use mir.Syntax.{w32}
 use mir.Val.{to_z}
@@ -13,10 +13,10 @@ use Rattle.encoder_blocks.proofs.begins.Tie as tie
 signed : (n : ℕ) → n ≤ columns → to_z w32 n ≡ pos n
 signed n h = to_z_pos w32 n (omega arith)
 
-pub begins-spec : {M : Type 1} → statement M
-begins-spec =
+pub begins_spec : {M : Type 1} → statement M
+begins_spec =
     tie.close
     (tie.spec
-    (λ c. search needs)
+    (λ c. search rules)
     (λ c κs. (omega arith, omega (arith, ap mag (signed c.args.n c.requires))))
     (λ c. c.edge.ensures ∙ ap (edge side) (signed c.before.args.n c.before.requires)))

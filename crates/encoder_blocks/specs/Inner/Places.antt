@@ -1,5 +1,6 @@
 -- The place of a block in the map, and the block of a cell by its key. Assumes nothing.
-use Rattle.basics.specs.Words.{ℕ, ◌+◌, ◌-◌, ◌*◌, ◌/◌, ◌%◌, Bool, ◌&&◌, leb, ltb, pos}
+use Rattle.std.specs.Prelude.{◌+◌, ◌-◌, ◌*◌, ◌/◌, ◌%◌, ◌&&◌}
+use Rattle.basics.specs.Words.{ℕ, Bool, leb, ltb, pos}
 use Rattle.basics.specs.Meaning.Refusals.{pick}
 use Rattle.cells.specs.declared.Cell.{Cell}
 use Rattle.cells.specs.Inner.Key.{column_of, line_of}

@@ -1,7 +1,7 @@
 -- The blocks of the frame, 16 by 16 each: 80 to a row and 45 rows, from the block at (0, 0) on, y growing downwards. Block (i, j) goes from
 -- (16 i, 16 j) to (16 i + 16, 16 j + 16). Assumes nothing.
-use Rattle.basics.specs.Words.{ℕ, suc, ◌*◌, Bool, ◌&&◌, pos}
-use Rattle.std.specs.Prelude.{Float}
+use Rattle.std.specs.Prelude.{◌*◌, ◌&&◌, Float}
+use Rattle.basics.specs.Words.{ℕ, suc, Bool, pos}
 use Rattle.std.specs.Float.{binary32}
 use Rattle.std.specs.Float.Ieee.{of_int, lt, le}
 use Rattle.geometry.specs.declared.Position.{Position}

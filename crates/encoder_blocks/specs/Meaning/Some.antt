@@ -1,5 +1,6 @@
 -- Whether a list is not empty. Assumes nothing.
-use Rattle.basics.specs.Words.{Bool, true, false, List, [], ◌∷◌}
+use Rattle.std.specs.Prelude.{◌∷◌}
+use Rattle.basics.specs.Words.{Bool, true, false, List, []}
 
 abbrev pub some : {A : Type 0} → List A → Bool
 some [] = false

@@ -1,6 +1,6 @@
 -- What one pass over the blocks makes of the map: a block looks at the entries of its window, the four cells that its box covers. Assumes nothing.
-use Rattle.basics.specs.Words.{ℕ, suc, ◌/◌, ◌<◌, ◌≤◌, ◌≡◌, Bool, ◌&&◌, List, length, get_or, take, drop, eqb, leb}
-use Rattle.std.specs.Prelude.{Float}
+use Rattle.std.specs.Prelude.{◌/◌, ◌<◌, ◌≤◌, ◌≡◌, ◌&&◌, Float}
+use Rattle.basics.specs.Words.{ℕ, suc, Bool, List, length, get_or, take, drop, eqb, leb}
 use Rattle.basics.specs.Meaning.Refusals.{pick}
 use Rattle.geometry.specs.declared.Aabb.{Aabb}
 use Rattle.geometry.specs.Meaning.Intersects.{intersects}

@@ -73,7 +73,7 @@ placed t h size =
     record {
       in_pool = in_pool t h;
       in_spots = in_spots t h;
-      in_domain_lem = λ j l. (stands t h j l).in_domain_lem;
+      within_domain = λ j l. (stands t h j l).within_domain;
       key = λ j l. (stands t h j l).key ∙ ap (λ (m : ℕ). key_of (cell_at m (spot_at t.spots j))) size;
     }
 
@@ -88,7 +88,7 @@ module _ (t : Tables) (h : Holds t) (size : size_of t ≡ side) (k : ℕ) (l : k
   stood : (n : ℕ) → n < used_of t → stands_at t.pool k n ≡ inside (entry_of n)
   stood n u =
       let s = placed t h size in
-      ap (λ (j : ℕ). eqb (block_of j) k) (s.key n u) ∙ point_place k l (position_of (entry_of n)) (s.in_domain_lem n u)
+      ap (λ (j : ℕ). eqb (block_of j) k) (s.key n u) ∙ point_place k l (position_of (entry_of n)) (s.within_domain n u)
 
   -- ---- recorded points
   abbrev held : ℕ → Bool

@@ -1,6 +1,6 @@
 -- What one pass over the entries makes of the map, by places: an entry marks the block of its cell. Assumes nothing.
-use Rattle.basics.specs.Words.{ℕ, zero, suc, ◌<◌, ◌≡◌, Bool, false, ◌&&◌, ◌||◌, List, length, get_or, eqb}
-use Rattle.std.specs.Prelude.{Float}
+use Rattle.std.specs.Prelude.{◌<◌, ◌≡◌, ◌&&◌, ◌||◌, Float}
+use Rattle.basics.specs.Words.{ℕ, zero, suc, Bool, false, List, length, get_or, eqb}
 use Rattle.basics.specs.Meaning.Refusals.{pick}
 use Rattle.geometry.specs.declared.Position.{Position}
 use Rattle.geometry.specs.Meaning.Circle.{in_circle}

@@ -1,6 +1,6 @@
 -- The circles that reach a row of cells: no other holds a point of that row. Assumes nothing.
-use Rattle.basics.specs.Words.{ℕ, ◌<◌, ◌≤◌, ◌≡◌, Bool, ◌&&◌, List, length, take, leb, T, pos}
-use Rattle.std.specs.Prelude.{Float}
+use Rattle.std.specs.Prelude.{◌<◌, ◌≤◌, ◌≡◌, ◌&&◌, Float}
+use Rattle.basics.specs.Words.{ℕ, Bool, List, length, take, leb, T, pos}
 use Rattle.std.specs.Float.{binary32}
 use Rattle.std.specs.Float.Ieee.{add, sub}
 use Rattle.geometry.specs.Meaning.Domain.{position_in_domain, radius_in_domain}
@@ -32,5 +32,5 @@ pub record Chosen (circles : List (List Float)) (line : ℕ) (near : List (List 
 pub record Placed (pool : List (List ℕ)) (spots : List (List Float)) (used : ℕ) : Type 0 where
   pub in_pool : used ≤ length pool
   pub in_spots : used ≤ length spots
-  pub in_domain_lem : (j : ℕ) → j < used → T (position_in_domain (spot_at spots j))
+  pub within_domain : (j : ℕ) → j < used → T (position_in_domain (spot_at spots j))
   pub key : (j : ℕ) → j < used → first pool j ≡ key_of (cell_at side (spot_at spots j))

@@ -1,7 +1,7 @@
 -- The points of a block: those that some circle finds, and those that are recorded there. Recorded positions alone count, and an object that is marked
 -- removed counts until maintain. Assumes nothing.
-use Rattle.basics.specs.Words.{ℕ, Bool, List, [], ◌∷◌, ◌++◌, get_or}
-use Rattle.std.specs.Prelude.{Float}
+use Rattle.std.specs.Prelude.{◌∷◌, ◌++◌, Float}
+use Rattle.basics.specs.Words.{ℕ, Bool, List, [], get_or}
 use Rattle.std.specs.Float.{nan}
 use Rattle.geometry.specs.declared.Position.{Position}
 use Rattle.slot_walks.specs.Meaning.Live.{live_from}

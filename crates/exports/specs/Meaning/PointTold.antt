@@ -1,7 +1,6 @@
 -- What the calls of the point grid tell, with the lent outputs after them. Assumes nothing.
 use Rattle.basics.specs.Words.{ℕ, List}
 use Rattle.std.specs.Prelude.{Float}
-use Rattle.basics.specs.Meaning.Lent.{Lent, is}
 use Rattle.point_batch.specs.Meaning.Batch.{Batched, batched}
 use Rattle.point_clear.specs.Meaning.Clear.{Written, wrote}
 use Rattle.point_maintain.specs.declared.Maintained as Settled
@@ -14,14 +13,14 @@ use Rattle.exports.specs.declared.Nearest.{Nearest}
 use Rattle.exports.specs.Meaning.Made.{handle, position}
 use Rattle.exports.specs.Meaning.Told.{told_count}
 
-abbrev pub told_batched : BatchReply → Lent (List (List ℕ)) → Batched
-told_batched r out = batched r.answer r.count (is out)
+abbrev pub told_batched : BatchReply → List (List ℕ) → Batched
+told_batched r out = batched r.answer r.count out
 
 abbrev pub told_maintained : Maintained → Settled.Maintained
 told_maintained r = maintained_counts r.answer r.moved r.removed
 
-abbrev pub told_written : Count → Lent (List (List Float)) → Lent (List (List ℕ)) → Written
-told_written r places objs = wrote (told_count r) (is places) (is objs)
+abbrev pub told_written : Count → List (List Float) → List (List ℕ) → Written
+told_written r places objs = wrote (told_count r) places objs
 
 abbrev pub told_nearest : Nearest → Closest.Nearest
 told_nearest r =

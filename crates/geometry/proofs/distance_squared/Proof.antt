@@ -8,5 +8,5 @@ returns : tie.Need-returns
 unfolding distance_squared
 returns c = refl
 
-pub distance-squared-spec : {M : Type 1} → statement M
-distance-squared-spec = tie.close (tie.spec returns)
+pub distance_squared_spec : {M : Type 1} → statement M
+distance_squared_spec = tie.close (tie.spec returns)

@@ -7,7 +7,7 @@ use Rattle.geometry.proofs.in_domain.Statement.{statement}
 use Rattle.geometry.proofs.in_domain.Tie as tie
 
 returns : tie.Need-returns
-returns c = both (ap (λ (z : Float). le z c.args.x) least) (ap (le c.args.x) most) ∙ also c.well-formed.0.1
+returns c = both (ap (λ (z : Float). le z c.args.x) least) (ap (le c.args.x) most) ∙ also c.well_formed.0.1
 
-pub in-domain-spec : {M : Type 1} → statement M
-in-domain-spec = tie.close (tie.spec returns)
+pub in_domain_spec : {M : Type 1} → statement M
+in_domain_spec = tie.close (tie.spec returns)

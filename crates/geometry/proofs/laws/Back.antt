@@ -1,5 +1,5 @@
 -- From the values to the tests: the order of two floats' values is what `le` and `lt` answer. Assumes nothing.
-use Rattle.basics.specs.Words.{ℕ, ◌+◌, ◌*◌, ◌^◌, ◌≤◌, ◌<◌, ◌≡◌, sym, ◌∙◌, subst, Bool, true, false, not, ◌&&◌, ◌||◌, Bool·beq, inl, inr, T, ltb, eqb, eqb_refl}
+use Rattle.basics.specs.Words.{ℕ, ◌+◌, ◌*◌, ◌^◌, ◌≤◌, ◌<◌, ◌≡◌, sym, ◌∙◌, subst, Bool, true, false, not, ◌&&◌, ◌||◌, beq, inl, inr, T, ltb, eqb, eqb_refl}
 use Rattle.basics.specs.Words.{lt→ltb, T_not, le_of_eq, eq-or-lt_of_le, eq-zero-or-pos, mul-pos, arith}
 use lib.Pow.{pow_pos}
 use lib.Ieee.{Float, nan, inf, fin, Format, low, up, down, lt, eq, le}
@@ -47,7 +47,7 @@ module _ (f : Format) where
   num_le (inf false) (inf false) p n q k v w h = tt
   num_le (inf true) (inf t) p n q k v w h = or_true t
     where
-      or_true : (t : Bool) → T ((true && not t) || Bool·beq true t)
+      or_true : (t : Bool) → T ((true && not t) || beq true t)
       or_true true = tt
       or_true false = tt
   num_le (inf false) (inf true) p n q k v w h = absurd (omega (arith, over_pos f, v.0, w.1, v.1))

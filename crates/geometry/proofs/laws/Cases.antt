@@ -1,6 +1,6 @@
 -- Document 01's cases C1 to C5 and its box that passes by rounding, with a miss beside each hit and the edges of the domain.
 -- Numbers are bit patterns. Assumes nothing.
-use Rattle.basics.specs.Words.{ℕ, Bool, true, false, Bool·beq, List, [], ◌∷◌}
+use Rattle.basics.specs.Words.{ℕ, Bool, true, false, beq, List, [], ◌∷◌}
 use lib.Ieee.{binary32, of_bits, lt, le, eq, add, sub, mul, neg}
 use Rattle.geometry.specs.declared.Position.{Position}
 use Rattle.geometry.specs.declared.Aabb.{Aabb}
@@ -35,11 +35,11 @@ box a b = record { ll = position a; ur = position b }
 
 unfoldable pub right : Row → Bool
 unfolding of_bits lt le eq add sub mul neg distance_squared in_circle overlaps intersects
-right (coordinate x w) = Bool·beq (in_domain (of_bits binary32 x)) w
-right (radius x w) = Bool·beq (radius_in_domain (of_bits binary32 x)) w
-right (circle p c r w) = Bool·beq (in_circle (position p) (position c) (of_bits binary32 r)) w
-right (rectangle a b p w) = Bool·beq (in_rectangle (position p) (lower_corner (position a) (position b)) (upper_corner (position a) (position b))) w
-right (boxes a b c d w) = Bool·beq (intersects (box a b) (box c d)) w
+right (coordinate x w) = beq (in_domain (of_bits binary32 x)) w
+right (radius x w) = beq (radius_in_domain (of_bits binary32 x)) w
+right (circle p c r w) = beq (in_circle (position p) (position c) (of_bits binary32 r)) w
+right (rectangle a b p w) = beq (in_rectangle (position p) (lower_corner (position a) (position b)) (upper_corner (position a) (position b))) w
+right (boxes a b c d w) = beq (intersects (box a b) (box c d)) w
 
 unfoldable pub table : List Row
 table =

@@ -7,7 +7,7 @@ use Rattle.geometry.proofs.radius_in_domain.Statement.{statement}
 use Rattle.geometry.proofs.radius_in_domain.Tie as tie
 
 returns : tie.Need-returns
-returns c = both (ap (λ (z : Float). le z c.args.radius) nought) (ap (le c.args.radius) most) ∙ also c.well-formed.0.1
+returns c = both (ap (λ (z : Float). le z c.args.radius) nought) (ap (le c.args.radius) most) ∙ also c.well_formed.0.1
 
-pub radius-in-domain-spec : {M : Type 1} → statement M
-radius-in-domain-spec = tie.close (tie.spec returns)
+pub radius_in_domain_spec : {M : Type 1} → statement M
+radius_in_domain_spec = tie.close (tie.spec returns)

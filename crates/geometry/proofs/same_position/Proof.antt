@@ -1,5 +1,5 @@
 -- `geometry::same_position` meets its contract. Assumes nothing.
-use Rattle.basics.specs.Words.{ap, needs}
+use Rattle.basics.specs.Words.{ap, rules}
 use Rattle.basics.proofs.laws.Says.{both_true}
 use Rattle.geometry.specs.declared.Position.{Position}
 use Rattle.geometry.proofs.laws.BitsLaws.{same_by_axes}
@@ -11,8 +11,8 @@ returns : tie.Need-returns
 returns c =
     let p = c.before.before.args.p in
     let q = c.before.before.args.q in
-    let a = c.before.same-bits.ensures in
-    let b = c.same-bits2.ensures in
+    let a = c.before.same_bits.ensures in
+    let b = c.same_bits-2.ensures in
     record {
       yes = λ e.
           let t = both_true _ _ e in
@@ -22,5 +22,5 @@ returns c =
       no = λ h. both (a.no (ap (λ (z : Position). z.x) h.0, h.1)) (b.no (ap (λ (z : Position). z.y) h.0, h.2));
     }
 
-pub same-position-spec : {M : Type 1} → statement M
-same-position-spec = tie.close (tie.spec (λ c κs. search needs) (λ c κs. search needs) returns)
+pub same_position_spec : {M : Type 1} → statement M
+same_position_spec = tie.close (tie.spec (λ c κs. search rules) (λ c κs. search rules) returns)

@@ -1,11 +1,11 @@
 -- `geometry::upper_corner` meets its contract. Assumes nothing.
-use Rattle.basics.specs.Words.{needs}
+use Rattle.basics.specs.Words.{rules}
 use Rattle.geometry.proofs.laws.BitsLaws.{same_by_axes}
 use Rattle.geometry.proofs.upper_corner.Statement.{statement}
 use Rattle.geometry.proofs.upper_corner.Tie as tie
 
 returns : tie.Need-returns
-returns c = same_by_axes _ _ c.before.greater.ensures c.greater2.ensures
+returns c = same_by_axes _ _ c.before.greater-x.ensures c.greater-y.ensures
 
-pub upper-corner-spec : {M : Type 1} → statement M
-upper-corner-spec = tie.close (tie.spec (λ c κs. search needs) (λ c κs. search needs) returns)
+pub upper_corner_spec : {M : Type 1} → statement M
+upper_corner_spec = tie.close (tie.spec (λ c κs. search rules) (λ c κs. search rules) returns)

@@ -1,8 +1,8 @@
 -- A float's value as a signed whole number of the format's smallest value: p - n, where p or n is 0. An infinity counts as the least number that is too large.
 -- `Num f x p n` says that x is no NaN and has that value. The order is that of the values. Assumes nothing.
 -- Here: what only inner contracts cite.
-use Rattle.basics.specs.Words.{ℕ, ◌*◌, ◌^◌, ◌<◌, ◌≡◌, true, false}
-use Rattle.std.specs.Prelude.{Float}
+use Rattle.std.specs.Prelude.{◌*◌, ◌^◌, ◌<◌, ◌≡◌, Float}
+use Rattle.basics.specs.Words.{ℕ, true, false}
 use Rattle.std.specs.Float.{nan, inf, fin, Format}
 use Rattle.std.specs.Float.Ieee.{low, up, down}
 use Rattle.std.specs.Float.Ieee.Scale.{overflow}

@@ -1,7 +1,7 @@
 -- The domain: coordinates are binary32 numbers, finite with magnitude at most 2 ^ 20, which is 1,048,576; a radius is from 0 to that; no box is reversed.
 -- NaN and the infinities fail the comparisons here, and -0.0 counts as 0. Assumes nothing.
-use Rattle.basics.specs.Words.{ℕ, Bool, true, false, ◌&&◌, pos}
-use Rattle.std.specs.Prelude.{Float}
+use Rattle.std.specs.Prelude.{◌&&◌, Float}
+use Rattle.basics.specs.Words.{ℕ, Bool, true, false, pos}
 use Rattle.std.specs.Float.{fin, binary32}
 use Rattle.std.specs.Float.Ieee.{le, fits}
 use Rattle.geometry.specs.declared.Position.{Position}

@@ -1,6 +1,6 @@
 -- The box test, its operations in the order of `src/lib.rs`, the query box first. Assumes nothing.
-use Rattle.basics.specs.Words.{Bool, false, ◌&&◌}
-use Rattle.std.specs.Prelude.{Float}
+use Rattle.std.specs.Prelude.{◌&&◌, Float}
+use Rattle.basics.specs.Words.{Bool, false}
 use Rattle.std.specs.Float.{nan, inf, fin, binary32}
 use Rattle.std.specs.Float.Ieee.{le, add, sub}
 use Rattle.geometry.specs.declared.Aabb.{Aabb}

@@ -1,6 +1,6 @@
 -- The rectangle of `query_aabb`: corners sorted on each axis by comparison, edges included. Assumes nothing.
-use Rattle.basics.specs.Words.{Bool, ◌&&◌}
-use Rattle.std.specs.Prelude.{Float}
+use Rattle.std.specs.Prelude.{◌&&◌, Float}
+use Rattle.basics.specs.Words.{Bool}
 use Rattle.std.specs.Float.Ieee.{le}
 use Rattle.basics.specs.Meaning.Refusals.{pick}
 use Rattle.geometry.specs.declared.Position.{Position}

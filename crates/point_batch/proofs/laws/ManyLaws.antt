@@ -214,7 +214,7 @@ module _ (t₀ : Tables) {pool : List (List ℕ)} {spots : List (List Float)} (h
       record {
         packed = h.packed;
         of_pool = omega (arith, h.counted.used-most, h.sized.of_pool);
-        of_cells_lem = omega (arith, h.counted.rows-most, h.sized.of_cells_lem);
+        of_cells = omega (arith, h.counted.rows-most, h.sized.of_cells);
         inside = λ j l. rw e (h.lists.each j l).inside;
       }
 

@@ -58,7 +58,7 @@ module _ {nums pool : List (List ℕ)} {used : ℕ} {cells : List (List ℕ)} {r
     pub set-row : (k c key : ℕ) → k ≡ suc j → j < used → c < rows → key ≡ first after c → first after c ≡ first pool j → (tag_at nums (second pool j) ≡ 0 → ⊥) → length (get_or after c []) ≡ 2
         → MarkedTo nums pool used cells rows (set after c (key ∷ 1 ∷ [])) k
     set-row k c key ek l x ey e n two =
-        let inside : c < length after = omega (arith, m.long, w.of_cells_lem) in
+        let inside : c < length after = omega (arith, m.long, w.of_cells) in
         let row : List ℕ = key ∷ 1 ∷ [] in
         let here : get_or (set after c row) c [] ≡ first cells c ∷ 1 ∷ [] = get_or-set_same after c row [] inside ∙ ap (λ (y : ℕ). y ∷ 1 ∷ []) (ey ∙ key-kept c) in
         let there : (r : ℕ) → (r ≡ c → ⊥) → get_or (set after c row) r [] ≡ get_or after r [] = λ r q. get_or-set_other after c r row [] q in

@@ -1,5 +1,6 @@
 -- The marks of many deferred calls, by one walk over the pool beside the cell table. Assumes nothing.
-use Rattle.basics.specs.Words.{ℕ, ◌<◌, ◌≤◌, ◌≡◌, List, [], ◌∷◌, ◌⊎◌, length, get_or}
+use Rattle.std.specs.Prelude.{◌<◌, ◌≤◌, ◌≡◌, ◌∷◌, ◌⊎◌}
+use Rattle.basics.specs.Words.{ℕ, List, [], length, get_or}
 use Rattle.storage.specs.Meaning.Packed.{first, second, Packed}
 use Rattle.point_records.specs.Meaning.Word.{tag_at}
 
@@ -7,7 +8,7 @@ use Rattle.point_records.specs.Meaning.Word.{tag_at}
 pub record Walkable (nums pool : List (List ℕ)) (used : ℕ) (cells : List (List ℕ)) (rows : ℕ) : Type 0 where
   pub packed : Packed used rows pool cells
   pub of_pool : used ≤ length pool
-  pub of_cells_lem : rows ≤ length cells
+  pub of_cells : rows ≤ length cells
   pub inside : (j : ℕ) → j < used → second pool j < length nums
 
 module _ (nums pool : List (List ℕ)) (used : ℕ) (cells : List (List ℕ)) (rows : ℕ) where

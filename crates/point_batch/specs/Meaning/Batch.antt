@@ -1,7 +1,6 @@
 -- A batch of deferred calls, with one check for all of them: what it is lent, answers and writes. Assumes nothing.
-use Rattle.basics.specs.Words.{ℕ, Bool, ◌&&◌, List, [], ◌∷◌, length, get_or, eqb, leb}
-use Rattle.std.specs.Prelude.{Float}
-use Rattle.basics.specs.Meaning.Lent.{Lent, is}
+use Rattle.std.specs.Prelude.{◌&&◌, ◌∷◌, Float}
+use Rattle.basics.specs.Words.{ℕ, Bool, List, [], length, get_or, eqb, leb}
 use Rattle.basics.specs.Meaning.Refusals.{Refusal, unless, first_of, pick, by_tests}
 use Rattle.slots.specs.declared.Handle.{Handle}
 use Rattle.storage.specs.Meaning.Keyed.{written}
@@ -53,8 +52,8 @@ pub record Batched : Type 0 where
 abbrev pub batched : ℕ → ℕ → List (List ℕ) → Batched
 batched a n o = record { answer = a; count = n; out = o }
 
-abbrev pub batched_by : BatchReply → Lent (List (List ℕ)) → Batched
-batched_by r out = batched r.answer r.count (is out)
+abbrev pub batched_by : BatchReply → List (List ℕ) → Batched
+batched_by r out = batched r.answer r.count out
 
 unfoldable pub batch_of : Tables → List ℕ → List (List ℕ) → List (List Float) → List (List ℕ) → Outcome Batched
 unfolding batch_answer replies tables_after

@@ -45,7 +45,7 @@ module _ (t : Tables) (h : Holds t) where
         of_map = counted-length (cleared_map 0 t.nums t.map) 0 0 heads ∙ cleared-map-length t.nums 0 t.map ∙ h.sized.of_map;
         of_pool = h.sized.of_pool;
         of_spots = h.sized.of_spots;
-        of_cells_lem = h.sized.of_cells_lem;
+        of_cells = h.sized.of_cells;
       })
 
   keeps_counted : Counted (cleared t)

@@ -1,7 +1,6 @@
 -- `clear` writes recorded position, data and tracker, ascending by slot, then empties the grid: versions rise as with any emptying. Assumes nothing.
-use Rattle.basics.specs.Words.{ℕ, min, List, [], ◌∷◌, map, length, eqb, leb}
-use Rattle.std.specs.Prelude.{Float}
-use Rattle.basics.specs.Meaning.Lent.{Lent, was, is}
+use Rattle.std.specs.Prelude.{◌∷◌, Float}
+use Rattle.basics.specs.Words.{ℕ, min, List, [], map, length, eqb, leb}
 use Rattle.basics.specs.Meaning.Refusals.{Refusal, unless, pick, by_tests}
 use Rattle.storage.specs.Meaning.Keyed.{written}
 use Rattle.slot_walks.specs.Meaning.Live.{live_from}
@@ -37,10 +36,6 @@ pub record Written : Type 0 where
 abbrev pub wrote : Count → List (List Float) → List (List ℕ) → Written
 wrote c p o = record { returned = c; places = p; objs = o }
 
--- the outcome seen, with the lent outputs after the call
-abbrev pub wrote_lent : Count → Lent (List (List Float)) → Lent (List (List ℕ)) → Tables → Outcome Written
-wrote_lent c places objs t = outcome (wrote c (is places) (is objs)) t
-
 abbrev pub clear_tests : Tables → List (List Float) → List (List ℕ) → List Refusal
 clear_tests t places objs = unless (holds t) 3 ∷ unless (leb (length (live_slots t)) (min (length places) (length objs))) 9 ∷ []
 
@@ -52,7 +47,3 @@ clear_of t places objs =
     by_tests (clear_tests t places objs)
     (outcome (wrote (count 0 n) (written (map (place_on t) (live_slots t)) places) (written (map (obj_on t) (live_slots t)) objs)) (cleared t))
     (λ a. outcome (wrote (count a (pick (eqb a 9) n 0)) places objs) t)
-
--- the outcome with lent outputs, from what they were before the call
-abbrev pub clear_into : Tables → Lent (List (List Float)) → Lent (List (List ℕ)) → Outcome Written
-clear_into t places objs = clear_of t (was places) (was objs)

@@ -69,4 +69,4 @@ module _ (t : Tables) (h : Handle) (at : Position) (k : ℕ) (e : set_position_a
   remove-moved =
       rw (set-done t h at k e)
       (later_removed t h k (aimed (size_of t) (record_on t h.slot).cell at) removable
-      (aimed-agrees (size_of t) (record_on t h.slot).cell at (set-accepted t h at k e).in_domain_lem))
+      (aimed-agrees (size_of t) (record_on t h.slot).cell at (set-accepted t h at k e).within_domain))

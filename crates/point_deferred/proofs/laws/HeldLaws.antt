@@ -75,7 +75,7 @@ module _ (t : Tables) (c : Call) (e : held_answer t c ≡ 0) where
   held-own = own-passed t.nums c.handle c.tracker passed.0
 
   pub held-accepted : Workable t c.handle.slot c.kind c.at
-  held-accepted = let g = named t c.handle held-own.is_good_lem in record { inside = g.inside; occupied = g.occupied; in_domain_lem = passed.1 }
+  held-accepted = let g = named t c.handle held-own.is_good_lem in record { inside = g.inside; occupied = g.occupied; within_domain = passed.1 }
 
 -- ---- the outcome, refused and accepted
 module _ (t : Tables) (c : Call) where

@@ -50,7 +50,7 @@ module _ (t : Tables) (s : ℕ) (state : State) (h : Holds t) (l : s < slots_of 
   occupied-after : Occupied (size_of t) (record_on u s)
   occupied-after =
       let o = (h.records s l p).occupied in
-      rw (record_same t s state ready l) (record { in_domain_lem = o.in_domain_lem; in_cell = o.in_cell; agrees = a })
+      rw (record_same t s state ready l) (record { within_domain = o.within_domain; in_cell = o.in_cell; agrees = a })
 
   record_after : (j : ℕ) → j < slots_of t → phase_at u.nums j ≡ live → (word_at u.nums j ≤ last_word) × Occupied (size_of t) (record_on u j)
   record_after j m q =
@@ -124,7 +124,7 @@ module _ (t : Tables) (s : ℕ) (state : State) (h : Holds t) (l : s < slots_of 
           of_map = rw (nums-long t s state) h.sized.of_map;
           of_pool = h.sized.of_pool ∙ sym (nums-long t s state);
           of_spots = h.sized.of_spots ∙ sym (nums-long t s state);
-          of_cells_lem = cells-long t s state ready l p ∙ h.sized.of_cells_lem ∙ sym (nums-long t s state);
+          of_cells = cells-long t s state ready l p ∙ h.sized.of_cells ∙ sym (nums-long t s state);
         };
         counted = record { size = h.counted.size; used-most = rw (nums-long t s state) h.counted.used-most; rows-most = rw (nums-long t s state) h.counted.rows-most };
         slots = slots-after;
@@ -138,7 +138,7 @@ module _ (t : Tables) (s : ℕ) (state : State) (h : Holds t) (l : s < slots_of 
 pub set-position-accepted : (t : Tables) (h : Handle) (at : Position) (k : ℕ) → set_position_answer t h at k ≡ 0 → Holds (set_position_of t h at k).after
 set-position-accepted t h at k e =
     let a = set-accepted t h at k e in
-    rw (set-done t h at k e) (pended-holds t h.slot (aimed (size_of t) (record_on t h.slot).cell at) a.held a.names.inside a.names.occupied (aimed-agrees (size_of t) (record_on t h.slot).cell at a.in_domain_lem))
+    rw (set-done t h at k e) (pended-holds t h.slot (aimed (size_of t) (record_on t h.slot).cell at) a.held a.names.inside a.names.occupied (aimed-agrees (size_of t) (record_on t h.slot).cell at a.within_domain))
 
 pub remove-accepted-holds : (t : Tables) (h : Handle) (k : ℕ) → remove_answer t h k ≡ 0 → Holds (remove_of t h k).after
 remove-accepted-holds t h k e =

@@ -57,7 +57,7 @@ by_zero P n m f g = ⊎_elim (λ e. rw (eq-eqb n 0 e) (f e)) (λ z. rw (ne_eqb n
 -- ---- accepted: every test passed
 pub record Settable (t : Tables) (h : Handle) (at : Position) (k : ℕ) : Type 0 where
   pub held : Holds t
-  pub in_domain_lem : InDomain at
+  pub within_domain : InDomain at
   pub own : Own t.nums h k
   pub names : Named t h
   pub present : is_removed (record_on t h.slot).state ≡ false
@@ -91,7 +91,7 @@ set-accepted t h at k e =
     let o = own-passed t.nums h k f.2 in
     record {
       held = (holds_says t).yes f.0;
-      in_domain_lem = subst T (sym f.1) tt;
+      within_domain = subst T (sym f.1) tt;
       own = o;
       names = named t h o.is_good_lem;
       present = f.3;

@@ -79,7 +79,7 @@ module _ (t : Tables) (s : ℕ) (state : State) where
       row_of = (ready.has_row s l p).0
 
       row_inside : row_of < length t.cells
-      row_inside = omega (arith, (ready.has_row s l p).1, ready.of_cells_lem)
+      row_inside = omega (arith, (ready.has_row s l p).1, ready.of_cells)
 
       pub cells-set : (pended t s state).cells ≡ set t.cells row_of (key_of (record_on t s).cell ∷ 1 ∷ [])
       unfolding pended
@@ -123,7 +123,7 @@ module _ (t : Tables) (s : ℕ) (state : State) where
             of_ints = ints-long ∙ ready.of_ints ∙ sym nums-long;
             of_map = ready.of_map;
             size = ready.size;
-            of_cells_lem = rw cells-long ready.of_cells_lem;
+            of_cells = rw cells-long ready.of_cells;
             ascending = λ i j x y. rw (key-kept i, key-kept j) (ready.ascending i j x y);
             has_row = λ j x q.
                 let o = ready.has_row j (rw nums-long at x) (sym (kept (λ r. r.phase) refl j) ∙ q) in

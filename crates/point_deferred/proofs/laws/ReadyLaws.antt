@@ -21,7 +21,7 @@ holds_ready t h =
       of_ints = h.sized.of_ints;
       of_map = omega (arith, h.sized.of_map);
       size = h.counted.size;
-      of_cells_lem = omega (arith, h.counted.rows-most, h.sized.of_cells_lem);
+      of_cells = omega (arith, h.counted.rows-most, h.sized.of_cells);
       ascending = h.packed.ascending;
       has_row = λ s l p.
           let e = h.lists.every s l p in
@@ -32,15 +32,15 @@ holds_ready t h =
 -- the pool does not matter
 pub ready_pool : (t : Tables) (pool : List (List ℕ)) (spots : List (List Float)) → Ready (tables t.nums t.reals t.ints t.map pool spots t.cells) → Ready t
 ready_pool t pool spots r =
-    record { of_reals = r.of_reals; of_ints = r.of_ints; of_map = r.of_map; size = r.size; of_cells_lem = r.of_cells_lem; ascending = r.ascending; has_row = r.has_row }
+    record { of_reals = r.of_reals; of_ints = r.of_ints; of_map = r.of_map; size = r.size; of_cells = r.of_cells; ascending = r.ascending; has_row = r.has_row }
 
 module _ (t : Tables) (ready : Ready t) where
   pub rows_rise : Rising row_key (cell_rows t)
-  rows_rise = ascending-rising (rows_of t) t.cells ready.of_cells_lem ready.ascending
+  rows_rise = ascending-rising (rows_of t) t.cells ready.of_cells ready.ascending
 
   -- the mark of a cell that has a row is one store, since no other row has its key
   pub marked_is : (k r : ℕ) → r < rows_of t → first t.cells r ≡ k → written (marked k (cell_rows t)) t.cells ≡ set t.cells r (k ∷ 1 ∷ [])
   marked_is k r h e =
       ap (λ (m : List (List ℕ)). written m t.cells)
-      (marked-set k (cell_rows t) r (rw (length-take-le (rows_of t) t.cells ready.of_cells_lem) h) (rw (get_or-take (rows_of t) t.cells r [] h) e) rows_rise)
-      ∙ written-set t.cells r (rows_of t) (k ∷ 1 ∷ []) h ready.of_cells_lem
+      (marked-set k (cell_rows t) r (rw (length-take-le (rows_of t) t.cells ready.of_cells) h) (rw (get_or-take (rows_of t) t.cells r [] h) e) rows_rise)
+      ∙ written-set t.cells r (rows_of t) (k ∷ 1 ∷ []) h ready.of_cells

@@ -1,5 +1,5 @@
 -- `point_deferred::remove` meets its contract. Assumes nothing.
-use Rattle.basics.specs.Words.{◌≡◌, sym, ◌∙◌, true, not-true, not-false, needs}
+use Rattle.basics.specs.Words.{◌≡◌, sym, ◌∙◌, true, rules}
 use Rattle.point_tables.specs.Meaning.Tables.{Tables, tables}
 use Rattle.point_tables.specs.Meaning.Decide.{holds, holds_says}
 use Rattle.point_deferred.proofs.laws.ReadyLaws.{holds_ready, ready_pool}
@@ -17,43 +17,43 @@ seen s = poolless s.args.nums.now s.args.reals.now s.args.ints.now s.args.map.no
 
 -- the check, and what came before it
 abbrev start : tie.After-check → tie.Start
-start k = k.before.before.before.before.before.before
+start k = k.before.before
 
-held : (c : tie.Else1) → holds (at_entry (start c.before)) ≡ true
-held c = sym c.before.check.ensures ∙ not-false _ c.if1.false
+held : (c : tie.Else-not-check) → holds (at_entry (start c.before)) ≡ true
+held c = sym c.check.ensures ∙ c.if-not-check.false
 
-returns : tie.Need-returns
+returns : tie.Need-returns-then-not-check
 returns c =
-    let k = c.before in
-    let s = start k in
-    remove_no_grid (at_entry s) s.args.h s.args.tracker (sym k.check.ensures ∙ not-true _ c.if1.true)
+    let k = c in
+    let s = start c.before in
+    remove_no_grid (at_entry s) s.args.h s.args.tracker (sym k.check.ensures ∙ c.if-not-check.true)
 
 deferred-requires : tie.Need-deferred-requires
 deferred-requires c κs =
-    let e = c.before.before.before.before in
-    let s = start e.before in
-    ready_pool (seen s) s.args.pool.now s.args.spots.now (holds_ready (at_entry s) ((holds_says (at_entry s)).yes (held e)))
+    let e = c in
+    let s = start c.before.before.before.before.before in
+    ready_pool (seen s) s.args.pool.now s.args.spots.now (holds_ready (at_entry s) ((holds_says (at_entry s)).yes (held c.before.before.before.before)))
 
-returns-2 : tie.Need-returns-2
+returns-2 : tie.Need-returns
 returns-2 c =
-    let d = c.before.before.before.before in
-    let e = d.before.before.before.before.before in
-    let s = start e.before in
-    remove-held (seen s) _ s.args.pool.now s.args.spots.now s.args.h _ s.args.tracker _ (held e) d.deferred.ensures
+    let d = c in
+    let e = d in
+    let s = start c.before.before.before.before.before.before.before.before.before.before in
+    remove-held (seen s) _ s.args.pool.now s.args.spots.now s.args.h _ s.args.tracker _ (held c.before.before.before.before.before.before.before.before.before) d.deferred.ensures
 
-pub remove-spec : {M : Type 1} → statement M
-remove-spec =
+pub remove_spec : {M : Type 1} → statement M
+remove_spec =
     tie.close
     (tie.spec
-    (λ c κs. search needs)
-    (λ c. search needs)
-    (λ c. search needs)
-    (λ c. search needs)
-    (λ c. search needs)
+    (λ c κs. search rules)
+    (λ c. search rules)
+    (λ c. search rules)
+    (λ c. search rules)
+    (λ c. search rules)
     returns
     deferred-requires
-    (λ c. search needs)
-    (λ c. search needs)
-    (λ c. search needs)
-    (λ c. search needs)
+    (λ c. search rules)
+    (λ c. search rules)
+    (λ c. search rules)
+    (λ c. search rules)
     returns-2)

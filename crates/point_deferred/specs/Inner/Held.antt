@@ -1,10 +1,8 @@
 -- A deferred call on tables that are known to hold a grid: what the working code does. `HeldLaws` shows that it is the call. The pool and
 -- its positions are neither read nor written, so that the tables may be without them. Assumes nothing.
 -- Here: what only inner contracts cite.
-use Rattle.basics.specs.Words.{ℕ, ◌≡◌, List, [], ◌∷◌, set, eqb, ℤ}
-use Rattle.std.specs.Borrow.{Bor}
-use Rattle.std.specs.Prelude.{Float}
-use Rattle.basics.specs.Meaning.Lent.{Lent, was, is}
+use Rattle.std.specs.Prelude.{◌≡◌, ◌∷◌, Float}
+use Rattle.basics.specs.Words.{ℕ, List, [], set, eqb, ℤ}
 use Rattle.basics.specs.Meaning.Says.{said}
 use Rattle.basics.specs.Meaning.Refusals.{first_of, pick}
 use Rattle.geometry.specs.declared.Position.{Position}
@@ -23,25 +21,13 @@ use Rattle.point_deferred.specs.Meaning.Moves.{pended, set_held_tests, remove_he
 use Rattle.point_deferred.specs.Meaning.Calls.{Call}
 use Rattle.replies.specs.Meaning.Replies.{reply}
 
--- tables without the pool, and the same behind five references: at one moment, before a call, and after one, which only reads the map
+-- tables without the pool
 abbrev pub poolless : List (List ℕ) → List (List Float) → List (List ℤ) → List ℕ → List (List ℕ) → Tables
 poolless nums reals ints map cells = tables nums reals ints map [] [] cells
 
-abbrev pub lent_poolless : Bor (List (List ℕ)) → Bor (List (List Float)) → Bor (List (List ℤ)) → Bor (List ℕ) → Bor (List (List ℕ)) → Tables
-lent_poolless nums reals ints map cells = poolless nums.now reals.now ints.now map.now cells.now
-
-abbrev pub poolless_before : Lent (List (List ℕ)) → Lent (List (List Float)) → Lent (List (List ℤ)) → Lent (List ℕ) → Lent (List (List ℕ)) → Tables
-poolless_before nums reals ints map cells = lent_poolless nums.entry reals.entry ints.entry map.entry cells.entry
-
-abbrev pub poolless_after : Lent (List (List ℕ)) → Lent (List (List Float)) → Lent (List (List ℤ)) → Lent (List ℕ) → Lent (List (List ℕ)) → Tables
-poolless_after nums reals ints map cells = lent_poolless nums.exit reals.exit ints.exit map.entry cells.exit
-
--- the records with a cell size alone, before a call and after it
-abbrev pub columns_before : Lent (List (List ℕ)) → Lent (List (List Float)) → Lent (List (List ℤ)) → ℕ → Tables
-columns_before nums reals ints size = poolless (was nums) (was reals) (was ints) (size ∷ []) []
-
-abbrev pub columns_after : Lent (List (List ℕ)) → Lent (List (List Float)) → Lent (List (List ℤ)) → ℕ → Tables
-columns_after nums reals ints size = poolless (is nums) (is reals) (is ints) (size ∷ []) []
+-- the records with a cell size alone
+abbrev pub columns_alone : List (List ℕ) → List (List Float) → List (List ℤ) → ℕ → Tables
+columns_alone nums reals ints size = poolless nums reals ints (size ∷ []) []
 
 abbrev pub call : ℕ → Handle → Position → ℕ → Call
 call kind h p k = record { kind = kind; handle = h; at = p; tracker = k }

@@ -1,5 +1,6 @@
 -- What a deferred call needs of its tables: less than that they hold a grid, since it neither reads nor writes the pool. Assumes nothing.
-use Rattle.basics.specs.Words.{ℕ, ◌<◌, ◌≤◌, ◌≡◌, length}
+use Rattle.std.specs.Prelude.{◌<◌, ◌≤◌, ◌≡◌}
+use Rattle.basics.specs.Words.{ℕ, length}
 use Rattle.geometry.specs.declared.Position.{Position}
 use Rattle.cells.specs.Meaning.Size.{SizeInDomain}
 use Rattle.cells.specs.Meaning.Key.{key_of}
@@ -14,7 +15,7 @@ pub record Ready (t : Tables) : Type 0 where
   pub of_map : 3 ≤ length t.map
   pub size : SizeInDomain (size_of t)
   -- the rows of the cells in use: their keys rise, and the cell of each object has one
-  pub of_cells_lem : rows_of t ≤ length t.cells
+  pub of_cells : rows_of t ≤ length t.cells
   pub ascending : (i j : ℕ) → j < rows_of t → i < j → first t.cells i < first t.cells j
   pub has_row : (s : ℕ) → s < slots_of t → phase_at t.nums s ≡ live → (r : ℕ) × (r < rows_of t) × (first t.cells r ≡ key_of (record_on t s).cell)
 
@@ -22,4 +23,4 @@ pub record Ready (t : Tables) : Type 0 where
 pub record Workable (t : Tables) (s kind : ℕ) (at : Position) : Type 0 where
   pub inside : s < slots_of t
   pub occupied : phase_at t.nums s ≡ live
-  pub in_domain_lem : kind ≡ 0 → InDomain at
+  pub within_domain : kind ≡ 0 → InDomain at

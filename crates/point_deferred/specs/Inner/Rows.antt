@@ -1,6 +1,6 @@
 -- The rows of a slot for which something becomes pending, by value. Assumes nothing.
-use Rattle.basics.specs.Words.{ℕ, ◌≡◌, List, [], ◌∷◌, get_or, eqb, ℤ, pos}
-use Rattle.std.specs.Prelude.{Float}
+use Rattle.std.specs.Prelude.{◌≡◌, ◌∷◌, Float}
+use Rattle.basics.specs.Words.{ℕ, List, [], get_or, eqb, ℤ, pos}
 use Rattle.std.specs.Float.{nan}
 use Rattle.basics.specs.Meaning.Refusals.{pick}
 use Rattle.geometry.specs.declared.Position.{Position}

@@ -1,5 +1,6 @@
 -- Deferred calls one after the other, each of which names its tracker: kind 0 is `set_position`, any other `remove`. Assumes nothing.
-use Rattle.basics.specs.Words.{ℕ, List, [], ◌∷◌, eqb}
+use Rattle.std.specs.Prelude.{◌∷◌}
+use Rattle.basics.specs.Words.{ℕ, List, [], eqb}
 use Rattle.basics.specs.Meaning.Refusals.{pick}
 use Rattle.geometry.specs.declared.Position.{Position}
 use Rattle.slots.specs.declared.Handle.{Handle}

@@ -1,7 +1,7 @@
 -- A history: the calls that change the tables of a point grid, one after the other, accepted or refused. The calls that only read change
 -- nothing. Assumes nothing.
-use Rattle.basics.specs.Words.{ℕ, ◌+◌, List, [], ◌∷◌, eqb}
-use Rattle.std.specs.Prelude.{Float}
+use Rattle.std.specs.Prelude.{◌+◌, ◌∷◌, Float}
+use Rattle.basics.specs.Words.{ℕ, List, [], eqb}
 use Rattle.basics.specs.Meaning.Refusals.{pick}
 use Rattle.geometry.specs.declared.Position.{Position}
 use Rattle.slots.specs.declared.Handle.{Handle}

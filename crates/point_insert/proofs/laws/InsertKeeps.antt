@@ -1,5 +1,5 @@
 -- An accepted insert leaves tables that hold a grid. Assumes nothing.
-use Rattle.basics.specs.Words.{ℕ, ◌<◌, ◌≤◌, ◌≡◌, refl, sym, ◌∙◌, ap, [], inl, inr, length, get_or, drop, List·getD-append, get_or-set_same, get_or-set_other, arith}
+use Rattle.basics.specs.Words.{ℕ, ◌<◌, ◌≤◌, ◌≡◌, refl, sym, ◌∙◌, ap, [], inl, inr, length, get_or, drop, get_or-append, get_or-set_same, get_or-set_other, arith}
 use Rattle.basics.proofs.laws.Says.{d_eq}
 use Rattle.geometry.specs.declared.Position.{Position}
 use Rattle.cells.specs.Meaning.CellRule.{cell_at}
@@ -27,7 +27,7 @@ use Rattle.point_tables.proofs.laws.ListedLaws.{Named, Listing, from_listing, li
 use Rattle.point_insert.proofs.laws.PutLaws.{put-rows, put-size, put-length, put-slots, put_same, put_other, put_entries, put-packed, put-sized}
 use Rattle.point_insert.proofs.laws.PutLaws.{put-counted}
 
-module _ (t : Tables) (h : Holds t) (s : ℕ) (inside : s < slots_of t) (is_free : phase_at t.nums s ≡ free) (p : Position) (d k : ℕ) (in_domain_lem : InDomain p) where
+module _ (t : Tables) (h : Holds t) (s : ℕ) (inside : s < slots_of t) (is_free : phase_at t.nums s ≡ free) (p : Position) (d k : ℕ) (within_domain : InDomain p) where
   abbrev after : Tables
   after = put t s p d k
 
@@ -52,7 +52,7 @@ module _ (t : Tables) (h : Holds t) (s : ℕ) (inside : s < slots_of t) (is_free
   keeps_records : (i : ℕ) → i < slots_of after → phase_at after.nums i ≡ live → RecordHolds after i
   keeps_records i l e =
       elim (d_eq i s) [
-        | inl q ↦ rw q (record { worded = new_word; occupied = rw (is_new, put-size t h s inside is_free p d k) (record { in_domain_lem = in_domain_lem; in_cell = refl; agrees = tt }) })
+        | inl q ↦ rw q (record { worded = new_word; occupied = rw (is_new, put-size t h s inside is_free p d k) (record { within_domain = within_domain; in_cell = refl; agrees = tt }) })
         | inr n ↦
             let r = h.records i (rw (put-length t h s inside is_free p d k) at l) (sym (old_phase i n) ∙ e) in
             record { worded = rw (old_word i n) r.worded; occupied = rw (is_old i n, put-size t h s inside is_free p d k) r.occupied }
@@ -114,7 +114,7 @@ module _ (t : Tables) (h : Holds t) (s : ℕ) (inside : s < slots_of t) (is_free
 
   row_at : (r : ℕ) → r < length (rows_with t p) → get_or after.cells r [] ≡ get_or (rows_with t p) r []
   unfolding put
-  row_at r l = List·getD-append (rows_with t p) (drop (length (rows_with t p)) t.cells) [] r l
+  row_at r l = get_or-append (rows_with t p) (drop (length (rows_with t p)) t.cells) [] r l
 
   keeps_dirty : (i : ℕ) → i < slots_of after → Pending after i → (r : ℕ) → r < rows_of after → first after.cells r ≡ key_of (record_on after i).cell → second after.cells r ≡ 1
   keeps_dirty i l q r m e =

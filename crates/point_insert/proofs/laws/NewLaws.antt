@@ -18,7 +18,7 @@ module _ (t : Tables) (size : ℕ) where
       record {
         sized =
             rw length-replicate
-            (record { some = z.some; most = z.most; of_reals = z.of_reals; of_ints = z.of_ints; of_map = blank-length (slots_of t) size; of_pool = z.of_pool; of_spots = z.of_spots; of_cells_lem = z.of_cells_lem });
+            (record { some = z.some; most = z.most; of_reals = z.of_reals; of_ints = z.of_ints; of_map = blank-length (slots_of t) size; of_pool = z.of_pool; of_spots = z.of_spots; of_cells = z.of_cells });
         counted = record { size = d; used-most = omega arith; rows-most = omega arith };
         slots = blank-holds (slots_of t) size;
         records = λ s h e. absurd (not_live s h e);

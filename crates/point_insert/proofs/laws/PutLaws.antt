@@ -109,7 +109,7 @@ module _ (t : Tables) (h : Holds t) (s : ℕ) (inside : s < slots_of t) (is_free
         of_map = counted-length (taken t.map s) _ _ heads ∙ taken-length t.map s ∙ h.sized.of_map;
         of_pool = length-written (map row_of (entries_with t s p)) t.pool (omega (arith, length-map (entries_with t s p) row_of, fits, h.sized.of_pool)) ∙ h.sized.of_pool;
         of_spots = length-written (map spot_of (entries_with t s p)) t.spots (omega (arith, length-map (entries_with t s p) spot_of, fits, h.sized.of_spots)) ∙ h.sized.of_spots;
-        of_cells_lem = length-written (rows_with t p) t.cells (omega (arith, rows_fit, h.sized.of_cells_lem)) ∙ h.sized.of_cells_lem;
+        of_cells = length-written (rows_with t p) t.cells (omega (arith, rows_fit, h.sized.of_cells)) ∙ h.sized.of_cells;
       })
 
   pub put-length : slots_of (put t s p d k) ≡ slots_of t

@@ -1,7 +1,6 @@
 -- What the work of an insert needs, and its parts in the words of the code. Assumes nothing.
-use Rattle.basics.specs.Words.{ℕ, ◌<◌, ◌≡◌, Bool, List, set, ℤ}
-use Rattle.std.specs.Prelude.{Float}
-use Rattle.basics.specs.Meaning.Lent.{Lent, was, is}
+use Rattle.std.specs.Prelude.{◌<◌, ◌≡◌, Float}
+use Rattle.basics.specs.Words.{ℕ, Bool, List, set, ℤ}
 use Rattle.geometry.specs.Meaning.Domain.{position_in_domain}
 use Rattle.geometry.specs.declared.Position.{Position}
 use Rattle.cells.specs.declared.Cell.{Cell}
@@ -20,7 +19,7 @@ use Rattle.point_insert.specs.Inner.Insert.{answer_by}
 -- tables that hold a grid, a position of the domain, and a slot that is free
 pub record Fresh (t : Tables) (s : ℕ) (p : Position) : Type 0 where
   pub holds : Holds t
-  pub in_domain_lem : InDomain p
+  pub within_domain : InDomain p
   pub inside : s < slots_of t
   pub is_free : phase_at t.nums s ≡ free
 
@@ -32,7 +31,7 @@ Chosen held p k m n a s = (a ≡ answer_by held (position_in_domain p) k (lowest
 abbrev pub fresh_record : ℕ → Position → Cell → ℕ → ℕ → Record
 fresh_record version p c d k = record { version = version; phase = live; obj = d; position = p; cell = c; state = Unchanged; tracker = tracker_of k }
 
--- lent columns have the record r for slot s after the call, and else what they had before
-abbrev pub Stored : Lent (List (List ℕ)) → Lent (List (List Float)) → Lent (List (List ℤ)) → ℕ → Record → Type 0
-Stored nums reals ints s r =
-    (is nums ≡ set (was nums) s (nums_of r)) × (is reals ≡ set (was reals) s (reals_of r)) × (is ints ≡ set (was ints) s (ints_of r))
+-- columns have the record r for slot s after a call, and else what they had before
+abbrev pub Stored : List (List ℕ) → List (List Float) → List (List ℤ) → ℕ → Record → List (List ℕ) → List (List Float) → List (List ℤ) → Type 0
+Stored nums reals ints s r nums' reals' ints' =
+    (nums' ≡ set nums s (nums_of r)) × (reals' ≡ set reals s (reals_of r)) × (ints' ≡ set ints s (ints_of r))

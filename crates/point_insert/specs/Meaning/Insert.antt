@@ -1,5 +1,6 @@
 -- `insert`: the lowest usable slot takes the object, and (handle, position) goes to the end of its cell's list. Assumes nothing.
-use Rattle.basics.specs.Words.{ℕ, Bool, List, [], ◌∷◌, map, length, set}
+use Rattle.std.specs.Prelude.{◌∷◌}
+use Rattle.basics.specs.Words.{ℕ, Bool, List, [], map, length, set}
 use Rattle.basics.specs.Meaning.Refusals.{Refusal, unless, first_of, by_tests}
 use Rattle.geometry.specs.Meaning.Domain.{position_in_domain}
 use Rattle.geometry.specs.declared.Position.{Position}

@@ -1,5 +1,5 @@
 -- Maintain leaves tables that hold a grid, with nothing pending and no mark set; and what it leaves of each object. Assumes nothing.
-use Rattle.basics.specs.Words.{ℕ, ◌≤◌, ◌<◌, ◌≡◌, refl, sym, ◌∙◌, ap, true, [], ◌∷◌, map, length, drop, length-map, List·getD-append, arith, eq-eqb}
+use Rattle.basics.specs.Words.{ℕ, ◌≤◌, ◌<◌, ◌≡◌, refl, sym, ◌∙◌, ap, true, [], ◌∷◌, map, length, drop, length-map, get_or-append, arith, eq-eqb}
 use Rattle.basics.specs.Inner.Counting.{one}
 use Rattle.slots.specs.Meaning.Map.{head}
 use Rattle.slots.specs.Meaning.Slot.{live, phase_at, SlotsHold}
@@ -63,7 +63,7 @@ module _ (t : Tables) (h : Holds t) where
         of_map = counted-length (settled_all t).map _ _ heads ∙ rw (all_slots t h) at (all_shaped t h).of_map;
         of_pool = length-written (map row_of (settled_entries t)) t.pool (omega (arith, length-map (settled_entries t) row_of, after-most t h, h.sized.of_pool)) ∙ h.sized.of_pool;
         of_spots = length-written (map spot_of (settled_entries t)) t.spots (omega (arith, length-map (settled_entries t) spot_of, after-most t h, h.sized.of_spots)) ∙ h.sized.of_spots;
-        of_cells_lem = length-written (fresh (map row_of (settled_entries t))) t.cells (omega (arith, after-rows-most t h, h.sized.of_cells_lem)) ∙ h.sized.of_cells_lem;
+        of_cells = length-written (fresh (map row_of (settled_entries t))) t.cells (omega (arith, after-rows-most t h, h.sized.of_cells)) ∙ h.sized.of_cells;
       })
 
   after-counted : Counted (settled_tables t)
@@ -164,7 +164,7 @@ module _ (t : Tables) (h : Holds t) where
       go : r < length (fresh (map row_of (settled_entries t))) → second (settled_tables t).cells r ≡ 0
       go m =
           unfold settled_tables in
-          ap row_item (List·getD-append (fresh (map row_of (settled_entries t))) (drop (length (fresh (map row_of (settled_entries t)))) t.cells) [] r m)
+          ap row_item (get_or-append (fresh (map row_of (settled_entries t))) (drop (length (fresh (map row_of (settled_entries t)))) t.cells) [] r m)
           ∙ all_at (λ x. row_item x ≡ 0) [] (fresh (map row_of (settled_entries t))) r m unmarked
 
 -- ---- maintain, in any order and in the table's own

@@ -134,14 +134,14 @@ module _ (t : Tables) (h : Holds t) (s : ℕ) (l : s < slots_of t) (o : phase_at
   pending_in_domain = go r.state occupied.agrees
     where
       go : (st : State) → Agrees (size_of t) r.cell st → InDomain (pending_of st r.position)
-      go Unchanged a = occupied.in_domain_lem
+      go Unchanged a = occupied.within_domain
       go (NewPos p) a = a.0
       go (Relocate p c) a = a.0
-      go Removed a = occupied.in_domain_lem
+      go Removed a = occupied.within_domain
 
   -- if it is not removed and has not moved, maintain leaves it where it was, to the bit but for the signs of zeros: every other step is counted
   pub uncounted_stays : is_removed r.state ≡ false → has_moved r ≡ false
       → let p = (record_on (maintained t) s).position in SameNumber p.x r.position.x × SameNumber p.y r.position.y
   uncounted_stays n e =
       subst (λ (q : Record). SameNumber q.position.x r.position.x × SameNumber q.position.y r.position.y) (sym (maintained_object t h s l o n))
-      (same_place (pending_of r.state r.position) r.position (sym (moved_if_headed r occupied.in_domain_lem n) ∙ e) pending_in_domain occupied.in_domain_lem)
+      (same_place (pending_of r.state r.position) r.position (sym (moved_if_headed r occupied.within_domain n) ∙ e) pending_in_domain occupied.within_domain)

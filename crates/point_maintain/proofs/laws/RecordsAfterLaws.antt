@@ -38,8 +38,8 @@ settled-occupied size r n o = go r.state refl n o.agrees
   where
     go : (st : State) → r.state ≡ st → is_removed st ≡ false → Agrees size r.cell st → Occupied size (settled_as r st) × ((settled_as r st).state ≡ Unchanged)
     go Unchanged e n a = (o, e)
-    go (NewPos p) e n a = (record { in_domain_lem = a.0; in_cell = a.1; agrees = tt }, refl)
-    go (Relocate p c) e n a = (record { in_domain_lem = a.0; in_cell = a.1; agrees = tt }, refl)
+    go (NewPos p) e n a = (record { within_domain = a.0; in_cell = a.1; agrees = tt }, refl)
+    go (Relocate p c) e n a = (record { within_domain = a.0; in_cell = a.1; agrees = tt }, refl)
     go Removed e n a = absurd (apart (sym n))
 
 -- ---- the slots hold

@@ -1,7 +1,8 @@
 -- The tables with everything done that was to be done, with no order of the cells in it; and what an order of visiting them is.
 -- Assumes nothing.
 -- Here: what only inner contracts cite.
-use Rattle.basics.specs.Words.{ℕ, zero, suc, List, [], ◌∷◌, ◌++◌, map, length}
+use Rattle.std.specs.Prelude.{◌∷◌, ◌++◌}
+use Rattle.basics.specs.Words.{ℕ, zero, suc, List, [], map, length}
 use Rattle.basics.specs.Meaning.Refusals.{pick}
 use Rattle.storage.specs.Meaning.Keyed.{under, append_all, written}
 use Rattle.storage.specs.Meaning.Entries.{Entry, row_of, spot_of, entry_key}

@@ -1,6 +1,7 @@
 -- The walk of one list by itself: each entry's fate is given, and no tables change as it goes. Assumes nothing.
 -- Here: what only inner contracts cite.
-use Rattle.basics.specs.Words.{ℕ, zero, suc, List, [], ◌∷◌, ◌++◌, length}
+use Rattle.std.specs.Prelude.{◌∷◌, ◌++◌}
+use Rattle.basics.specs.Words.{ℕ, zero, suc, List, [], length}
 use Rattle.storage.specs.Meaning.Entries.{Entry}
 use Rattle.point_maintain.specs.Meaning.Walk.{Fate, staying, rest}
 

@@ -1,6 +1,7 @@
 -- Slots settled one after the other: those of a list, those below n that pass a test, and every live one. Assumes nothing.
 -- Here: what only inner contracts cite.
-use Rattle.basics.specs.Words.{ℕ, zero, suc, ◌+◌, ◌≡◌, Bool, length}
+use Rattle.std.specs.Prelude.{◌+◌, ◌≡◌}
+use Rattle.basics.specs.Words.{ℕ, zero, suc, Bool, length}
 use Rattle.basics.specs.Meaning.Refusals.{pick}
 use Rattle.point_tables.specs.Meaning.Tables.{Tables, slots_of}
 use Rattle.point_tables.specs.Inner.Count.{is_live}

@@ -1,6 +1,7 @@
 -- `maintain`, as `src/grid.rs` does it: each list is walked, then the relocated entries are appended to their new cells in ascending slot
 -- order; a cell with no dirty mark is passed over, and no mark is left. Assumes nothing.
-use Rattle.basics.specs.Words.{ℕ, zero, suc, ◌+◌, Bool, false, List, [], ◌∷◌, ◌++◌, map, length, get_or, eqb}
+use Rattle.std.specs.Prelude.{◌+◌, ◌∷◌, ◌++◌}
+use Rattle.basics.specs.Words.{ℕ, zero, suc, Bool, false, List, [], map, length, get_or, eqb}
 use Rattle.basics.specs.Meaning.Refusals.{Refusal, unless, pick, by_tests}
 use Rattle.slots.specs.Meaning.Slot.{live, phase_at}
 use Rattle.storage.specs.Meaning.Keyed.{filter, under, on_list, append_all, written}

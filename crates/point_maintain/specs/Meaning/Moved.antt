@@ -1,5 +1,6 @@
 -- Whether an object has moved: a place is pending for it, and it is another than the recorded one by its numbers, not by its bits. Assumes nothing.
-use Rattle.basics.specs.Words.{Bool, false, ◌||◌}
+use Rattle.std.specs.Prelude.{◌||◌}
+use Rattle.basics.specs.Words.{Bool, false}
 use Rattle.std.specs.Float.Ieee.{ne}
 use Rattle.geometry.specs.declared.Position.{Position}
 use Rattle.point_records.specs.declared.State.{State}

@@ -1,6 +1,7 @@
 -- The walk of one list, as `src/cell.rs` does it: from place 0; a new position is taken, next place; a relocated or removed entry is taken
 -- out, the last entry moving into the gap, and the same place is looked at again. Assumes nothing.
-use Rattle.basics.specs.Words.{ℕ, zero, suc, List, [], ◌∷◌, ◌++◌}
+use Rattle.std.specs.Prelude.{◌∷◌, ◌++◌}
+use Rattle.basics.specs.Words.{ℕ, zero, suc, List, []}
 use Rattle.geometry.specs.declared.Position.{Position}
 use Rattle.cells.specs.Meaning.CellRule.{cell_at}
 use Rattle.cells.specs.declared.Cell.{Cell}

@@ -1,7 +1,7 @@
 -- Where the list of a cell stands in the pool: behind the lists of the cells before it, and as far as its key goes; and what it keeps.
 -- Assumes nothing.
 use Rattle.basics.specs.Words.{ℕ, zero, suc, ◌+◌, ◌-◌, ◌<◌, ◌≡◌, refl, sym, ap, ◌∙◌, Bool, true, false, List, [], ◌∷◌, ◌++◌, ⊎_elim, length, get_or, take, drop}
-use Rattle.basics.specs.Words.{length-append, length-map, List·getD-append, List·getD-map, take-suc, split_at, get_or-take, get_or-append-add, take_at, drop_at}
+use Rattle.basics.specs.Words.{length-append, length-map, get_or-append, get_or-map, take-suc, split_at, get_or-take, get_or-append-add, take_at, drop_at}
 use Rattle.basics.specs.Words.{eqb, not-suc-le-zero, le_of_suc-le-suc, add-one, arith, eqb-false}
 use Rattle.storage.specs.Meaning.Keyed.{All}
 use Rattle.storage.specs.Meaning.Entries.{Entry, row_key, entry_key}
@@ -62,7 +62,7 @@ keys_length t h = length-map (cell_rows t) row_key ∙ rows-length t h
 
 module _ (t : Tables) (h : Holds t) (r : ℕ) (l : r < rows_of t) where
   key_here : get_or (cell_keys t) r 0 ≡ first t.cells r
-  key_here = List·getD-map row_key (take (rows_of t) t.cells) r [] ∙ ap row_key (get_or-take (rows_of t) t.cells r [] l)
+  key_here = get_or-map row_key (take (rows_of t) t.cells) r [] ∙ ap row_key (get_or-take (rows_of t) t.cells r [] l)
 
   -- one cell more
   next_keys : take (r + 1) (cell_keys t) ≡ take r (cell_keys t) ++ (first t.cells r ∷ [])
@@ -100,7 +100,7 @@ module _ (t : Tables) (h : Holds t) (r : ℕ) (l : r < rows_of t) where
 
   key_in_lem : (j : ℕ) → j < length (list_of t r) → first t.pool (length (passed t r) + j) ≡ first t.cells r
   key_in_lem j g =
-      ap entry_key (at_place j (omega (arith, parts_length)) ∙ List·getD-append (list_of t r) (later t r) no_entry j g)
+      ap entry_key (at_place j (omega (arith, parts_length)) ∙ get_or-append (list_of t r) (later t r) no_entry j g)
       ∙ all_at (λ e. entry_key e ≡ first t.cells r) no_entry (list_of t r) j g (all_under entry_key (first t.cells r) (entries_in t))
 
   key-past : length (passed t r) + length (list_of t r) < used_of t → first t.pool (length (passed t r) + length (list_of t r)) ≡ first t.cells r → ⊥

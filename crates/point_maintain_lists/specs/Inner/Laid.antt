@@ -1,7 +1,6 @@
 -- What the functions of the pass are asked for and give. Assumes nothing.
-use Rattle.basics.specs.Words.{ℕ, ◌+◌, ◌-◌, ◌<◌, ◌≤◌, ◌≡◌, Bool, List, ◌++◌, length}
-use Rattle.std.specs.Prelude.{Float}
-use Rattle.basics.specs.Meaning.Lent.{Lent, was, is}
+use Rattle.std.specs.Prelude.{◌+◌, ◌-◌, ◌<◌, ◌≤◌, ◌≡◌, ◌++◌, Float}
+use Rattle.basics.specs.Words.{ℕ, Bool, List, length}
 use Rattle.basics.specs.Meaning.Refusals.{pick}
 use Rattle.storage.specs.Meaning.Entries.{Entry, entries_of}
 use Rattle.storage.specs.Meaning.Packed.{second}
@@ -33,13 +32,9 @@ pub record Laid (es : List Entry) (pool : List (List ℕ)) (spots : List (List F
 abbrev pub list_at : List (List ℕ) → List (List Float) → ℕ → ℕ → List Entry
 list_at pool spots from to = run (entry_at pool spots) from (to - from)
 
--- the same in lent columns, before the call
-abbrev pub lent_list : Lent (List (List ℕ)) → Lent (List (List Float)) → ℕ → ℕ → List Entry
-lent_list pool spots from to = list_at (was pool) (was spots) from to
-
--- r entries, those of es, are in use in lent columns after the call, and past them is what was there before
-abbrev pub InUse : List Entry → Lent (List (List ℕ)) → Lent (List (List Float)) → ℕ → Type 0
-InUse es pool spots r = (r ≡ length es) × Columns es (was pool) (was spots) (is pool) (is spots)
+-- r entries, those of es, are in use in the columns after a call, and past them is what was there before
+abbrev pub InUse : List Entry → List (List ℕ) → List (List Float) → List (List ℕ) → List (List Float) → ℕ → Type 0
+InUse es pool spots pool' spots' r = (r ≡ length es) × Columns es pool spots pool' spots'
 
 -- what a list keeps: it is walked if its cell is dirty
 abbrev pub kept_if : Bool → List (List ℕ) → List (List Float) → List Entry → List Entry

@@ -1,6 +1,7 @@
 -- The entries that stand at places of the pool, one after the other. Assumes nothing.
 -- Here: what only inner contracts cite.
-use Rattle.basics.specs.Words.{ℕ, zero, suc, List, [], ◌∷◌}
+use Rattle.std.specs.Prelude.{◌∷◌}
+use Rattle.basics.specs.Words.{ℕ, zero, suc, List, []}
 
 module _ {A : Type 0} (at : ℕ → A) where
   -- what stands at the n places from i on

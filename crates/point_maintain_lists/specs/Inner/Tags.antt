@@ -1,7 +1,7 @@
 -- What becomes of an entry in the walk of its list, as its slot's tag says: 0 it stays, 1 it stays at the pending position, else it leaves.
 -- Assumes nothing.
-use Rattle.basics.specs.Words.{ℕ, List, [], ◌∷◌, get_or, eqb}
-use Rattle.std.specs.Prelude.{Float}
+use Rattle.std.specs.Prelude.{◌∷◌, Float}
+use Rattle.basics.specs.Words.{ℕ, List, [], get_or, eqb}
 use Rattle.std.specs.Float.{nan}
 use Rattle.basics.specs.Meaning.Refusals.{pick}
 use Rattle.storage.specs.Meaning.Entries.{Entry, entry}

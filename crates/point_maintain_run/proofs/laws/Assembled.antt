@@ -191,7 +191,7 @@ module _ {t : Tables} (h : Holds t) where
         pub cells-room : length (fresh (take (w + k) pool₃)) ≤ length t.cells
         cells-room =
             let e : length (fresh (take (w + k) pool₃)) ≡ length (fresh rows) = ap (λ (l : List (List ℕ)). length (fresh l)) first_rows in
-            omega (arith, e, after-rows-most t h, h.sized.of_cells_lem)
+            omega (arith, e, after-rows-most t h, h.sized.of_cells)
 
         -- ---- and after the table anew
         pub assembled : {cells₄ : List (List ℕ)} {n : ℕ} → (n ≡ length (fresh (take (w + k) pool₃))) × (cells₄ ≡ written (fresh (take (w + k) pool₃)) t.cells) → tables after.nums after.reals after.ints (counting after.map (w + k) n) pool₃ spots₃ cells₄ ≡ settled_tables t

@@ -1,10 +1,10 @@
 -- `point_maintain_slots::differs` meets its contract: by its two comparisons. Assumes nothing.
-use Rattle.basics.specs.Words.{refl, needs}
+use Rattle.basics.specs.Words.{refl, rules}
 use Rattle.point_maintain_slots.proofs.differs.Statement.{statement}
 use Rattle.point_maintain_slots.proofs.differs.Tie as tie
 
 returns : tie.Need-returns
 returns c = refl
 
-pub differs-spec : {M : Type 1} → statement M
-differs-spec = tie.close (tie.spec (λ c. search needs) (λ c. search needs) (λ c. search needs) (λ c. search needs) returns)
+pub differs_spec : {M : Type 1} → statement M
+differs_spec = tie.close (tie.spec (λ c. search rules) (λ c. search rules) (λ c. search rules) (λ c. search rules) returns)

@@ -8,59 +8,59 @@ use Rattle.point_maintain_slots.proofs.Turns.{turn_room, turn_done}
 use Rattle.point_maintain_slots.proofs.settle_slots.Statement.{statement}
 use Rattle.point_maintain_slots.proofs.settle_slots.Tie as tie
 
-abbrev invariant-loop : tie.invariant-loop
-invariant-loop nums₀ reals₀ ints₀ map₀ pool₀ w k₀ i₀ nums reals ints map pool k i =
+abbrev invariant-loop-i : tie.invariant-loop-i
+invariant-loop-i nums₀ reals₀ ints₀ map₀ pool₀ w k₀ i₀ nums reals ints map pool k i =
     Done (record_tables nums₀ reals₀ ints₀ map₀) w pool₀ i (record_tables nums reals ints map) pool k
 
-abbrev decreases-loop : tie.decreases-loop
-decreases-loop nums₀ reals₀ ints₀ map₀ pool₀ w k₀ i₀ nums reals ints map pool k i = length nums₀ - i
+abbrev decreases-loop-i : tie.decreases-loop-i
+decreases-loop-i nums₀ reals₀ ints₀ map₀ pool₀ w k₀ i₀ nums reals ints map pool k i = length nums₀ - i
 
 -- the records at entry, and those in a turn
-abbrev at_entry : tie.Start invariant-loop decreases-loop → Tables
+abbrev at_entry : tie.Start invariant-loop-i decreases-loop-i → Tables
 at_entry s = record_tables s.args.nums.now s.args.reals.now s.args.ints.now s.args.map.now
 
-abbrev start : tie.At-loop invariant-loop decreases-loop → tie.Start invariant-loop decreases-loop
+abbrev start : tie.At-loop-i invariant-loop-i decreases-loop-i → tie.Start invariant-loop-i decreases-loop-i
 start l = l.before.before
 
 -- the lengths stay
-slots-stay : (l : tie.At-loop invariant-loop decreases-loop) → length l.loop.nums ≡ length (start l).args.nums.now
-slots-stay l = done-slots l.loop.invariant
+slots-stay : (l : tie.At-loop-i invariant-loop-i decreases-loop-i) → length l.loop-i.nums ≡ length (start l).args.nums.now
+slots-stay l = done-slots l.loop-i.invariant
 
-inside : (c : tie.In-loop invariant-loop decreases-loop) → c.before.loop.i < length (start c.before).args.nums.now
-inside c = omega (arith, slots-stay c.before, c.loop-test.true)
+inside : (c : tie.In-loop-i invariant-loop-i decreases-loop-i) → c.loop-i.i < length (start c.before).args.nums.now
+inside c = omega (arith, slots-stay c.before, c.loop-i-test.true)
 
 -- what the turn at hand is asked for
-room-here : (c : tie.In-loop invariant-loop decreases-loop) → c.before.before.before.args.w + c.before.loop.k ≤ length (start c.before).args.pool.now
-room-here c = let s = start c.before in done-room c.before.loop.invariant s.pre.0 s.pre.1
+room-here : (c : tie.In-loop-i invariant-loop-i decreases-loop-i) → c.args.w + c.loop-i.k ≤ length (start c.before).args.pool.now
+room-here c = let s = start c.before in done-room c.loop-i.invariant s.requires.0 s.requires.1
 
-turn-requires : tie.Need-turn-requires invariant-loop decreases-loop
+turn-requires : tie.Need-turn-n-requires invariant-loop-i decreases-loop-i
 turn-requires c κs =
-    let t = c.before.before.before.before.before in
-    let l = t.before in
-    let s = start l in
-    (turn_slotted l.loop.invariant s.pre.0 s.pre.1 (inside t), turn_room l.loop.invariant s.pre.0 s.pre.1 (inside t))
+    let t = c in
+    let l = t in
+    let s = start c.before.before.before.before.before.before in
+    (turn_slotted l.loop-i.invariant s.requires.0 s.requires.1 (inside c.before.before.before.before.before), turn_room l.loop-i.invariant s.requires.0 s.requires.1 (inside c.before.before.before.before.before))
 
 -- one slot more
-after : (c : tie.After-pool invariant-loop decreases-loop) → let u = c.before.before.before.before.before.before in let l = u.before.before.before.before.before.before.before in let s = start l in Done (at_entry s) s.args.w s.args.pool.now (l.loop.i + 1) (record_tables u.turn.new.0 u.turn.new.1.0 u.turn.new.1.1.0 u.turn.new.1.1.1.0) u.turn.new.1.1.1.1.0 (l.loop.k + u.turn.result)
+after : (c : tie.After-pool-1 invariant-loop-i decreases-loop-i) → let u = c in let l = u in let s = start c.before.before.before.before.before.before.before.before.before.before.before.before.before in Done (at_entry s) s.args.w s.args.pool.now (l.loop-i.i + 1) (record_tables u.turn-n.new.nums u.turn-n.new.reals u.turn-n.new.ints u.turn-n.new.map) u.turn-n.new.pool (l.loop-i.k + u.turn-n.result)
 after c =
-    let u = c.before.before.before.before.before.before in
-    let t = u.before.before.before.before.before.before in
-    let l = t.before in
-    let s = start l in
-    turn_done l.loop.invariant s.pre.0 s.pre.1 (inside t) u.turn.ensures.0 u.turn.ensures.1.0 u.turn.ensures.1.1
+    let u = c in
+    let t = u in
+    let l = t in
+    let s = start c.before.before.before.before.before.before.before.before.before.before.before.before.before in
+    turn_done l.loop-i.invariant s.requires.0 s.requires.1 (inside c.before.before.before.before.before.before.before.before.before.before.before.before) u.turn-n.ensures.0 u.turn-n.ensures.1.0 u.turn-n.ensures.1.1
 
-abbrev turned-in : tie.After-pool invariant-loop decreases-loop → tie.In-loop invariant-loop decreases-loop
+abbrev turned-in : tie.After-pool-1 invariant-loop-i decreases-loop-i → tie.In-loop-i invariant-loop-i decreases-loop-i
 turned-in c = c.before.before.before.before.before.before.before.before.before.before.before.before
 
-add-k : tie.Need-overflow-add-k invariant-loop decreases-loop
-add-k c = let s = start (turned-in c).before in omega (arith, done-room (after c) s.pre.0 s.pre.1)
+add-k : tie.Need-overflow_add-k invariant-loop-i decreases-loop-i
+add-k c = let s = start (turned-in c).before in omega (arith, done-room (after c) s.requires.0 s.requires.1)
 
-pub settle-slots-spec : {M : Type 1} → statement M
-settle-slots-spec =
+pub settle_slots_spec : {M : Type 1} → statement M
+settle_slots_spec =
     tie.close
     (tie.spec
-    invariant-loop
-    decreases-loop
+    invariant-loop-i
+    decreases-loop-i
     (λ c. none_done)
     (λ c. omega (arith, room-here c.before.before.before.before.before))
     turn-requires
@@ -69,8 +69,8 @@ settle-slots-spec =
     (λ c. omega (arith, inside (turned-in c)))
     after
     (λ c. slots-stay c.before)
-    (λ c. done-reals c.before.loop.invariant (start c.before).pre.0)
-    (λ c. done-ints c.before.loop.invariant (start c.before).pre.0)
-    (λ c. done-map c.before.loop.invariant (start c.before).pre.0)
-    (λ c. put-long c.before.loop.invariant (start c.before).pre.0 (start c.before).pre.1)
-    (λ c. all_done c.before.loop.invariant (omega (arith, slots-stay c.before, c.loop-test.false))))
+    (λ c. done-reals c.loop-i.invariant (start c.before).requires.0)
+    (λ c. done-ints c.loop-i.invariant (start c.before).requires.0)
+    (λ c. done-map c.loop-i.invariant (start c.before).requires.0)
+    (λ c. put-long c.loop-i.invariant (start c.before).requires.0 (start c.before).requires.1)
+    (λ c. all_done c.loop-i.invariant (omega (arith, slots-stay c.before, c.loop-i-test.false))))

@@ -1,10 +1,8 @@
 -- The pass over the slots: what it is asked for, one slot's part of it, and what it leaves. Assumes nothing.
 -- Here: what only inner contracts cite.
-use Rattle.basics.specs.Words.{ℕ, ◌+◌, ◌/◌, ◌<◌, ◌≤◌, ◌≡◌, List, [], ◌∷◌, ◌++◌, map, length, get_or, set, take, drop, ℤ}
-use Rattle.std.specs.Prelude.{Float}
+use Rattle.std.specs.Prelude.{◌+◌, ◌/◌, ◌<◌, ◌≤◌, ◌≡◌, ◌∷◌, ◌++◌, Float}
+use Rattle.basics.specs.Words.{ℕ, List, [], map, length, get_or, set, take, drop, ℤ}
 use Rattle.std.specs.Float.{nan}
-use Rattle.std.specs.Borrow.{Bor}
-use Rattle.basics.specs.Meaning.Lent.{Lent}
 use Rattle.basics.specs.Meaning.Refusals.{pick}
 use Rattle.geometry.specs.declared.Position.{Position}
 use Rattle.cells.specs.declared.Cell.{Cell}
@@ -23,18 +21,9 @@ use Rattle.point_maintain.specs.Inner.Settle.{settled_all}
 use Rattle.point_maintain.specs.Inner.Settle.{Shaped}
 use Rattle.point_maintain.specs.Inner.Closed.{relocated_below}
 
--- ---- tables that have the records and the slot map alone, and the same behind four references: at one moment, before and after a call
+-- ---- tables that have the records and the slot map alone
 abbrev pub record_tables : List (List ℕ) → List (List Float) → List (List ℤ) → List ℕ → Tables
 record_tables nums reals ints map = tables nums reals ints map [] [] []
-
-abbrev pub lent_records : Bor (List (List ℕ)) → Bor (List (List Float)) → Bor (List (List ℤ)) → Bor (List ℕ) → Tables
-lent_records nums reals ints map = record_tables nums.now reals.now ints.now map.now
-
-abbrev pub records_before : Lent (List (List ℕ)) → Lent (List (List Float)) → Lent (List (List ℤ)) → Lent (List ℕ) → Tables
-records_before nums reals ints map = lent_records nums.entry reals.entry ints.entry map.entry
-
-abbrev pub records_after : Lent (List (List ℕ)) → Lent (List (List Float)) → Lent (List (List ℤ)) → Lent (List ℕ) → Tables
-records_after nums reals ints map = lent_records nums.exit reals.exit ints.exit map.exit
 
 -- slot s has its rows and its bit
 pub record Slotted (t : Tables) (s : ℕ) : Type 0 where

@@ -67,7 +67,7 @@ module _ (t : Tables) (h : Holds t) (c : Position) (r : Float) (dc : T (position
     round = dr;
     few = λ j l. omega (arith, (h.lists.each j l).inside, h.sized.most);
     once = once;
-    placed = λ j l. (stands t h j l).in_domain_lem;
+    placed = λ j l. (stands t h j l).within_domain;
     listed = λ j l. (stands t h j l).key;
   }
 

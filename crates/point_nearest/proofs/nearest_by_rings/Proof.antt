@@ -1,5 +1,5 @@
 -- `point_nearest::nearest_by_rings` meets its contract. Assumes nothing.
-use Rattle.basics.specs.Words.{ℕ, ◌≡◌, sym, ap, ◌∙◌, subst, ◌&&◌, T, arith, needs}
+use Rattle.basics.specs.Words.{ℕ, ◌≡◌, sym, ap, ◌∙◌, subst, ◌&&◌, T, arith, rules}
 use Rattle.basics.specs.Meaning.Refusals.{first_of}
 use Rattle.geometry.specs.Meaning.Domain.{position_in_domain, radius_in_domain}
 use Rattle.cells.specs.Meaning.CellRule.{cell_at}
@@ -19,84 +19,84 @@ abbrev lent : tie.Start → Tables
 lent s = tables s.args.nums.now s.args.reals.now s.args.ints.now s.args.map.now s.args.pool.now s.args.spots.now s.args.cells.now
 
 -- ---- what was asked of the range
-module _ (k : tie.After-range-of) where
-  abbrev above : tie.After-corner-above
+module _ (k : tie.After-range_of-range) where
+  abbrev above : tie.After-corner_above-ur
   above = k.before
 
-  abbrev below : tie.After-corner-below
+  abbrev below : tie.After-corner_below-ll
   below = above.before
 
-  abbrev radial : tie.After-radius-in-domain
+  abbrev radial : tie.After-radius_in_domain
   radial = below.before
 
-  abbrev central : tie.After-position-in-domain
+  abbrev central : tie.After-position_in_domain
   central = radial.before
 
   abbrev start : tie.Start
   start = central.before.before
 
   -- in the words of the definition
-  answered : k.range-of.result.answer ≡ first_of (nearest_tests (lent start) start.args.centre start.args.radius)
+  answered : k.range_of-range.result.answer ≡ first_of (nearest_tests (lent start) start.args.centre start.args.radius)
   answered =
-      k.range-of.ensures.answer
-      ∙ (λ z. first_of (range_tests (lent start) (central.position-in-domain.ensures z && radial.radius-in-domain.ensures z) (below.corner-below.ensures z) (above.corner-above.ensures z)))
+      k.range_of-range.ensures.answer
+      ∙ (λ z. first_of (range_tests (lent start) (central.position_in_domain.ensures z && radial.radius_in_domain.ensures z) (below.corner_below-ll.ensures z) (above.corner_above-ur.ensures z)))
 
-range-of-requires : tie.Need-range-of-requires
+range-of-requires : tie.Need-range_of-range-requires
 range-of-requires c κs =
     let l = c.before in
     let d = l.before in
     let s = d.before.before.before in
-    around_reached _ _ s.args.centre s.args.radius _ _ l.corner-below.ensures c.corner-above.ensures d.before.position-in-domain.ensures d.radius-in-domain.ensures
+    around_reached _ _ s.args.centre s.args.radius _ _ l.corner_below-ll.ensures c.corner_above-ur.ensures d.before.position_in_domain.ensures d.radius_in_domain.ensures
 
-returns : tie.Need-returns
+returns : tie.Need-returns-then-range-ne0
 returns c =
     let k = c.before.before.before in
     let s = start k in
-    let e = c.none.ensures ∙ nearest-refused (lent s) s.args.centre s.args.radius _ (answered k) c.before.if1.true in
-    record { nearest = e; rings = λ z. absurd (c.before.if1.true (sym (ap (λ n. n.answer) c.none.ensures) ∙ z)) }
+    let e = c.none.ensures ∙ nearest-refused (lent s) s.args.centre s.args.radius _ (answered k) c.before.if-range-ne0.true in
+    record { nearest = e; rings = λ z. absurd (c.before.if-range-ne0.true (sym (ap (λ n. n.answer) c.none.ensures) ∙ z)) }
 
 -- ---- a range that is not refused
-module _ (e : tie.Else1) where
-  abbrev k : tie.After-range-of
+module _ (e : tie.Else-range-ne0) where
+  abbrev k : tie.After-range_of-range
   k = e.before.before
 
   abbrev t : Tables
   t = lent (start k)
 
   done : 0 ≡ first_of (nearest_tests t (start k).args.centre (start k).args.radius)
-  done = sym e.if1.left ∙ answered k
+  done = sym e.if-range-ne0.false ∙ answered k
 
   passed : Holds t × T (position_in_domain (start k).args.centre) × T (radius_in_domain (start k).args.radius)
   passed = passed_tests t (start k).args.centre (start k).args.radius done
 
-walk-requires : tie.Need-walk-requires
+walk-requires : tie.Need-walk-w-requires
 walk-requires c κs =
     let i = c.before.before.before in
     let e = i.before.before in
     let o = k e in
     let a = (start o).args in
-    let g = o.range-of.ensures in (
-      subst (Walkable (size_of (t e)) a.centre a.radius a.pool.now a.spots.now) (sym i.index_of.ensures) (walkable (t e) (passed e).0 a.centre a.radius (passed e).1 (passed e).2),
-      g.low e.if1.false ∙ ap (cell_at (size_of (t e))) (below o).corner-below.ensures,
-      g.high e.if1.false ∙ ap (cell_at (size_of (t e))) (above o).corner-above.ensures,
+    let g = o.range_of-range.ensures in (
+      subst (Walkable (size_of (t e)) a.centre a.radius a.pool.now a.spots.now) (sym i.index_of-used.ensures) (walkable (t e) (passed e).0 a.centre a.radius (passed e).1 (passed e).2),
+      g.low e.if-range-ne0.false ∙ ap (cell_at (size_of (t e))) (below o).corner_below-ll.ensures,
+      g.high e.if-range-ne0.false ∙ ap (cell_at (size_of (t e))) (above o).corner_above-ur.ensures,
     )
 
 -- ---- what the walk came to
-module _ (x : tie.After-walk) where
-  abbrev index : tie.After-index-of
+module _ (x : tie.After-walk-w) where
+  abbrev index : tie.After-index_of-used
   index = x.before.before.before.before
 
-  abbrev else : tie.Else1
+  abbrev else : tie.Else-range-ne0
   else = index.before.before
 
   abbrev given : tie.Start
   given = start (k else)
 
-  best-is : x.walk.result.best ≡ best_of given.args.centre given.args.radius given.args.pool.now given.args.spots.now (used_of (t else)) every
-  best-is = x.walk.ensures.best ∙ ap (λ (n : ℕ). best_of given.args.centre given.args.radius given.args.pool.now given.args.spots.now n every) index.index_of.ensures
+  best-is : x.walk-w.result.best ≡ best_of given.args.centre given.args.radius given.args.pool.now given.args.spots.now (used_of (t else)) every
+  best-is = x.walk-w.ensures.best ∙ ap (λ (n : ℕ). best_of given.args.centre given.args.radius given.args.pool.now given.args.spots.now n every) index.index_of-used.ensures
 
-  rings-are : x.walk.result.rings ≡ rings_of (size_of (t else)) given.args.centre given.args.radius given.args.pool.now given.args.spots.now (used_of (t else))
-  rings-are = x.walk.ensures.rings ∙ ap (rings_of (size_of (t else)) given.args.centre given.args.radius given.args.pool.now given.args.spots.now) index.index_of.ensures
+  rings-are : x.walk-w.result.rings ≡ rings_of (size_of (t else)) given.args.centre given.args.radius given.args.pool.now given.args.spots.now (used_of (t else))
+  rings-are = x.walk-w.ensures.rings ∙ ap (rings_of (size_of (t else)) given.args.centre given.args.radius given.args.pool.now given.args.spots.now) index.index_of-used.ensures
 
 told-requires : tie.Need-told-requires
 told-requires c κs =
@@ -105,7 +105,7 @@ told-requires c κs =
     let a = (given x).args in
     subst (Tellable a.nums.now a.pool.now a.spots.now) (sym (best-is x)) (tellable (t e) (passed e).0 a.centre a.radius (passed e).1 (passed e).2)
 
-returns-2 : tie.Need-returns-2
+returns-2 : tie.Need-returns
 returns-2 c =
     let x = c.before.before in
     let e = else x in
@@ -118,19 +118,19 @@ returns-2 c =
       rings = λ z. rings-are x;
     }
 
-pub nearest-by-rings-spec : {M : Type 1} → statement M
-nearest-by-rings-spec =
+pub nearest_by_rings_spec : {M : Type 1} → statement M
+nearest_by_rings_spec =
     tie.close
     (tie.spec
-    (λ c κs. search needs)
-    (λ c κs. search needs)
-    (λ c κs. search needs)
-    (λ c κs. search needs)
+    (λ c κs. search rules)
+    (λ c κs. search rules)
+    (λ c κs. search rules)
+    (λ c κs. search rules)
     range-of-requires
-    (λ c κs. search needs)
+    (λ c κs. search rules)
     returns
     (λ c. omega (arith, (passed c.before).0.sized.of_map))
-    (λ c κs. search needs)
+    (λ c κs. search rules)
     (λ c. omega (arith, (passed c.before.before.before.before.before).0.sized.of_map))
     walk-requires
     told-requires

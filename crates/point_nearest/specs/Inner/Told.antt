@@ -1,6 +1,6 @@
 -- What is reported of the best entry, and how many rings are looked at in the tables of a grid. Assumes nothing.
-use Rattle.basics.specs.Words.{ℕ, ◌≤◌, ◌≡◌, List, length, eqb}
-use Rattle.std.specs.Prelude.{Float}
+use Rattle.std.specs.Prelude.{◌≤◌, ◌≡◌, Float}
+use Rattle.basics.specs.Words.{ℕ, List, length, eqb}
 use Rattle.basics.specs.Meaning.Limits.{most_slots}
 use Rattle.basics.specs.Meaning.Refusals.{pick}
 use Rattle.geometry.specs.declared.Position.{Position}

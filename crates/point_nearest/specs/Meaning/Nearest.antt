@@ -1,6 +1,6 @@
 -- `nearest`: the one point that is closest to a centre among those that the circle query would report. Assumes nothing.
-use Rattle.basics.specs.Words.{ℕ, Bool, ◌&&◌, ◌||◌, List, [], ◌∷◌, ltb}
-use Rattle.std.specs.Prelude.{Float}
+use Rattle.std.specs.Prelude.{◌&&◌, ◌||◌, ◌∷◌, Float}
+use Rattle.basics.specs.Words.{ℕ, Bool, List, [], ltb}
 use Rattle.std.specs.Float.Ieee.{lt, eq}
 use Rattle.basics.specs.Meaning.Refusals.{Refusal, pick, by_tests}
 use Rattle.geometry.specs.declared.Position.{Position}

@@ -73,7 +73,7 @@ module _ (nums : List (List ℕ)) (reals : List (List Float)) (ints : List (List
     cell_is_near j h =
         let o = (t.whole j h).occupied in
         let r = record_at nums reals ints (second pool j) in
-        subst Near o.in_cell (cell-near size r.position (position_reached r.position o.in_domain_lem))
+        subst Near o.in_cell (cell-near size r.position (position_reached r.position o.within_domain))
 
     -- no row has the key 0
     pub row-some : (r : ℕ) → r < rows → 0 < first cells r

@@ -1,7 +1,7 @@
 -- What the pass over the pool and the cell table asks of each entry, of a run of them, and of all of them. Assumes nothing.
 -- Here: what only inner contracts cite.
-use Rattle.basics.specs.Words.{ℕ, ◌<◌, ◌≤◌, ◌≡◌, Bool, true, false, List, length, get_or, ℤ}
-use Rattle.std.specs.Prelude.{Float}
+use Rattle.std.specs.Prelude.{◌<◌, ◌≤◌, ◌≡◌, Float}
+use Rattle.basics.specs.Words.{ℕ, Bool, true, false, List, length, get_or, ℤ}
 use Rattle.std.specs.Float.Ieee.{is_nan}
 use Rattle.basics.specs.Meaning.Limits.{most_slots}
 use Rattle.cells.specs.declared.Cell.{Cell}

@@ -1,5 +1,5 @@
 -- `point_query::query` meets its contract. Assumes nothing.
-use Rattle.basics.specs.Words.{needs}
+use Rattle.basics.specs.Words.{rules}
 use Rattle.point_tables.specs.Meaning.Tables.{Tables, tables}
 use Rattle.point_search.specs.Meaning.Searches.{outputs}
 use Rattle.point_query.proofs.laws.CornerLaws.{query_reached, query_is}
@@ -13,7 +13,7 @@ search-requires : tie.Need-search-requires
 search-requires c κs =
     let d = c.before.before.before in
     let s = d.before.before.before in
-    query_reached _ _ s.args.ll s.args.ur d.before.position-in-domain.ensures d.position-in-domain2.ensures
+    query_reached _ _ s.args.ll s.args.ur d.before.position_in_domain.ensures d.position_in_domain-2.ensures
 
 returns : tie.Need-returns
 returns c =
@@ -21,7 +21,7 @@ returns c =
     let d = r.before.before.before.before in
     let s = d.before.before.before in
     let a = s.args in
-    query_is d.before.position-in-domain.result d.position-in-domain2.result (lent s) (outputs a.found.now a.places.now a.objs.now) _ a.ll a.ur d.before.position-in-domain.ensures d.position-in-domain2.ensures r.search.ensures
+    query_is d.before.position_in_domain.result d.position_in_domain-2.result (lent s) (outputs a.found.now a.places.now a.objs.now) _ a.ll a.ur d.before.position_in_domain.ensures d.position_in_domain-2.ensures r.search.ensures
 
-pub query-spec : {M : Type 1} → statement M
-query-spec = tie.close (tie.spec (λ c κs. search needs) (λ c κs. search needs) search-requires (λ c. search needs) (λ c. search needs) (λ c. search needs) returns)
+pub query_spec : {M : Type 1} → statement M
+query_spec = tie.close (tie.spec (λ c κs. search rules) (λ c κs. search rules) search-requires (λ c. search rules) (λ c. search rules) (λ c. search rules) returns)

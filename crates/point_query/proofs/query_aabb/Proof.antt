@@ -1,5 +1,5 @@
 -- `point_query::query_aabb` meets its contract. Assumes nothing.
-use Rattle.basics.specs.Words.{needs}
+use Rattle.basics.specs.Words.{rules}
 use Rattle.point_tables.specs.Meaning.Tables.{Tables, tables}
 use Rattle.point_search.specs.Meaning.Searches.{outputs}
 use Rattle.point_query.proofs.laws.CornerLaws.{aabb_reached, aabb_is}
@@ -15,7 +15,7 @@ search-requires c κs =
     let l = u.before in
     let d = l.before in
     let s = d.before.before.before in
-    aabb_reached _ _ s.args.a s.args.b _ _ l.lower-corner.ensures u.upper-corner.ensures d.before.position-in-domain.ensures d.position-in-domain2.ensures
+    aabb_reached _ _ s.args.a s.args.b _ _ l.lower_corner-ll.ensures u.upper_corner-ur.ensures d.before.position_in_domain.ensures d.position_in_domain-2.ensures
 
 returns : tie.Need-returns
 returns c =
@@ -25,9 +25,9 @@ returns c =
     let d = l.before in
     let s = d.before.before.before in
     let a = s.args in
-    aabb_is d.before.position-in-domain.result d.position-in-domain2.result (lent s) (outputs a.found.now a.places.now a.objs.now) _ a.a a.b l.lower-corner.result u.upper-corner.result
-    l.lower-corner.ensures u.upper-corner.ensures d.before.position-in-domain.ensures d.position-in-domain2.ensures r.search.ensures
+    aabb_is d.before.position_in_domain.result d.position_in_domain-2.result (lent s) (outputs a.found.now a.places.now a.objs.now) _ a.a a.b l.lower_corner-ll.result u.upper_corner-ur.result
+    l.lower_corner-ll.ensures u.upper_corner-ur.ensures d.before.position_in_domain.ensures d.position_in_domain-2.ensures r.search.ensures
 
-pub query-aabb-spec : {M : Type 1} → statement M
-query-aabb-spec =
-    tie.close (tie.spec (λ c κs. search needs) (λ c κs. search needs) (λ c κs. search needs) (λ c κs. search needs) search-requires (λ c. search needs) (λ c. search needs) (λ c. search needs) returns)
+pub query_aabb_spec : {M : Type 1} → statement M
+query_aabb_spec =
+    tie.close (tie.spec (λ c κs. search rules) (λ c κs. search rules) (λ c κs. search rules) (λ c κs. search rules) search-requires (λ c. search rules) (λ c. search rules) (λ c. search rules) returns)

@@ -1,5 +1,5 @@
 -- `point_query::query_around` meets its contract. Assumes nothing.
-use Rattle.basics.specs.Words.{needs}
+use Rattle.basics.specs.Words.{rules}
 use Rattle.point_tables.specs.Meaning.Tables.{Tables, tables}
 use Rattle.point_search.specs.Meaning.Searches.{outputs}
 use Rattle.point_query.proofs.laws.CornerLaws.{around_reached, around_is}
@@ -15,7 +15,7 @@ search-requires c κs =
     let l = u.before in
     let d = l.before in
     let s = d.before.before.before in
-    around_reached _ _ s.args.centre s.args.radius _ _ l.corner-below.ensures u.corner-above.ensures d.before.position-in-domain.ensures d.radius-in-domain.ensures
+    around_reached _ _ s.args.centre s.args.radius _ _ l.corner_below-ll.ensures u.corner_above-ur.ensures d.before.position_in_domain.ensures d.radius_in_domain.ensures
 
 returns : tie.Need-returns
 returns c =
@@ -25,9 +25,9 @@ returns c =
     let d = l.before in
     let s = d.before.before.before in
     let a = s.args in
-    around_is d.before.position-in-domain.result d.radius-in-domain.result (lent s) (outputs a.found.now a.places.now a.objs.now) _ a.centre a.radius l.corner-below.result u.corner-above.result
-    l.corner-below.ensures u.corner-above.ensures d.before.position-in-domain.ensures d.radius-in-domain.ensures r.search.ensures
+    around_is d.before.position_in_domain.result d.radius_in_domain.result (lent s) (outputs a.found.now a.places.now a.objs.now) _ a.centre a.radius l.corner_below-ll.result u.corner_above-ur.result
+    l.corner_below-ll.ensures u.corner_above-ur.ensures d.before.position_in_domain.ensures d.radius_in_domain.ensures r.search.ensures
 
-pub query-around-spec : {M : Type 1} → statement M
-query-around-spec =
-    tie.close (tie.spec (λ c κs. search needs) (λ c κs. search needs) (λ c κs. search needs) (λ c κs. search needs) search-requires (λ c. search needs) (λ c. search needs) (λ c. search needs) returns)
+pub query_around_spec : {M : Type 1} → statement M
+query_around_spec =
+    tie.close (tie.spec (λ c κs. search rules) (λ c κs. search rules) (λ c κs. search rules) (λ c κs. search rules) search-requires (λ c. search rules) (λ c. search rules) (λ c. search rules) returns)

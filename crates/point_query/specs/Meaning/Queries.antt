@@ -1,6 +1,6 @@
 -- `query`, `query_around` and `query_aabb`: each is the search of its corners and its test. Assumes nothing.
-use Rattle.basics.specs.Words.{◌&&◌, List}
-use Rattle.std.specs.Prelude.{Float}
+use Rattle.std.specs.Prelude.{◌&&◌, Float}
+use Rattle.basics.specs.Words.{List}
 use Rattle.basics.specs.Meaning.Refusals.{Refusal}
 use Rattle.geometry.specs.declared.Position.{Position}
 use Rattle.geometry.specs.Meaning.Domain.{position_in_domain, radius_in_domain}

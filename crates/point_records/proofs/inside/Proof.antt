@@ -1,5 +1,5 @@
 -- `point_records::inside` meets its contract. Assumes nothing.
-use Rattle.basics.specs.Words.{needs}
+use Rattle.basics.specs.Words.{rules}
 use Rattle.point_records.proofs.Shared.{inside_says}
 use Rattle.point_records.proofs.inside.Statement.{statement}
 use Rattle.point_records.proofs.inside.Tie as tie
@@ -8,8 +8,8 @@ returns : tie.Need-returns
 returns c =
     let s = c.before.before in
     let a = s.args in
-    inside_says a.size a.c a.p c.before.in_span.result c.in-span2.result
-    (rw c.before.in_span.ensures (s.requires.0 a.p.x)) (rw c.in-span2.ensures (s.requires.1 a.p.y))
+    inside_says a.size a.c a.p c.before.in_span.result c.in_span-2.result
+    (rw c.before.in_span.ensures (s.requires.0 a.p.x)) (rw c.in_span-2.ensures (s.requires.1 a.p.y))
 
-pub inside-spec : {M : Type 1} → statement M
-inside-spec = tie.close (tie.spec (λ c κs. search needs) (λ c κs. search needs) returns)
+pub inside_spec : {M : Type 1} → statement M
+inside_spec = tie.close (tie.spec (λ c κs. search rules) (λ c κs. search rules) returns)

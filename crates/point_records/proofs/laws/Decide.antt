@@ -23,5 +23,5 @@ d_agrees size c Removed = d_unit
 
 pub d_occupied : (size : ℕ) (r : Record) → Decided (Occupied size r)
 d_occupied size r =
-    d_via (λ x. record { in_domain_lem = x.0; in_cell = x.1; agrees = x.2 }) (λ h. (h.in_domain_lem, h.in_cell, h.agrees))
+    d_via (λ x. record { within_domain = x.0; in_cell = x.1; agrees = x.2 }) (λ h. (h.within_domain, h.in_cell, h.agrees))
     (d_three (d_t (position_in_domain r.position)) (d_cell (cell_at size r.position) r.cell) (d_agrees size r.cell r.state))

@@ -25,7 +25,7 @@ aimed-agrees size c p d = pick-agrees size c p d (d_cell (cell_at size p) c)
 -- ---- a record holds by its parts: the object is of cell c, its position is of the cell, and what is pending agrees
 module _ (size : ℕ) (c : Cell) (n : List ℕ) (q : List Float) (z : List ℤ) where
   pub to_occupied : InCell size c q z → Agrees size c (pending_in (tag_in n) q z) → Occupied size (record_of n q z)
-  to_occupied h a = record { in_domain_lem = h.in_domain_lem; in_cell = h.in_cell ∙ sym h.is_cell; agrees = subst (λ (d : Cell). Agrees size d (pending_in (tag_in n) q z)) (sym h.is_cell) a }
+  to_occupied h a = record { within_domain = h.within_domain; in_cell = h.in_cell ∙ sym h.is_cell; agrees = subst (λ (d : Cell). Agrees size d (pending_in (tag_in n) q z)) (sym h.is_cell) a }
 
   pub of_occupied : (record_of n q z).cell ≡ c → Occupied size (record_of n q z) → InCell size c q z × Agrees size c (pending_in (tag_in n) q z)
-  of_occupied e o = (record { is_cell = e; in_domain_lem = o.in_domain_lem; in_cell = o.in_cell ∙ e }, subst (λ (d : Cell). Agrees size d (pending_in (tag_in n) q z)) e o.agrees)
+  of_occupied e o = (record { is_cell = e; within_domain = o.within_domain; in_cell = o.in_cell ∙ e }, subst (λ (d : Cell). Agrees size d (pending_in (tag_in n) q z)) e o.agrees)

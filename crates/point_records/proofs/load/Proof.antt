@@ -1,5 +1,5 @@
 -- `point_records::load` meets its contract. Assumes nothing.
-use Rattle.basics.specs.Words.{ℕ, ◌≡◌, List, [], get_or, pos, ℤ, needs}
+use Rattle.basics.specs.Words.{ℕ, ◌≡◌, List, [], get_or, pos, ℤ, rules}
 use lib.Ieee.{Float, nan}
 use Rattle.point_records.specs.declared.State.{State}
 use Rattle.point_records.specs.declared.Record.{Record}
@@ -23,30 +23,30 @@ returns c =
     let t = k.before in
     let a = t.before.before.before.before.args in
     let i = a.i in
-    made (get_or a.nums.now i []) (get_or a.reals.now i []) (get_or a.ints.now i []) _ _ _ _ _ _ _ t.Parts-in.ensures k.tracker-of.ensures (back c.before.t302.given) (back c.t272.given) s.state-of.ensures (back s.before.before.t27.given) (back s.before.t30.given)
+    made (get_or a.nums.now i []) (get_or a.reals.now i []) (get_or a.ints.now i []) _ _ _ _ _ _ _ t.parts_in-word.ensures k.tracker_of-tracker.ensures (back c.before.result-1.given) (back c.result-2-1.given) s.state_of-state.ensures (back s.before.before.state_of-arg-1.given) (back s.before.state_of-arg-2-1.given)
 
 pub load_spec : {M : Type 1} → statement M
 load_spec =
     tie.close
     (tie.spec
-    (λ c. search needs)
-    (λ c. search needs)
-    (λ c. search needs)
-    (λ c. search needs)
-    (λ c. search needs)
-    (λ c. search needs)
-    (λ c κs. search needs)
-    (λ c κs. search needs)
-    (λ c. search needs)
-    (λ c. search needs)
-    (λ c. search needs)
-    (λ c. search needs)
-    (λ c κs. search needs)
-    (λ c. search needs)
-    (λ c. search needs)
-    (λ c. search needs)
-    (λ c. search needs)
-    (λ c. search needs)
-    (λ c. search needs)
-    (λ c. search needs)
+    (λ c. search rules)
+    (λ c. search rules)
+    (λ c. search rules)
+    (λ c. search rules)
+    (λ c. search rules)
+    (λ c. search rules)
+    (λ c κs. search rules)
+    (λ c κs. search rules)
+    (λ c. search rules)
+    (λ c. search rules)
+    (λ c. search rules)
+    (λ c. search rules)
+    (λ c κs. search rules)
+    (λ c. search rules)
+    (λ c. search rules)
+    (λ c. search rules)
+    (λ c. search rules)
+    (λ c. search rules)
+    (λ c. search rules)
+    (λ c. search rules)
     returns)

@@ -1,5 +1,5 @@
 -- `point_records::store` meets its contract. Assumes nothing.
-use Rattle.basics.specs.Words.{ℕ, ◌≡◌, List, [], ◌∷◌, set, ℤ, needs}
+use Rattle.basics.specs.Words.{ℕ, ◌≡◌, List, [], ◌∷◌, set, ℤ, rules}
 use lib.Ieee.{Float}
 use Rattle.point_records.specs.declared.Record.{Record}
 use Rattle.geometry.specs.declared.Position.{Position}
@@ -17,22 +17,22 @@ returns c =
     let e = c.before in
     let g = e.before.before.before in
     let a = g.before.before.before.args in
-    made a.nums.now a.reals.now a.ints.now a.i a.r _ _ _ _ _ _ _ e.before.nums-of.ensures g.pending-of.ensures e.before.before.target-of.ensures (back e.struct_told.given.0.1) (back e.struct_told.given.1.0.1) (back c.struct-told2.given.0.1) (back c.struct-told2.given.1.0.1)
+    made a.nums.now a.reals.now a.ints.now a.i a.r _ _ _ _ _ _ _ e.before.nums_of.ensures g.pending_of-q.ensures e.before.before.target_of-d.ensures (back e.struct_told-1.given.0.1) (back e.struct_told-1.given.1.0.1) (back c.struct_told-2-1.given.0.1) (back c.struct_told-2-1.given.1.0.1)
 
 pub store_spec : {M : Type 1} → statement M
 store_spec =
     tie.close
     (tie.spec
-    (λ c κs. search needs)
-    (λ c κs. search needs)
-    (λ c κs. search needs)
-    (λ c. search needs)
-    (λ c. search needs)
-    (λ c. search needs)
-    (λ c. search needs)
-    (λ c. search needs)
-    (λ c. search needs)
-    (λ c. search needs)
-    (λ c. search needs)
-    (λ c. search needs)
+    (λ c κs. search rules)
+    (λ c κs. search rules)
+    (λ c κs. search rules)
+    (λ c. search rules)
+    (λ c. search rules)
+    (λ c. search rules)
+    (λ c. search rules)
+    (λ c. search rules)
+    (λ c. search rules)
+    (λ c. search rules)
+    (λ c. search rules)
+    (λ c. search rules)
     returns)

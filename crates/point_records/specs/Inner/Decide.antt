@@ -1,6 +1,7 @@
 -- Whether an occupied record holds can be decided. Assumes nothing.
 -- Here: what only inner contracts cite.
-use Rattle.basics.specs.Words.{◌≡◌, ap}
+use Rattle.std.specs.Prelude.{◌≡◌}
+use Rattle.basics.specs.Words.{ap}
 use Rattle.basics.specs.Meaning.Says.{Decided}
 use Rattle.basics.proofs.laws.Says.{d_via, d_and, d_eqz}
 use Rattle.cells.specs.declared.Cell.{Cell}

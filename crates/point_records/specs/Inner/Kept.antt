@@ -1,6 +1,6 @@
 -- Spans that are kept: at place i that of the column, or line, whose number from the least is there. Assumes nothing.
-use Rattle.basics.specs.Words.{ℕ, ◌<◌, ◌≡◌, List, [], length, get_or}
-use Rattle.std.specs.Prelude.{Float}
+use Rattle.std.specs.Prelude.{◌<◌, ◌≡◌, Float}
+use Rattle.basics.specs.Words.{ℕ, List, [], length, get_or}
 use Rattle.std.specs.Float.{nan}
 use Rattle.cells.specs.Inner.Key.{cell_of_key}
 use Rattle.cells.specs.Inner.Span.{Spans}

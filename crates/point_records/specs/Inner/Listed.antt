@@ -1,7 +1,7 @@
 -- An entry of a list out of the two columns, and the row that it takes in each. pool: cell key, slot. spots: x, y.
 -- The storage, which is below objects and moves rows unread, has the same entry as its two rows: storage/specs/Entries. Assumes nothing.
-use Rattle.basics.specs.Words.{ℕ, List, [], ◌∷◌, get_or}
-use Rattle.std.specs.Prelude.{Float}
+use Rattle.std.specs.Prelude.{◌∷◌, Float}
+use Rattle.basics.specs.Words.{ℕ, List, [], get_or}
 use Rattle.geometry.specs.declared.Position.{Position}
 use Rattle.point_records.specs.declared.Entry.{Entry}
 use Rattle.point_records.specs.Meaning.Columns.{position_in}

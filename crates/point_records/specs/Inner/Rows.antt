@@ -1,6 +1,7 @@
 -- The row of a slot with another tag. Assumes nothing.
 -- Here: what only inner contracts cite.
-use Rattle.basics.specs.Words.{ℕ, List, [], ◌∷◌, get_or}
+use Rattle.std.specs.Prelude.{◌∷◌}
+use Rattle.basics.specs.Words.{ℕ, List, [], get_or}
 use Rattle.point_records.specs.Meaning.Word.{word_of, tracker_in}
 
 abbrev pub with_tag : List ℕ → ℕ → List ℕ

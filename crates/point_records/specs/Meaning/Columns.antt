@@ -1,8 +1,8 @@
 -- A record out of the three columns, and the row that a record takes in each.
 -- nums: version, phase, obj (the data), word (tracker and tag). reals: x, y, pending x, pending y. ints: cell x, cell y, target x, target y.
 -- The tag: 0 Unchanged, 1 NewPos, 2 Relocate, any other Removed. Where nothing is pending the row repeats the position and the cell.
-use Rattle.basics.specs.Words.{ℕ, Bool, true, false, List, [], ◌∷◌, get_or, eqb, ℤ, pos}
-use Rattle.std.specs.Prelude.{Float}
+use Rattle.std.specs.Prelude.{◌∷◌, Float}
+use Rattle.basics.specs.Words.{ℕ, Bool, true, false, List, [], get_or, eqb, ℤ, pos}
 use Rattle.std.specs.Float.{nan}
 use Rattle.geometry.specs.declared.Position.{Position}
 use Rattle.cells.specs.declared.Cell.{Cell}

@@ -1,6 +1,7 @@
 -- What an occupied record is to be: its numbers are in the domain, its cell is that of its position, and what is pending agrees with the
 -- cell rule. Assumes nothing.
-use Rattle.basics.specs.Words.{ℕ, ◌≡◌, T}
+use Rattle.std.specs.Prelude.{◌≡◌}
+use Rattle.basics.specs.Words.{ℕ, T}
 use Rattle.geometry.specs.Meaning.Domain.{position_in_domain}
 use Rattle.geometry.specs.declared.Position.{Position}
 use Rattle.cells.specs.declared.Cell.{Cell}
@@ -20,6 +21,6 @@ Agrees size c (Relocate p d) = InDomain p × (cell_at size p ≡ d) × (d ≡ c 
 Agrees size c Removed = Unit {0}
 
 pub record Occupied (size : ℕ) (r : Record) : Type 0 where
-  pub in_domain_lem : InDomain r.position
+  pub within_domain : InDomain r.position
   pub in_cell : cell_at size r.position ≡ r.cell
   pub agrees : Agrees size r.cell r.state

@@ -1,5 +1,6 @@
 -- The tracker that a point belongs to, one of eight, and what is asked of a call that names one. Assumes nothing.
-use Rattle.basics.specs.Words.{ℕ, List, [], ◌∷◌, eqb, leb}
+use Rattle.std.specs.Prelude.{◌∷◌}
+use Rattle.basics.specs.Words.{ℕ, List, [], eqb, leb}
 use Rattle.basics.specs.Meaning.Refusals.{Refusal, unless, pick}
 use Rattle.slots.specs.declared.Handle.{Handle}
 use Rattle.slots.specs.Meaning.Slot.{handle_test}

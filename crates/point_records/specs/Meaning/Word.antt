@@ -1,5 +1,6 @@
 -- The fourth number of a slot's row, its word: four times the number of the object's tracker plus the tag of its state. Assumes nothing.
-use Rattle.basics.specs.Words.{ℕ, ◌+◌, ◌*◌, ◌/◌, ◌%◌, List, [], get_or, leb}
+use Rattle.std.specs.Prelude.{◌+◌, ◌*◌, ◌/◌, ◌%◌}
+use Rattle.basics.specs.Words.{ℕ, List, [], get_or, leb}
 use Rattle.point_records.specs.declared.Parts.{Parts}
 
 -- no occupied slot has a larger one: tracker 7 and tag 3

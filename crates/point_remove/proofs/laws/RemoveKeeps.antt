@@ -1,5 +1,5 @@
 -- Taking an object out leaves tables that hold a grid, with one entry less. Assumes nothing.
-use Rattle.basics.specs.Words.{ℕ, ◌+◌, ◌<◌, ◌≡◌, sym, ◌∙◌, ap, Bool, true, false, List, [], ◌∷◌, length, get_or, drop, List·getD-append, arith, eqb-true}
+use Rattle.basics.specs.Words.{ℕ, ◌+◌, ◌<◌, ◌≡◌, sym, ◌∙◌, ap, Bool, true, false, List, [], ◌∷◌, length, get_or, drop, get_or-append, arith, eqb-true}
 use Rattle.basics.specs.Words.{eqb-false, ne_eqb}
 use Rattle.cells.specs.Meaning.Key.{key_of}
 use Rattle.slots.specs.Meaning.Slot.{live, phase_at}
@@ -105,7 +105,7 @@ module _ (t : Tables) (h : Holds t) (s : ℕ) (inside : s < slots_of t) (is_live
 
   row_at : (r : ℕ) → r < length (rows_without t s) → get_or after.cells r [] ≡ get_or (rows_without t s) r []
   unfolding taken_out
-  row_at r l = List·getD-append (rows_without t s) (drop (length (rows_without t s)) t.cells) [] r l
+  row_at r l = get_or-append (rows_without t s) (drop (length (rows_without t s)) t.cells) [] r l
 
   keeps_dirty : (i : ℕ) → i < slots_of after → Pending after i → (r : ℕ) → r < rows_of after → first after.cells r ≡ key_of (record_on after i).cell → second after.cells r ≡ 1
   keeps_dirty i l q r m e =

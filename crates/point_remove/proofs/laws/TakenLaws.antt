@@ -135,7 +135,7 @@ module _ (t : Tables) (h : Holds t) (s : ℕ) (inside : s < slots_of t) (is_live
         of_map = counted-length (emptied_map t.nums t.map s) _ _ heads ∙ emptied-map-length t.nums t.map s ∙ h.sized.of_map;
         of_pool = length-written (map row_of (entries_without t s)) t.pool (omega (arith, length-map (entries_without t s) row_of, fits, h.sized.of_pool)) ∙ h.sized.of_pool;
         of_spots = length-written (map spot_of (entries_without t s)) t.spots (omega (arith, length-map (entries_without t s) spot_of, fits, h.sized.of_spots)) ∙ h.sized.of_spots;
-        of_cells_lem = length-written (rows_without t s) t.cells (omega (arith, rows_fit, h.counted.rows-most, h.sized.of_cells_lem)) ∙ h.sized.of_cells_lem;
+        of_cells = length-written (rows_without t s) t.cells (omega (arith, rows_fit, h.counted.rows-most, h.sized.of_cells)) ∙ h.sized.of_cells;
       })
 
   pub taken-counted : Counted (taken_out t s)

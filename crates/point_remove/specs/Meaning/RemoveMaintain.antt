@@ -1,5 +1,6 @@
 -- `remove_maintain` takes the object out now, whatever its state: the last entry of its list moves into the gap. Assumes nothing.
-use Rattle.basics.specs.Words.{ℕ, Bool, true, false, List, [], ◌∷◌, map, length}
+use Rattle.std.specs.Prelude.{◌∷◌}
+use Rattle.basics.specs.Words.{ℕ, Bool, true, false, List, [], map, length}
 use Rattle.basics.specs.Meaning.Refusals.{Refusal, unless, pick, by_tests}
 use Rattle.cells.specs.Meaning.Key.{key_of}
 use Rattle.slots.specs.declared.Handle.{Handle}

@@ -41,7 +41,7 @@ module _ (size : ℕ) (S : SizeInDomain size) (k : ℤ) (near : mag k * size ≤
   small = narrow (mag k) size S.0 near
 
   pub same : to_z w32 (of_z w32 k) ≡ k
-  same = to_z-of_z (sfits_of (omega (arith, small)))
+  same = to_z-of_z {w = w32} {z = k} (sfits_of (omega (arith, small)))
 
   -- up to eleven cells farther from zero an edge is exact
   exact : (z : ℤ) → mag z ≤ mag k + 11 → (0 < size) × (mag z * size + size ≤ 16777216)

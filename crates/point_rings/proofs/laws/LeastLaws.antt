@@ -1,6 +1,6 @@
 -- The best of the entries at some places, whatever the order in which they are looked at: by squared distance and then slot, as one number. Assumes nothing.
-use Rattle.basics.specs.Words.{ℕ, ◌+◌, ◌*◌, ◌<◌, ◌≤◌, ◌≡◌, refl, sym, ap, ◌∙◌, subst, Bool, true, false, ◌&&◌, ◌||◌, List, [], ◌∷◌, List-as-Memᴰ, List·Memᴰ·head}
-use Rattle.basics.specs.Words.{List·Memᴰ·tail, List·Memᴰ·cases-cons, List·Memᴰ·not-nil, ◌⊎◌, inl, inr, ⊎_elim, ltb, eqb, arith, ltb-true, ltb-false, leb-true}
+use Rattle.basics.specs.Words.{ℕ, ◌+◌, ◌*◌, ◌<◌, ◌≤◌, ◌≡◌, refl, sym, ap, ◌∙◌, subst, Bool, true, false, ◌&&◌, ◌||◌, List, [], ◌∷◌, Memᴰ, Memᴰ-head}
+use Rattle.basics.specs.Words.{Memᴰ-tail, Memᴰ-cases_cons, Memᴰ-not_nil, ◌⊎◌, inl, inr, ⊎_elim, ltb, eqb, arith, ltb-true, ltb-false, leb-true}
 use Rattle.basics.specs.Words.{eqb-true, eqb-false, lt-ltb, le-ltb}
 use lib.Ieee.{Float, binary32, lt, mul}
 use Rattle.basics.specs.Meaning.Limits.{most_slots}
@@ -104,14 +104,14 @@ module _ (c : Position) (r : Float) (pool : List (List ℕ)) (spots : List (List
       (n, λ k l s. ⊎_elim (λ x. least k l x) (λ x. omega (arith, ap rank x)) s, ⊎_elim (λ x. inl x) (λ x. let (i, li, si, eb, en, g) = x in inr (i, li, inl si, eb, en, g)) own))
 
   -- a list of places more
-  pub least-looked : (S : ℕ → Type 0) (js : List ℕ) (b : Best) → All (λ j. j < used) js → Least S b → Least (λ k. S k ⊎ List-as-Memᴰ k js) (looked c pool spots js b)
+  pub least-looked : (S : ℕ → Type 0) (js : List ℕ) (b : Best) → All (λ j. j < used) js → Least S b → Least (λ k. S k ⊎ Memᴰ k js) (looked c pool spots js b)
   unfolding looked
-  least-looked S [] b a w = least-wider S (λ k. S k ⊎ List-as-Memᴰ k []) b w (λ k l s. inl s) (λ k l p. ⊎_elim (λ s. inl s) (λ m. absurd (List·Memᴰ·not-nil m)) p)
+  least-looked S [] b a w = least-wider S (λ k. S k ⊎ Memᴰ k []) b w (λ k l s. inl s) (λ k l p. ⊎_elim (λ s. inl s) (λ m. absurd (Memᴰ-not_nil m)) p)
   least-looked S (j ∷ js) b a w =
-      least-wider (λ k. (S k ⊎ (k ≡ j)) ⊎ List-as-Memᴰ k js) (λ k. S k ⊎ List-as-Memᴰ k (j ∷ js)) (looked c pool spots js (better c pool spots b j))
+      least-wider (λ k. (S k ⊎ (k ≡ j)) ⊎ Memᴰ k js) (λ k. S k ⊎ Memᴰ k (j ∷ js)) (looked c pool spots js (better c pool spots b j))
       (least-looked (λ k. S k ⊎ (k ≡ j)) js (better c pool spots b j) a.1 (least_step S b j a.0 w))
-      (λ k l s. ⊎_elim (λ x. ⊎_elim (λ y. inl y) (λ y. inr (List·Memᴰ·head y)) x) (λ x. inr (List·Memᴰ·tail x)) s)
-      (λ k l p. inl (⊎_elim (λ x. inl (inl x)) (λ x. ⊎_elim (λ y. inl (inr y)) (λ y. inr y) (List·Memᴰ·cases-cons x)) p))
+      (λ k l s. ⊎_elim (λ x. ⊎_elim (λ y. inl y) (λ y. inr (Memᴰ-head y)) x) (λ x. inr (Memᴰ-tail x)) s)
+      (λ k l p. inl (⊎_elim (λ x. inl (inl x)) (λ x. ⊎_elim (λ y. inl (inr y)) (λ y. inr y) (Memᴰ-cases_cons x)) p))
 
   -- there is one best
   pub least-one : (S : ℕ → Type 0) (b d : Best) → Least S b → Least S d → b ≡ d

@@ -1,6 +1,6 @@
 -- Which places pass a test, which lie in a window, and which in a ring: its four windows. Assumes nothing.
-use Rattle.basics.specs.Words.{ℕ, zero, suc, ◌+◌, ◌-◌, ◌<◌, ◌≤◌, max, ◌≡◌, sym, ap, ◌∙◌, subst, Bool, true, ◌&&◌, List, [], ◌∷◌, ◌++◌, List-as-Memᴰ}
-use Rattle.basics.specs.Words.{List·Memᴰ·head, List·Memᴰ·cases-cons, List·Memᴰ·not-nil, List·Memᴰ·append-cases, Memᴰ·append-left, Memᴰ·append-right, ◌⊎◌, inl}
+use Rattle.basics.specs.Words.{ℕ, zero, suc, ◌+◌, ◌-◌, ◌<◌, ◌≤◌, max, ◌≡◌, sym, ap, ◌∙◌, subst, Bool, true, ◌&&◌, List, [], ◌∷◌, ◌++◌, Memᴰ}
+use Rattle.basics.specs.Words.{Memᴰ-head, Memᴰ-cases_cons, Memᴰ-not_nil, Memᴰ-append_cases, Memᴰ-append_left, Memᴰ-append_right, ◌⊎◌, inl}
 use Rattle.basics.specs.Words.{inr, ⊎_elim, leb, ltb, arith, leb-true, ltb-true, lt-ltb}
 use Rattle.basics.proofs.laws.Says.{d_eq, d_le, both_true}
 use Rattle.cells.specs.Inner.Key.{column_of, line_of}
@@ -14,31 +14,31 @@ use Rattle.point_rings.specs.Inner.Look.{window_places}
 use Rattle.point_rings.specs.Inner.Rings.{apart, key_at, ring_places}
 
 -- ---- the places below n that pass
-pub place_in : (test : ℕ → Bool) (n k : ℕ) → List-as-Memᴰ k (places_in test 0 n) → (k < n) × (test k ≡ true)
+pub place_in : (test : ℕ → Bool) (n k : ℕ) → Memᴰ k (places_in test 0 n) → (k < n) × (test k ≡ true)
 unfolding places_in
-place_in test zero k m = absurd (List·Memᴰ·not-nil m)
+place_in test zero k m = absurd (Memᴰ-not_nil m)
 place_in test (suc n) k m =
     by_test (test (0 + n))
     (λ t.
     ⊎_elim
     (λ x. let (l, e) = place_in test n k x in (omega arith, e))
-    (λ x. ⊎_elim (λ e. (omega (arith, e), ap test e ∙ t)) (λ y. absurd (List·Memᴰ·not-nil y)) (List·Memᴰ·cases-cons x))
-    (List·Memᴰ·append-cases (places_in test 0 n) (subst (List-as-Memᴰ k) (place-taken test 0 n t) m)))
-    (λ t. let (l, e) = place_in test n k (subst (List-as-Memᴰ k) (place-passed test 0 n t) m) in (omega arith, e))
+    (λ x. ⊎_elim (λ e. (omega (arith, e), ap test e ∙ t)) (λ y. absurd (Memᴰ-not_nil y)) (Memᴰ-cases_cons x))
+    (Memᴰ-append_cases (places_in test 0 n) (subst (Memᴰ k) (place-taken test 0 n t) m)))
+    (λ t. let (l, e) = place_in test n k (subst (Memᴰ k) (place-passed test 0 n t) m) in (omega arith, e))
 
-pub in_places : (test : ℕ → Bool) (n k : ℕ) → k < n → test k ≡ true → List-as-Memᴰ k (places_in test 0 n)
+pub in_places : (test : ℕ → Bool) (n k : ℕ) → k < n → test k ≡ true → Memᴰ k (places_in test 0 n)
 in_places test zero k l e = absurd (omega arith)
 in_places test (suc n) k l e =
     let z : 0 + n ≡ n = omega arith in
     ⊎_elim
     (λ q.
     let t : test (0 + n) ≡ true = ap test (z ∙ sym q) ∙ e in
-    subst (List-as-Memᴰ k) (sym (place-taken test 0 n t)) (Memᴰ·append-right (places_in test 0 n) (List·Memᴰ·head (q ∙ sym z))))
+    subst (Memᴰ k) (sym (place-taken test 0 n t)) (Memᴰ-append_right (places_in test 0 n) (Memᴰ-head (q ∙ sym z))))
     (λ q.
     let m = in_places test n k (omega (arith, q)) e in
     by_test (test (0 + n))
-    (λ t. subst (List-as-Memᴰ k) (sym (place-taken test 0 n t)) (Memᴰ·append-left ((0 + n) ∷ []) m))
-    (λ t. subst (List-as-Memᴰ k) (sym (place-passed test 0 n t)) m))
+    (λ t. subst (Memᴰ k) (sym (place-taken test 0 n t)) (Memᴰ-append_left ((0 + n) ∷ []) m))
+    (λ t. subst (Memᴰ k) (sym (place-passed test 0 n t)) m))
     (d_eq k n)
 
 -- ---- a key in a window
@@ -53,7 +53,7 @@ window_parts x0 y0 x1 y1 key e =
     let (c, d) = both_true (leb y0 (line_of key)) (leb (line_of key) y1) q in
     (leb-true x0 (column_of key) a, leb-true (column_of key) x1 b, leb-true y0 (line_of key) c, leb-true (line_of key) y1 d)
 
-pub in_window_of : (low high : ℕ) (pool : List (List ℕ)) (used k : ℕ) → k < used → in_range low high (first pool k) ≡ true → List-as-Memᴰ k (window_places low high pool used)
+pub in_window_of : (low high : ℕ) (pool : List (List ℕ)) (used k : ℕ) → k < used → in_range low high (first pool k) ≡ true → Memᴰ k (window_places low high pool used)
 unfolding window_places
 in_window_of low high pool used k l e = in_places (λ j. in_range low high (first pool j)) used k l e
 
@@ -67,13 +67,13 @@ module _ (x0 y0 x1 y1 : ℕ) (h0 : x0 < 4294967296) (h1 : x1 < 4294967296) where
       λ z. in_window (a z) (b z) (c z) (d z) key
 
   module _ (pool : List (List ℕ)) (used k : ℕ) where
-    pub window_in : List-as-Memᴰ k (window_places (key_at x0 y0) (key_at x1 y1) pool used) → (k < used) × InWindow x0 y0 x1 y1 (first pool k)
+    pub window_in : Memᴰ k (window_places (key_at x0 y0) (key_at x1 y1) pool used) → (k < used) × InWindow x0 y0 x1 y1 (first pool k)
     unfolding window_places
     window_in m =
         let (l, e) = place_in (λ j. in_range (key_at x0 y0) (key_at x1 y1) (first pool j)) used k m in
         (l, window_parts x0 y0 x1 y1 (first pool k) (sym (corners (first pool k)) ∙ e))
 
-    pub in_window_lem : k < used → InWindow x0 y0 x1 y1 (first pool k) → List-as-Memᴰ k (window_places (key_at x0 y0) (key_at x1 y1) pool used)
+    pub in_window_lem : k < used → InWindow x0 y0 x1 y1 (first pool k) → Memᴰ k (window_places (key_at x0 y0) (key_at x1 y1) pool used)
     unfolding window_places
     in_window_lem l w =
         in_places (λ j. in_range (key_at x0 y0) (key_at x1 y1) (first pool j)) used k l
@@ -179,7 +179,7 @@ module _ (x y d : ℕ) (some : 1 ≤ d) (hx : d ≤ x) (hy : d ≤ y) (top : x +
   abbrev highest : List ℕ
   highest = window_places (key_at (x - d) (y + d)) (key_at (x + d) (y + d)) pool used
 
-  pub ring_in : List-as-Memᴰ k (ring_places x y d pool used) → (k < used) × Square x y (suc d) column line
+  pub ring_in : Memᴰ k (ring_places x y d pool used) → (k < used) × Square x y (suc d) column line
   unfolding ring_places
   ring_in m =
       let back = parts_ring x y d (x - d) (y - d) (y + d - 1) column line some left low high in
@@ -192,11 +192,11 @@ module _ (x y d : ℕ) (some : 1 ≤ d) (hx : d ≤ x) (hy : d ≤ y) (top : x +
       ⊎_elim
       (λ r. let (l, w) = window_in (x + d) (y - d + 1) (x + d) (y + d - 1) top top pool used k r in (l, back (inr (inr (inl w)))))
       (λ r. let (l, w) = window_in (x - d) (y + d) (x + d) (y + d) under top pool used k r in (l, back (inr (inr (inr w)))))
-      (List·Memᴰ·append-cases rightmost q))
-      (List·Memᴰ·append-cases leftmost p))
-      (List·Memᴰ·append-cases lowest m)
+      (Memᴰ-append_cases rightmost q))
+      (Memᴰ-append_cases leftmost p))
+      (Memᴰ-append_cases lowest m)
 
-  pub in_ring : k < used → Square x y (suc d) column line → Square x y d column line ⊎ List-as-Memᴰ k (ring_places x y d pool used)
+  pub in_ring : k < used → Square x y (suc d) column line → Square x y d column line ⊎ Memᴰ k (ring_places x y d pool used)
   unfolding ring_places
   in_ring l w =
       ⊎_elim
@@ -204,16 +204,16 @@ module _ (x y d : ℕ) (some : 1 ≤ d) (hx : d ≤ x) (hy : d ≤ y) (top : x +
       (λ p.
       inr
       (⊎_elim
-      (λ q. Memᴰ·append-left (leftmost ++ (rightmost ++ highest)) (in_window_lem (x - d) (y - d) (x + d) (y - d) under top pool used k l q))
+      (λ q. Memᴰ-append_left (leftmost ++ (rightmost ++ highest)) (in_window_lem (x - d) (y - d) (x + d) (y - d) under top pool used k l q))
       (λ q.
-      Memᴰ·append-right lowest
+      Memᴰ-append_right lowest
       (⊎_elim
-      (λ r. Memᴰ·append-left (rightmost ++ highest) (in_window_lem (x - d) (y - d + 1) (x - d) (y + d - 1) under under pool used k l r))
+      (λ r. Memᴰ-append_left (rightmost ++ highest) (in_window_lem (x - d) (y - d + 1) (x - d) (y + d - 1) under under pool used k l r))
       (λ r.
-      Memᴰ·append-right leftmost
+      Memᴰ-append_right leftmost
       (⊎_elim
-      (λ s. Memᴰ·append-left highest (in_window_lem (x + d) (y - d + 1) (x + d) (y + d - 1) top top pool used k l s))
-      (λ s. Memᴰ·append-right rightmost (in_window_lem (x - d) (y + d) (x + d) (y + d) under top pool used k l s))
+      (λ s. Memᴰ-append_left highest (in_window_lem (x + d) (y - d + 1) (x + d) (y + d - 1) top top pool used k l s))
+      (λ s. Memᴰ-append_right rightmost (in_window_lem (x - d) (y + d) (x + d) (y + d) under top pool used k l s))
       r))
       q))
       p))

@@ -1,5 +1,5 @@
 -- Ring by ring the best of the rings below is kept; where the rule stops, and after the rest of the range, it is the best of all entries. Assumes nothing.
-use Rattle.basics.specs.Words.{ℕ, suc, ◌+◌, ◌-◌, ◌<◌, ◌≤◌, max, ◌≡◌, refl, sym, ap, ◌∙◌, subst, Bool, true, false, ◌||◌, List, [], ◌++◌, List-as-Memᴰ, ◌⊎◌, inl}
+use Rattle.basics.specs.Words.{ℕ, suc, ◌+◌, ◌-◌, ◌<◌, ◌≤◌, max, ◌≡◌, refl, sym, ap, ◌∙◌, subst, Bool, true, false, ◌||◌, List, [], ◌++◌, Memᴰ, ◌⊎◌, inl}
 use Rattle.basics.specs.Words.{inr, ⊎_elim, ltb, ℤ, pos, negsuc, arith, ltb-true, ltb-false}
 use lib.Signed.{mag}
 use lib.Ieee.{Float, binary32, lt, mul}
@@ -118,7 +118,7 @@ module _ (size : ℕ) (c : Position) (r : Float) (pool : List (List ℕ)) (spots
 
   least_of : (test : ℕ → Bool) → L (λ k. test k ≡ true) (best_of c r pool spots used test)
   least_of test =
-      least-wider c r pool spots used v R w.few w.once ground ground_r (λ k. ⊥ ⊎ List-as-Memᴰ k (places_in test 0 used)) (λ k. test k ≡ true) (best_of c r pool spots used test)
+      least-wider c r pool spots used v R w.few w.once ground ground_r (λ k. ⊥ ⊎ Memᴰ k (places_in test 0 used)) (λ k. test k ≡ true) (best_of c r pool spots used test)
       (least-looked c r pool spots used v R w.few w.once ground ground_r (λ k. ⊥) (places_in test 0 used) (no_best r) (below-used test) (least_start c r pool spots used v R w.few w.once ground ground_r))
       (λ k l s. ⊎_elim (λ z. absurd z) (λ m. (place_in test used k m).1) s)
       (λ k l e. inl (inr (in_places test used k l e)))
@@ -135,11 +135,11 @@ module _ (size : ℕ) (c : Position) (r : Float) (pool : List (List ℕ)) (spots
 
   -- after a list of places: the best of a test, if the list has just what the test has more
   more-best : (test next : ℕ → Bool) (js : List ℕ) → All (λ j. j < used) js
-      → ((k : ℕ) → k < used → (test k ≡ true) ⊎ List-as-Memᴰ k js → next k ≡ true) → ((k : ℕ) → k < used → next k ≡ true → (test k ≡ true) ⊎ List-as-Memᴰ k js)
+      → ((k : ℕ) → k < used → (test k ≡ true) ⊎ Memᴰ k js → next k ≡ true) → ((k : ℕ) → k < used → next k ≡ true → (test k ≡ true) ⊎ Memᴰ k js)
       → looked c pool spots js (best_of c r pool spots used test) ≡ best_of c r pool spots used next
   more-best test next js h f g =
       least-one c r pool spots used v R w.few w.once ground ground_r (λ k. next k ≡ true) (looked c pool spots js (best_of c r pool spots used test)) (best_of c r pool spots used next)
-      (least-wider c r pool spots used v R w.few w.once ground ground_r (λ k. (test k ≡ true) ⊎ List-as-Memᴰ k js) (λ k. next k ≡ true) (looked c pool spots js (best_of c r pool spots used test))
+      (least-wider c r pool spots used v R w.few w.once ground ground_r (λ k. (test k ≡ true) ⊎ Memᴰ k js) (λ k. next k ≡ true) (looked c pool spots js (best_of c r pool spots used test))
       (least-looked c r pool spots used v R w.few w.once ground ground_r (λ k. test k ≡ true) js (best_of c r pool spots used test) h (least_of test)) f (λ k l e. inl (g k l e)))
       (least_of next)
 
@@ -225,7 +225,7 @@ module _ (size : ℕ) (c : Position) (r : Float) (pool : List (List ℕ)) (spots
   pub ring_rest : (d : ℕ) → looked c pool spots (window_places (key_of a) (key_of b) pool used) (best_of c r pool spots used (within mid pool d)) ≡ best_of c r pool spots used every
   ring_rest d =
       let js = window_places (key_of a) (key_of b) pool used in
-      let S : ℕ → Type 0 = λ k. (within mid pool d k ≡ true) ⊎ List-as-Memᴰ k js in
+      let S : ℕ → Type 0 = λ k. (within mid pool d k ≡ true) ⊎ Memᴰ k js in
       let h = least-looked c r pool spots used v R w.few w.once ground ground_r (λ k. within mid pool d k ≡ true) js (best_of c r pool spots used (within mid pool d)) (window_used (key_of a) (key_of b)) (least_of (within mid pool d)) in
       all_best S _ h
       (λ k l.
@@ -233,7 +233,7 @@ module _ (size : ℕ) (c : Position) (r : Float) (pool : List (List ℕ)) (spots
       (λ e. inl (inr (listed_in k l e)))
       (λ e. inr (out_of_range S _ h k l (λ f. never (sym e ∙ f)))))
     where
-      listed_in : (k : ℕ) → k < used → window_of a b (first pool k) ≡ true → List-as-Memᴰ k (window_places (key_of a) (key_of b) pool used)
+      listed_in : (k : ℕ) → k < used → window_of a b (first pool k) ≡ true → Memᴰ k (window_places (key_of a) (key_of b) pool used)
       listed_in k l e = in_window_of (key_of a) (key_of b) pool used k l (key_windows a b a_fits b_fits (first pool k) ∙ e)
 
   -- ---- where the rule stops, no ring from d on has a better one

@@ -1,5 +1,5 @@
 -- `point_rings::look_cells` meets its contract. Assumes nothing.
-use Rattle.basics.specs.Words.{◌∙◌, needs}
+use Rattle.basics.specs.Words.{◌∙◌, rules}
 use Rattle.point_rings.specs.Inner.Look.{looked, window_places}
 use Rattle.point_rings.proofs.look_cells.Statement.{statement}
 use Rattle.point_rings.proofs.look_cells.Tie as tie
@@ -9,7 +9,7 @@ returns c =
     let h = c.before in
     let l = h.before in
     let a = l.before.args in
-    c.look-window.ensures ∙ (λ z. looked a.centre a.pool.now a.spots.now (window_places (l.key-at.ensures z) (h.key-at2.ensures z) a.pool.now a.used) a.best)
+    c.look_window.ensures ∙ (λ z. looked a.centre a.pool.now a.spots.now (window_places (l.key_at-low.ensures z) (h.key_at-high.ensures z) a.pool.now a.used) a.best)
 
-pub look-cells-spec : {M : Type 1} → statement M
-look-cells-spec = tie.close (tie.spec (λ c κs. search needs) (λ c κs. search needs) (λ c κs. search needs) returns)
+pub look_cells_spec : {M : Type 1} → statement M
+look_cells_spec = tie.close (tie.spec (λ c κs. search rules) (λ c κs. search rules) (λ c κs. search rules) returns)

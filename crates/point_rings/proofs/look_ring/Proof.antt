@@ -12,10 +12,10 @@ returns c =
     let q = p.before in
     let s = q.before in
     let a = s.before.args in
-    looked_four a.centre a.pool.now a.spots.now _ _ _ _ a.best _ _ _ _ s.look-cells.ensures q.look-cells2.ensures p.look-cells3.ensures c.look-cells4.ensures
+    looked_four a.centre a.pool.now a.spots.now _ _ _ _ a.best _ _ _ _ s.look_cells-a.ensures q.look_cells-b.ensures p.look_cells-c.ensures c.look_cells.ensures
 
-pub look-ring-spec : {M : Type 1} → statement M
-look-ring-spec =
+pub look_ring_spec : {M : Type 1} → statement M
+look_ring_spec =
     tie.close
     (tie.spec
     (λ c. omega arith)

@@ -1,7 +1,7 @@
 -- The best of the entries that were looked at, by their places in the pool: the nearest to the centre, and of equally near ones that of the lowest
 -- slot. Assumes nothing.
-use Rattle.basics.specs.Words.{ℕ, Bool, true, ◌&&◌, ◌||◌, List, [], ◌∷◌, ltb}
-use Rattle.std.specs.Prelude.{Float}
+use Rattle.std.specs.Prelude.{◌&&◌, ◌||◌, ◌∷◌, Float}
+use Rattle.basics.specs.Words.{ℕ, Bool, true, List, [], ltb}
 use Rattle.std.specs.Float.{binary32}
 use Rattle.std.specs.Float.Ieee.{lt, eq, mul}
 use Rattle.basics.specs.Meaning.Refusals.{pick}

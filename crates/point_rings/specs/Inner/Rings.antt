@@ -1,6 +1,6 @@
 -- The rings of cells round the cell of a centre, how near their points can be, and how many of them are looked at. Assumes nothing.
-use Rattle.basics.specs.Words.{ℕ, zero, suc, ◌+◌, ◌-◌, ◌*◌, max, ◌<◌, ◌≡◌, Bool, ◌||◌, List, ◌++◌, T, ltb, eqb, ℤ, pos, ◌+ℤ◌, ◌-ℤ◌}
-use Rattle.std.specs.Prelude.{Float}
+use Rattle.std.specs.Prelude.{◌+◌, ◌-◌, ◌*◌, ◌<◌, ◌≡◌, ◌||◌, ◌++◌, ◌+ℤ◌, ◌-ℤ◌, Float}
+use Rattle.basics.specs.Words.{ℕ, zero, suc, max, Bool, List, T, ltb, eqb, ℤ, pos}
 use Rattle.std.specs.Float.{binary32}
 use Rattle.std.specs.Float.Ieee.{lt, le, sub, mul}
 use Rattle.basics.specs.Meaning.Limits.{most_slots}

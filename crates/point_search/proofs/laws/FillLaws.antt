@@ -1,5 +1,5 @@
 -- What is written of the places that a search collected is what the search finds. Assumes nothing.
-use Rattle.basics.specs.Words.{ℕ, ◌+◌, ◌<◌, ◌≤◌, ◌≡◌, sym, ap, ◌∙◌, subst, Bool, true, List, map, map-map, length, get_or, drop, length-map, List·getD-append}
+use Rattle.basics.specs.Words.{ℕ, ◌+◌, ◌<◌, ◌≤◌, ◌≡◌, sym, ap, ◌∙◌, subst, Bool, true, List, map, map-map, length, get_or, drop, length-map, get_or-append}
 use Rattle.basics.specs.Words.{leb, arith, leb-true, leb-false, le-leb, lt-leb}
 use lib.Ieee.{Float}
 use Rattle.basics.specs.Meaning.Limits.{most_cells}
@@ -69,7 +69,7 @@ module _ (js o fs : List ℕ) (n : ℕ) (en : n ≡ length js) (ef : fs ≡ writ
   pub array_each : (P : ℕ → Type 0) → All P js → (k : ℕ) → k < n → P (get_or fs k 0)
   array_each P f k l =
       let m : k < length js = omega arith in
-      subst P (sym (ap (λ (l : List ℕ). get_or l k 0) ef ∙ List·getD-append js (drop (length js) o) 0 k m)) (all_at P 0 js k m f)
+      subst P (sym (ap (λ (l : List ℕ). get_or l k 0) ef ∙ get_or-append js (drop (length js) o) 0 k m)) (all_at P 0 js k m f)
 
 module _ (t : Tables) (ok : Bool) (ll ur : Position) (test : Test) (o : Outputs) where
   abbrev js : List ℕ

@@ -34,7 +34,7 @@ use Rattle.point_tables.proofs.laws.EntryLaws.{all_entries}
 
 -- what an entry in use is: its position is in the domain, its key is that of the position's cell, and its slot is occupied
 pub record Standing (t : Tables) (e : Entry) : Type 0 where
-  pub in_domain_lem : T (position_in_domain (position_of e))
+  pub within_domain : T (position_in_domain (position_of e))
   pub key : entry_key e ≡ key_of (cell_at (size_of t) (position_of e))
   pub inside : row_item e.row < slots_of t
   pub occupied : phase_at t.nums (row_item e.row) ≡ live
@@ -57,7 +57,7 @@ module _ (t : Tables) (h : Holds t) where
       let o = (h.records s e.inside e.occupied).occupied in
       let p : position_of (entry_at t.pool t.spots j) ≡ (record_on t s).position = λ z. record { x = e.at_x z; y = e.at_y z } in
       record {
-        in_domain_lem = subst (λ (q : Position). T (position_in_domain q)) (sym p) o.in_domain_lem;
+        within_domain = subst (λ (q : Position). T (position_in_domain q)) (sym p) o.within_domain;
         key = e.key ∙ ap key_of (sym o.in_cell) ∙ ap (λ (q : Position). key_of (cell_at (size_of t) q)) (sym p);
         inside = e.inside;
         occupied = e.occupied;
@@ -71,7 +71,7 @@ module _ (t : Tables) (h : Holds t) where
   cell-fits p r = near_fits (cell_at (size_of t) p) (cell-near (size_of t) p r)
 
   own-fits : (e : Entry) → Standing t e → Fits (cell_at (size_of t) (position_of e))
-  own-fits e s = cell-fits (position_of e) (position_reached (position_of e) s.in_domain_lem)
+  own-fits e s = cell-fits (position_of e) (position_reached (position_of e) s.within_domain)
 
   keys_small : All (λ e. entry_key e < 18446744073709551616) (entries_in t)
   keys_small =

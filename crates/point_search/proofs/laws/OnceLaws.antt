@@ -1,6 +1,6 @@
 -- What is found in tables that hold a grid: live slots at their current version, each once, and every object that passes. Assumes nothing.
-use Rattle.basics.specs.Words.{ℕ, zero, suc, ◌<◌, ◌≤◌, ◌≡◌, refl, sym, ap, ◌∙◌, Bool, true, ◌&&◌, List, [], ◌∷◌, ◌++◌, List-as-Memᴰ, List·Memᴰ·head}
-use Rattle.basics.specs.Words.{List·Memᴰ·tail, List·Memᴰ·cases-cons, Memᴰ·append-left, Memᴰ·append-right, ⊎_elim, arith, lt-ltb, eq-eqb}
+use Rattle.basics.specs.Words.{ℕ, zero, suc, ◌<◌, ◌≤◌, ◌≡◌, refl, sym, ap, ◌∙◌, Bool, true, ◌&&◌, List, [], ◌∷◌, ◌++◌, Memᴰ, Memᴰ-head}
+use Rattle.basics.specs.Words.{Memᴰ-tail, Memᴰ-cases_cons, Memᴰ-append_left, Memᴰ-append_right, ⊎_elim, arith, lt-ltb, eq-eqb}
 use Rattle.basics.proofs.laws.Says.{d_eq}
 use Rattle.cells.specs.Meaning.CellRule.{cell_at}
 use Rattle.cells.specs.Inner.CellRule.{Reached}
@@ -37,13 +37,13 @@ once-filter test (e ∷ es) o =
     (λ q. rw q (filter_all test (λ d. slot_of e ≡ slot_of d → ⊥) es o.0, once-filter test es o.1))
     (λ q. rw q (once-filter test es o.1))
 
-member_filter : (test : Entry → Bool) (e : Entry) (es : List Entry) → List-as-Memᴰ e es → test e ≡ true → List-as-Memᴰ e (filter test es)
+member_filter : (test : Entry → Bool) (e : Entry) (es : List Entry) → Memᴰ e es → test e ≡ true → Memᴰ e (filter test es)
 member_filter test e [] m t = m
 member_filter test e (d ∷ es) m t =
     ⊎_elim
-    (λ q. let d-passes : test d ≡ true = ap test (sym q) ∙ t in rw d-passes (List·Memᴰ·head q))
-    (λ k. by_test (test d) (λ q. rw q (List·Memᴰ·tail (member_filter test e es k t))) (λ q. rw q (member_filter test e es k t)))
-    (List·Memᴰ·cases-cons m)
+    (λ q. let d-passes : test d ≡ true = ap test (sym q) ∙ t in rw d-passes (Memᴰ-head q))
+    (λ k. by_test (test d) (λ q. rw q (Memᴰ-tail (member_filter test e es k t))) (λ q. rw q (member_filter test e es k t)))
+    (Memᴰ-cases_cons m)
 
 module _ (t : Tables) (h : Holds t) where
   abbrev at : ℕ → Entry
@@ -62,13 +62,13 @@ module _ (t : Tables) (h : Holds t) where
       (once_last (up_to n) (at n) (once_to n (omega arith))
       (all_entries t.pool t.spots n (omega (arith, in_pool t h)) (omega (arith, in_spots t h)) (λ d. slot_of d ≡ slot_of (at n) → ⊥) (λ j l e. h.lists.once j n m l e)))
 
-  member_to : (n j : ℕ) → n ≤ used_of t → j < n → List-as-Memᴰ (at j) (up_to n)
+  member_to : (n j : ℕ) → n ≤ used_of t → j < n → Memᴰ (at j) (up_to n)
   member_to zero j m l = absurd (omega arith)
   member_to (suc n) j m l =
       rw (next n m)
       (⊎_elim
-      (λ e. Memᴰ·append-right (up_to n) (List·Memᴰ·head (ap at e)))
-      (λ d. Memᴰ·append-left (at n ∷ []) (member_to n j (omega arith) (omega (arith, d))))
+      (λ e. Memᴰ-append_right (up_to n) (Memᴰ-head (ap at e)))
+      (λ d. Memᴰ-append_left (at n ∷ []) (member_to n j (omega arith) (omega (arith, d))))
       (d_eq j n))
 
   pub standing-good : (e : Entry) → Standing t e → good t.nums (slot_of e) (version_at t.nums (slot_of e)) ≡ true
@@ -94,7 +94,7 @@ module _ (t : Tables) (h : Holds t) where
     -- an object is found whose recorded position passes and has its cell in the range
     pub finds : (s : ℕ) → s < slots_of t → phase_at t.nums s ≡ live → passes test (record_on t s).position ≡ true
         → in_range (cell_at (size_of t) ll) (cell_at (size_of t) ur) (cell_at (size_of t) (record_on t s).position) ≡ true
-        → (e : Entry) × List-as-Memᴰ e (found t ll ur test) × (slot_of e ≡ s)
+        → (e : Entry) × Memᴰ e (found t ll ur test) × (slot_of e ≡ s)
     finds s l o p i =
         let (j, k, q) = h.lists.every s l o in
         let w = stands t h j k in

@@ -68,7 +68,7 @@ module _ (t : Tables) (h : Holds t) where
       let high = corner_above c r in
       scanned low high (low_reached c r dc dr) (high_reached c r dc dr) (Circle c r)
       (all_map (Standing t) (λ e. in_circle (position_of e) c r ≡ true → in_range_of t low high e ≡ true)
-      (λ e s i. circle_cover (size_of t) h.counted.size.0 (position_of e) c r s.in_domain_lem dc dr i) (entries_in t) (standing t h))
+      (λ e s i. circle_cover (size_of t) h.counted.size.0 (position_of e) c r s.within_domain dc dr i) (entries_in t) (standing t h))
 
   -- `query_aabb`
   pub rectangle_scan : (a b : Position) → T (position_in_domain a) → T (position_in_domain b)

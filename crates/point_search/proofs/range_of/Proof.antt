@@ -1,5 +1,5 @@
 -- `point_search::range_of` meets its contract. Assumes nothing.
-use Rattle.basics.specs.Words.{◌≡◌, sym, ◌∙◌, subst, true, arith, not-true, not-false, needs}
+use Rattle.basics.specs.Words.{◌≡◌, sym, ◌∙◌, subst, true, arith, rules}
 use Rattle.cells.specs.Inner.Numbers.{Near}
 use Rattle.cells.specs.Meaning.CellRule.{cell_at}
 use Rattle.cells.specs.Inner.CellRule.{Reached}
@@ -16,78 +16,78 @@ abbrev lent : tie.Start → Tables
 lent s = tables s.args.nums.now s.args.reals.now s.args.ints.now s.args.map.now s.args.pool.now s.args.spots.now s.args.cells.now
 
 -- the start, of a range in tables that hold a grid
-abbrev start : tie.Else1 → tie.Start
+abbrev start : tie.Else-not-check → tie.Start
 start e = e.before.before.before
 
-held : (e : tie.Else1) → holds (lent (start e)) ≡ true
-held e = sym e.before.check.ensures ∙ not-false _ e.if1.false
+held : (e : tie.Else-not-check) → holds (lent (start e)) ≡ true
+held e = sym e.check.ensures ∙ e.if-not-check.false
 
-whole : (e : tie.Else1) → Holds (lent (start e))
+whole : (e : tie.Else-not-check) → Holds (lent (start e))
 whole e = (holds_says (lent (start e))).yes (held e)
 
-fine : (e : tie.Else2) → (start e.before).args.ok ≡ true
-fine e = not-false _ e.if2.false
+fine : (e : tie.Else-not-ok) → (start e.before).args.ok ≡ true
+fine e = e.if-not-ok.false
 
-reached : (e : tie.Else2) → Reached (start e.before).args.ll × Reached (start e.before).args.ur
+reached : (e : tie.Else-not-ok) → Reached (start e.before).args.ll × Reached (start e.before).args.ur
 reached e = (start e.before).requires (fine e)
 
-returns : tie.Need-returns
+returns : tie.Need-returns-then-not-check
 returns c =
-    let k = c.before.before in
-    let s = k.before.before in
+    let k = c in
+    let s = k in
     let a = s.args in
-    ranged_not (lent s) a.ok a.ll a.ur 3 _ c.refused.ensures (range_3 (lent s) a.ok a.ll a.ur (sym k.check.ensures ∙ not-true _ c.before.if1.true)) (λ z. omega (arith, z))
+    ranged_not (lent c.before.before.before.before) a.ok a.ll a.ur 3 _ c.refused.ensures (range_3 (lent c.before.before.before.before) a.ok a.ll a.ur (sym k.check.ensures ∙ c.if-not-check.true)) (λ z. omega (arith, z))
 
-returns-2 : tie.Need-returns-2
+returns-2 : tie.Need-returns-then-not-ok
 returns-2 c =
-    let e = c.before.before in
-    let s = start e in
+    let e = c in
+    let s = start c.before.before in
     let a = s.args in
-    ranged_not (lent s) a.ok a.ll a.ur 6 _ c.refused2.ensures (range_6 (lent s) a.ok a.ll a.ur (held e) (not-true _ c.before.if2.true)) (λ z. omega (arith, z))
+    ranged_not (lent s) a.ok a.ll a.ur 6 _ c.refused-then-not-ok.ensures (range_6 (lent s) a.ok a.ll a.ur (held c.before.before) c.if-not-ok.true) (λ z. omega (arith, z))
 
-near-a : (c : tie.After-cell-at2) → Near c.before.Cell-at.result
-near-a c = let s = start c.before.before.before.before in subst Near (sym c.before.Cell-at.ensures) (cell-near (size_of (lent s)) s.args.ll (reached c.before.before.before).0)
+near-a : (c : tie.After-cell_at-b) → Near c.cell_at-a.result
+near-a c = let s = start c.before.before.before.before in subst Near (sym c.cell_at-a.ensures) (cell-near (size_of (lent s)) s.args.ll (reached c.before.before.before).0)
 
-near-b : (c : tie.After-cell-at2) → Near c.cell-at2.result
-near-b c = let s = start c.before.before.before.before in subst Near (sym c.cell-at2.ensures) (cell-near (size_of (lent s)) s.args.ur (reached c.before.before.before).1)
+near-b : (c : tie.After-cell_at-b) → Near c.cell_at-b.result
+near-b c = let s = start c.before.before.before.before in subst Near (sym c.cell_at-b.ensures) (cell-near (size_of (lent s)) s.args.ur (reached c.before.before.before).1)
 
 -- the number of cells of the range
-number : (c : tie.After-cells-in) → let s = start c.before.before.before.before.before in c.cells-in.result ≡ cells_in (cell_at (size_of (lent s)) s.args.ll) (cell_at (size_of (lent s)) s.args.ur)
-number c = c.cells-in.ensures ∙ (λ z. cells_in (c.before.before.Cell-at.ensures z) (c.before.cell-at2.ensures z))
+number : (c : tie.After-cells_in) → let s = start c.before.before.before.before.before in c.cells_in.result ≡ cells_in (cell_at (size_of (lent s)) s.args.ll) (cell_at (size_of (lent s)) s.args.ur)
+number c = c.cells_in.ensures ∙ (λ z. cells_in (c.cell_at-a.ensures z) (c.cell_at-b.ensures z))
 
-returns-3 : tie.Need-returns-3
+returns-3 : tie.Need-returns-then-cells_in-gt-MOST_CELLS
 returns-3 c =
-    let n = c.before.before in
-    let e = n.before.before.before.before in
-    let s = start e.before in
+    let n = c in
+    let e = n in
+    let s = start c.before.before.before.before.before.before.before in
     let a = s.args in
-    ranged_not (lent s) a.ok a.ll a.ur 7 _ c.refused3.ensures (range_7 (lent s) a.ok a.ll a.ur (held e.before) (fine e) (omega (arith, number n, c.before.if3.true))) (λ z. omega (arith, z))
+    ranged_not (lent s) a.ok a.ll a.ur 7 _ c.refused-then-cells_in-gt-MOST_CELLS.ensures (range_7 (lent s) a.ok a.ll a.ur (held c.before.before.before.before.before.before.before) (fine c.before.before.before.before.before.before) (omega (arith, number c.before.before, c.if-cells_in-gt-MOST_CELLS.true))) (λ z. omega (arith, z))
 
-returns-4 : tie.Need-returns-4
+returns-4 : tie.Need-returns
 returns-4 c =
-    let n = c.before in
-    let e = n.before.before.before.before in
-    let s = start e.before in
+    let n = c in
+    let e = n in
+    let s = start c.before.before.before.before.before.before in
     let a = s.args in
     record {
-      answer = range_0 (lent s) a.ok a.ll a.ur (held e.before) (fine e) (omega (arith, number n, c.if3.false));
-      low = λ z. n.before.before.Cell-at.ensures;
-      high = λ z. n.before.cell-at2.ensures;
+      answer = range_0 (lent s) a.ok a.ll a.ur (held c.before.before.before.before.before.before) (fine c.before.before.before.before.before) (omega (arith, number c.before, c.if-cells_in-gt-MOST_CELLS.false));
+      low = λ z. n.cell_at-a.ensures;
+      high = λ z. n.cell_at-b.ensures;
     }
 
-pub range-of-spec : {M : Type 1} → statement M
-range-of-spec =
+pub range_of_spec : {M : Type 1} → statement M
+range_of_spec =
     tie.close
     (tie.spec
-    (λ c κs. search needs)
-    (λ c κs. search needs)
+    (λ c κs. search rules)
+    (λ c κs. search rules)
     returns
-    (λ c κs. search needs)
+    (λ c κs. search rules)
     returns-2
     (λ c. omega (arith, (whole c.before.before).sized.of_map))
     (λ c κs. ((whole c.before.before).counted.size, (reached c.before).0))
     (λ c κs. ((whole c.before.before.before).counted.size, (reached c.before.before).1))
     (λ c κs. (near-a c, near-b c))
-    (λ c κs. search needs)
+    (λ c κs. search rules)
     returns-3
     returns-4)

@@ -1,5 +1,5 @@
 -- `point_search::search` meets its contract. Assumes nothing.
-use Rattle.basics.specs.Words.{◌<◌, ◌≤◌, ◌≡◌, sym, ap, ◌∙◌, subst, true, arith, needs}
+use Rattle.basics.specs.Words.{◌<◌, ◌≤◌, ◌≡◌, sym, ap, ◌∙◌, subst, true, arith, rules}
 use Rattle.basics.specs.Meaning.Limits.{most_cells}
 use Rattle.cells.specs.Inner.Numbers.{Near}
 use Rattle.cells.specs.Meaning.CellRule.{cell_at}
@@ -25,66 +25,66 @@ abbrev given : tie.Start → Outputs
 given s = outputs s.args.handles.now s.args.places.now s.args.objs.now
 
 -- the start, and the range, of a search whose range is not refused
-abbrev start : tie.Else1 → tie.Start
+abbrev start : tie.Else-range-ne0 → tie.Start
 start e = e.before.before.before.before
 
-range : (e : tie.Else1) → let s = start e in Ranged (lent s) s.args.ok s.args.ll s.args.ur e.before.before.range-of.result
-range e = e.before.before.range-of.ensures
+range : (e : tie.Else-range-ne0) → let s = start e in Ranged (lent s) s.args.ok s.args.ll s.args.ur e.range_of-range.result
+range e = e.range_of-range.ensures
 
-passed : (e : tie.Else1) → let s = start e in let a = s.args in (holds (lent s) ≡ true) × (a.ok ≡ true) × (cells_in (cell_at (size_of (lent s)) a.ll) (cell_at (size_of (lent s)) a.ur) ≤ most_cells)
-passed e = let s = start e in let a = s.args in range_passed (lent s) a.ok a.ll a.ur (sym e.if1.false ∙ (range e).answer)
+passed : (e : tie.Else-range-ne0) → let s = start e in let a = s.args in (holds (lent s) ≡ true) × (a.ok ≡ true) × (cells_in (cell_at (size_of (lent s)) a.ll) (cell_at (size_of (lent s)) a.ur) ≤ most_cells)
+passed e = let s = start e in let a = s.args in range_passed (lent s) a.ok a.ll a.ur (sym e.if-range-ne0.false ∙ (range e).answer)
 
-whole : (e : tie.Else1) → Holds (lent (start e))
+whole : (e : tie.Else-range-ne0) → Holds (lent (start e))
 whole e = (holds_says (lent (start e))).yes (passed e).0
 
-reached : (e : tie.Else1) → Reached (start e).args.ll × Reached (start e).args.ur
+reached : (e : tie.Else-range-ne0) → Reached (start e).args.ll × Reached (start e).args.ur
 reached e = (start e).requires (passed e).1
 
-returns : tie.Need-returns
+returns : tie.Need-returns-then-range-ne0
 returns c =
-    let d = c.before.before in
-    let s = d.before.before.before in
+    let d = c in
+    let s = d in
     let a = s.args in
-    ap (λ (k : Count). findings k (given s)) c.refused.ensures
-    ∙ range_refused (lent s) a.ok a.ll a.ur a.test (given s) _ d.before.range-of.ensures.answer c.before.if1.true
+    ap (λ (k : Count). findings k (given c.before.before.before.before.before)) c.refused.ensures
+    ∙ range_refused (lent c.before.before.before.before.before) a.ok a.ll a.ur a.test (given c.before.before.before.before.before) _ d.range_of-range.ensures.answer c.if-range-ne0.true
 
 fill-requires : tie.Need-fill-requires
 fill-requires c κs =
-    let i = c.before.before.before.before.before in
-    let e = i.before.before in
-    let h = whole e in
-    let s = start e in
+    let i = c in
+    let e = i in
+    let h = whole c.before.before.before.before.before.before.before in
+    let s = start c.before.before.before.before.before.before.before in
     let t = lent s in (
-      subst (Stocked t.pool t.spots) (sym i.index_of.ensures) (stocked t h),
-      subst Near (sym ((range e).low e.if1.false)) (cell-near (size_of t) s.args.ll (reached e).0),
-      subst Near (sym ((range e).high e.if1.false)) (cell-near (size_of t) s.args.ur (reached e).1),
+      subst (Stocked t.pool t.spots) (sym i.index_of-used.ensures) (stocked t h),
+      subst Near (sym ((range c.before.before.before.before.before.before.before).low e.if-range-ne0.false)) (cell-near (size_of t) s.args.ll (reached c.before.before.before.before.before.before.before).0),
+      subst Near (sym ((range c.before.before.before.before.before.before.before).high e.if-range-ne0.false)) (cell-near (size_of t) s.args.ur (reached c.before.before.before.before.before.before.before).1),
       h.sized.most,
-      λ j l. findable t h j (subst (λ m. j < m) i.index_of.ensures l),
+      λ j l. findable t h j (subst (λ m. j < m) i.index_of-used.ensures l),
     )
 
-returns-2 : tie.Need-returns-2
+returns-2 : tie.Need-returns
 returns-2 c =
-    let f = c.before.before.before in
-    let i = f.before.before.before.before.before.before in
-    let e = i.before.before in
-    let s = start e in
+    let f = c in
+    let i = f in
+    let e = i in
+    let s = start c.before.before.before.before.before.before.before.before.before.before.before in
     let a = s.args in
-    let r = e.before.before.range-of.result in
-    search_done (lent s) a.ok a.ll a.ur a.test (given s) (passed e).0 (reached e).0 (reached e).1
-    (findings f.fill.result (outputs f.fill.new.1.1.1.1.1.1.1.0 f.fill.new.1.1.1.1.1.1.1.1.0 f.fill.new.1.1.1.1.1.1.1.1.1.0)) r.a r.b i.index_of.result
-    ((range e).low e.if1.false) ((range e).high e.if1.false) i.index_of.ensures f.fill.ensures (passed e).1 (passed e).2
+    let r = e.range_of-range.result in
+    search_done (lent s) a.ok a.ll a.ur a.test (given s) (passed c.before.before.before.before.before.before.before.before.before.before.before).0 (reached c.before.before.before.before.before.before.before.before.before.before.before).0 (reached c.before.before.before.before.before.before.before.before.before.before.before).1
+    (findings f.fill.result (outputs f.fill.new.handles f.fill.new.places f.fill.new.objs)) r.a r.b i.index_of-used.result
+    ((range c.before.before.before.before.before.before.before.before.before.before.before).low e.if-range-ne0.false) ((range c.before.before.before.before.before.before.before.before.before.before.before).high e.if-range-ne0.false) i.index_of-used.ensures f.fill.ensures (passed c.before.before.before.before.before.before.before.before.before.before.before).1 (passed c.before.before.before.before.before.before.before.before.before.before.before).2
 
-pub search-spec : {M : Type 1} → statement M
-search-spec =
+pub search_spec : {M : Type 1} → statement M
+search_spec =
     tie.close
     (tie.spec
-    (λ c κs. search needs)
-    (λ c κs. search needs)
+    (λ c κs. search rules)
+    (λ c κs. search rules)
     returns
     (λ c. omega (arith, (whole c.before).sized.of_map))
-    (λ c κs. search needs)
+    (λ c κs. search rules)
     fill-requires
-    (λ c. search needs)
-    (λ c. search needs)
-    (λ c. search needs)
+    (λ c. search rules)
+    (λ c. search rules)
+    (λ c. search rules)
     returns-2)

@@ -1,6 +1,6 @@
 -- What the inner contracts of a search ask for and say, by name. Assumes nothing.
-use Rattle.basics.specs.Words.{ℕ, ◌+◌, ◌<◌, ◌≤◌, ◌≡◌, Bool, List, ◌++◌, map, length, get_or, take}
-use Rattle.std.specs.Prelude.{Float}
+use Rattle.std.specs.Prelude.{◌+◌, ◌<◌, ◌≤◌, ◌≡◌, ◌++◌, Float}
+use Rattle.basics.specs.Words.{ℕ, Bool, List, map, length, get_or, take}
 use Rattle.basics.specs.Meaning.Limits.{most_slots}
 use Rattle.basics.specs.Meaning.Refusals.{first_of}
 use Rattle.geometry.specs.declared.Position.{Position}

@@ -1,6 +1,6 @@
 -- Places collected as far as an array has room for them. Assumes nothing.
-use Rattle.basics.specs.Words.{ℕ, ◌+◌, ◌-◌, ◌<◌, ◌≤◌, ◌≡◌, Bool, List, ◌++◌, length, take}
-use Rattle.std.specs.Prelude.{Float}
+use Rattle.std.specs.Prelude.{◌+◌, ◌-◌, ◌<◌, ◌≤◌, ◌≡◌, ◌++◌, Float}
+use Rattle.basics.specs.Words.{ℕ, Bool, List, length, take}
 use Rattle.cells.specs.declared.Cell.{Cell}
 use Rattle.point_search.specs.declared.Test.{Test}
 use Rattle.point_search.specs.Inner.Places.{places_in, places_of}

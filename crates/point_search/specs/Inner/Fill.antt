@@ -1,7 +1,7 @@
 -- What a search writes of the places that it collected, and what it returns: 9 with the number found if an output is too short.
 -- Assumes nothing.
-use Rattle.basics.specs.Words.{ℕ, ◌<◌, ◌≤◌, List, [], length, get_or, take, leb}
-use Rattle.std.specs.Prelude.{Float}
+use Rattle.std.specs.Prelude.{◌<◌, ◌≤◌, Float}
+use Rattle.basics.specs.Words.{ℕ, List, [], length, get_or, take, leb}
 use Rattle.basics.specs.Meaning.Limits.{most_slots}
 use Rattle.basics.specs.Meaning.Refusals.{pick}
 use Rattle.storage.specs.Inner.Keyed.{Sorted}

@@ -1,6 +1,6 @@
 -- The places of the pool whose entries a search is for, ascending. Assumes nothing.
-use Rattle.basics.specs.Words.{ℕ, zero, suc, ◌+◌, ◌-◌, Bool, ◌&&◌, List, [], ◌∷◌, ◌++◌}
-use Rattle.std.specs.Prelude.{Float}
+use Rattle.std.specs.Prelude.{◌+◌, ◌-◌, ◌&&◌, ◌∷◌, ◌++◌, Float}
+use Rattle.basics.specs.Words.{ℕ, zero, suc, Bool, List, []}
 use Rattle.basics.specs.Meaning.Refusals.{pick}
 use Rattle.cells.specs.declared.Cell.{Cell}
 use Rattle.storage.specs.Meaning.Entries.{Entry, entry_key}

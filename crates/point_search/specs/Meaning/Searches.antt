@@ -1,7 +1,7 @@
 -- The search that the three queries of a point grid are: the entries of a range that pass a test, in range order and then in list order; a
 -- finding is handle, position, data and tracker. Assumes nothing.
-use Rattle.basics.specs.Words.{ℕ, min, Bool, true, List, [], ◌∷◌, ◌++◌, map, length, eqb, leb}
-use Rattle.std.specs.Prelude.{Float}
+use Rattle.std.specs.Prelude.{◌∷◌, ◌++◌, Float}
+use Rattle.basics.specs.Words.{ℕ, min, Bool, true, List, [], map, length, eqb, leb}
 use Rattle.basics.specs.Meaning.Limits.{most_cells}
 use Rattle.basics.specs.Meaning.Refusals.{Refusal, unless, first_of, pick, by_tests}
 use Rattle.geometry.specs.declared.Position.{Position}

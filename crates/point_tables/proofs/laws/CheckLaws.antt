@@ -52,7 +52,7 @@ module _ (t : Tables) where
   -- ---- what the passes are asked of
   module _ (s : Sized t) (c : CountsOf) where
     pub pool-room : Pass.Room t.nums t.reals t.ints t.pool t.spots t.cells (size_of t) (used_of t) (rows_of t)
-    pool-room = record { most = s.most; of_reals = s.of_reals; of_ints = s.of_ints; in_pool = omega (arith, c.used-most, s.of_pool); in_spots = omega (arith, c.used-most, s.of_spots); in_cells = omega (arith, c.rows-most, s.of_cells_lem); of_size = c.in_domain_lem }
+    pool-room = record { most = s.most; of_reals = s.of_reals; of_ints = s.of_ints; in_pool = omega (arith, c.used-most, s.of_pool); in_spots = omega (arith, c.used-most, s.of_spots); in_cells = omega (arith, c.rows-most, s.of_cells); of_size = c.within_domain }
 
     pub slot-room : Room t.nums t.map
     slot-room = record { most = s.most; of_map = s.of_map }
@@ -88,7 +88,7 @@ module _ (t : Tables) where
     whole =
         record {
           sized = s;
-          counted = record { size = c.in_domain_lem; used-most = c.used-most; rows-most = c.rows-most };
+          counted = record { size = c.within_domain; used-most = c.used-most; rows-most = c.rows-most };
           slots = record { each = λ k h. (o.each k h).slot; past = o.past };
           records = λ k h l.
               let i = lists_hold.every k h l in
@@ -102,12 +102,12 @@ module _ (t : Tables) where
   -- ---- from the whole to the parts
   module _ (h : Holds t) where
     pub counts_of : CountsOf
-    counts_of = record { in_domain_lem = h.counted.size; used-most = h.counted.used-most; rows-most = h.counted.rows-most }
+    counts_of = record { within_domain = h.counted.size; used-most = h.counted.used-most; rows-most = h.counted.rows-most }
 
     fits_of : (j : ℕ) → j < used_of t → Fits t.nums t.reals t.ints (first t.pool j) (listed_at t.pool t.spots j)
     fits_of j l =
         let e = h.lists.each j l in
-        let d = position_parts (record_on t (second t.pool j)).position (h.records (second t.pool j) e.inside e.occupied).occupied.in_domain_lem in
+        let d = position_parts (record_on t (second t.pool j)).position (h.records (second t.pool j) e.inside e.occupied).occupied.within_domain in
         record {
           inside = e.inside;
           occupied = e.occupied;

@@ -17,7 +17,7 @@ module _ (t : Tables) (h : Holds t) where
   used_in_spots = omega (arith, h.counted.used-most, h.sized.of_spots)
 
   pub rows_in_cells : rows_of t ≤ length t.cells
-  rows_in_cells = omega (arith, h.counted.rows-most, h.sized.of_cells_lem)
+  rows_in_cells = omega (arith, h.counted.rows-most, h.sized.of_cells)
 
   pub pool-length : length (take (used_of t) t.pool) ≡ used_of t
   pool-length = length-take-le (used_of t) t.pool used_in_pool

@@ -1,5 +1,6 @@
 -- What the parts of the check ask: the counts, and each slot with the mark that an entry names it. Assumes nothing.
-use Rattle.basics.specs.Words.{ℕ, ◌+◌, ◌<◌, ◌≤◌, ◌≡◌, Bool, true, false, List, length, get_or}
+use Rattle.std.specs.Prelude.{◌+◌, ◌<◌, ◌≤◌, ◌≡◌}
+use Rattle.basics.specs.Words.{ℕ, Bool, true, false, List, length, get_or}
 use Rattle.basics.specs.Meaning.Limits.{most_slots}
 use Rattle.basics.specs.Inner.Counting.{count_below}
 use Rattle.cells.specs.Meaning.Size.{SizeInDomain}
@@ -8,7 +9,7 @@ use Rattle.slots.specs.Meaning.Map.{head, words_for, usable}
 use Rattle.slots.specs.Meaning.Slot.{free, live, version_at, phase_at, SlotHolds}
 
 pub record Counts (n size used rows : ℕ) : Type 0 where
-  pub in_domain_lem : SizeInDomain size
+  pub within_domain : SizeInDomain size
   pub used-most : used ≤ n
   pub rows-most : rows ≤ n
 

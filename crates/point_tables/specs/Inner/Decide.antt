@@ -26,9 +26,9 @@ d_lengths n reals ints map pool spots cells =
       of_map = x.1.1.0;
       of_pool = x.1.1.1.0;
       of_spots = x.1.1.1.1.0;
-      of_cells_lem = x.1.1.1.1.1;
+      of_cells = x.1.1.1.1.1;
     })
-    (λ h. ((h.some, h.most), ((h.of_reals, h.of_ints), (h.of_map, (h.of_pool, (h.of_spots, h.of_cells_lem))))))
+    (λ h. ((h.some, h.most), ((h.of_reals, h.of_ints), (h.of_map, (h.of_pool, (h.of_spots, h.of_cells))))))
     (d_and (d_and (d_le _ _) (d_le _ _)) (d_and (d_and (d_eq _ _) (d_eq _ _)) (d_and (d_eq _ _) (d_and (d_eq _ _) (d_and (d_eq _ _) (d_eq _ _))))))
 
 module _ (t : Tables) where
@@ -79,7 +79,7 @@ module _ (t : Tables) where
       (d_and (d_all (λ s. d_imp (d_eq (phase_at t.nums s) live) (d_record s)) (slots_of t))
       (d_and (d_packed (used_of t) (rows_of t) t.pool t.cells)
       (d_and d_lists
-      (d_all (λ s. d_imp (d_pending s) (d_all (λ r. d_imp (d_eq (first t.cells r) (key_of (record_on t s).cell)) (d_eq (second t.cells r) 1)) (rows_of t))) (slots_of t))))))))
+      (d_all (λ s. d_imp (d_pending s) (d_all (λ r. d_imp (d_eq (first t.cells r) (key_of (record_on t s).cell)) (d_eq (second t.cells r) _)) (rows_of t))) (slots_of t))))))))
 
 -- whether the tables have the right lengths, and whether they hold a grid
 pub d_sized : (t : Tables) → Decided (Sized t)

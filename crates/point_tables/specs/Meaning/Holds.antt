@@ -1,6 +1,7 @@
 -- Tables hold a grid: the list of document 01, clause by clause. Assumes nothing.
 -- Of rows that are not in use nothing is asked but version, phase and map bit of every slot.
-use Rattle.basics.specs.Words.{ℕ, ◌<◌, ◌≤◌, ◌≡◌, [], get_or}
+use Rattle.std.specs.Prelude.{◌<◌, ◌≤◌, ◌≡◌}
+use Rattle.basics.specs.Words.{ℕ, [], get_or}
 use Rattle.std.specs.Float.{nan}
 use Rattle.cells.specs.Meaning.Size.{SizeInDomain}
 use Rattle.cells.specs.Meaning.Key.{key_of}

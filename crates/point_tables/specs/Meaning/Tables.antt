@@ -1,6 +1,6 @@
 -- The tables of a point grid of n slots, as lists, and their lengths. Assumes nothing.
-use Rattle.basics.specs.Words.{ℕ, ◌+◌, ◌≤◌, ◌≡◌, List, length, get_or, set, take, ℤ}
-use Rattle.std.specs.Prelude.{Float}
+use Rattle.std.specs.Prelude.{◌+◌, ◌≤◌, ◌≡◌, Float}
+use Rattle.basics.specs.Words.{ℕ, List, length, get_or, set, take, ℤ}
 use Rattle.basics.specs.Meaning.Limits.{most_slots}
 use Rattle.point_records.specs.declared.Record.{Record}
 use Rattle.point_records.specs.Meaning.Columns.{record_at}
@@ -62,7 +62,7 @@ pub record Lengths (n reals ints map pool spots cells : ℕ) : Type 0 where
   pub of_map : map ≡ head + words_for n
   pub of_pool : pool ≡ n
   pub of_spots : spots ≡ n
-  pub of_cells_lem : cells ≡ n
+  pub of_cells : cells ≡ n
 
 abbrev pub Sized : Tables → Type 0
 Sized t = Lengths (slots_of t) (length t.reals) (length t.ints) (length t.map) (length t.pool) (length t.spots) (length t.cells)

@@ -64,8 +64,8 @@ module _ (t u : Tables) where
       around-same c r o =
           let es = found t (corner_below c r) (corner_above c r) (Circle c r) in
           let rows = map_same (λ e. handle_row (finding_on t e)) (λ e. handle_row (finding_on v e)) (λ e. ap (λ (n : ℕ). row_item e.row ∷ n ∷ []) (version_is (row_item e.row))) es in
-          let obj_row : (e : Entry) → obj_row (finding_on t e) ≡ obj_row (finding_on v e) = λ e. let s = slot_of e in λ i. (like.each s i).obj ∷ tracker-alike t v like s i ∷ [] in
-          let objs = map_same (λ e. obj_row (finding_on t e)) (λ e. obj_row (finding_on v e)) obj_row es in
+          let each_obj : (e : Entry) → obj_row (finding_on t e) ≡ obj_row (finding_on v e) = λ e. let s = slot_of e in λ i. (like.each s i).obj ∷ tracker-alike t v like s i ∷ [] in
+          let objs = map_same (λ e. obj_row (finding_on t e)) (λ e. obj_row (finding_on v e)) each_obj es in
           cc (both_hold t v like h k, rows, objs)
 
 pub get_reads : (g : Handle) → Reads (λ t. get_of t g)

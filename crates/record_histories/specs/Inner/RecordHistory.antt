@@ -1,8 +1,8 @@
 -- A history: calls one after the other, on the tables of a point grid, and on a table of records beside tables whose columns are scratch.
 -- Assumes nothing.
 -- Here: what only inner contracts cite.
-use Rattle.basics.specs.Words.{ℕ, ◌≡◌, List, [], ◌∷◌, length}
-use Rattle.std.specs.Prelude.{Float}
+use Rattle.std.specs.Prelude.{◌≡◌, ◌∷◌, Float}
+use Rattle.basics.specs.Words.{ℕ, List, [], length}
 use Rattle.geometry.specs.declared.Position.{Position}
 use Rattle.slots.specs.declared.Handle.{Handle}
 use Rattle.replies.specs.declared.Reply.{Reply}

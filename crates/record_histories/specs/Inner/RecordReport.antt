@@ -1,6 +1,6 @@
 -- What a circle reports on a table of records after deferred calls and maintain. Assumes nothing.
-use Rattle.basics.specs.Words.{List, [], ◌∷◌, ◌++◌, map, eqb}
-use Rattle.std.specs.Prelude.{Float}
+use Rattle.std.specs.Prelude.{◌∷◌, ◌++◌, Float}
+use Rattle.basics.specs.Words.{List, [], map, eqb}
 use Rattle.basics.specs.Meaning.Refusals.{pick}
 use Rattle.geometry.specs.declared.Position.{Position}
 use Rattle.point_records.specs.declared.Record.{Record}

@@ -69,7 +69,7 @@ module _ (t u : Tables) (like : Alike t u) where
           of_map = h.sized.of_map ∙ ap (λ (m : ℕ). head + words_for m) like.of_nums;
           of_pool = h.sized.of_pool ∙ like.of_nums;
           of_spots = h.sized.of_spots ∙ like.of_nums;
-          of_cells_lem = h.sized.of_cells_lem ∙ like.of_nums;
+          of_cells = h.sized.of_cells ∙ like.of_nums;
         };
         counted = record {
           size = h.counted.size;

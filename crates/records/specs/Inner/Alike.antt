@@ -1,6 +1,7 @@
 -- Columns with the same records: what the unused places of a row hold does not matter. Assumes nothing.
 -- Here: what only inner contracts cite.
-use Rattle.basics.specs.Words.{ℕ, ◌≡◌, length}
+use Rattle.std.specs.Prelude.{◌≡◌}
+use Rattle.basics.specs.Words.{ℕ, length}
 use Rattle.point_tables.specs.Meaning.Tables.{Tables, tables, slots_of, record_on}
 
 -- the tables t with the columns of u

@@ -1,11 +1,9 @@
 -- What is seen of a call on a table of records: the records spread, the core's outcome, the records gathered again. Assumes nothing.
-use Rattle.basics.specs.Words.{ℕ, ◌≡◌, List, length, eqb, ℤ}
-use Rattle.std.specs.Prelude.{Float}
-use Rattle.basics.specs.Meaning.Lent.{Lent, was, is}
+use Rattle.std.specs.Prelude.{◌≡◌}
+use Rattle.basics.specs.Words.{ℕ, List, length, eqb}
 use Rattle.basics.specs.Meaning.Refusals.{pick}
 use Rattle.point_records.specs.declared.Record.{Record}
 use Rattle.point_tables.specs.Meaning.Tables.{Tables, slots_of}
-use Rattle.point_tables.specs.Meaning.Lent.{before, after}
 use Rattle.point_tables.specs.Meaning.Outcome.{Outcome, outcome}
 use Rattle.records.specs.Meaning.Spread.{besides, records_in}
 
@@ -18,10 +16,9 @@ pub record Seen (R : Type 0) : Type 0 where
 abbrev pub seen : {R : Type 0} → R → List Record → Tables → Seen R
 seen r rs t = record { result = r; records = rs; after = t }
 
--- the promise of a call, with the tables behind their references named once: what is seen of it is what `call` shows of records and tables before it
-abbrev pub Shows : {R : Type 0} → (List Record → Tables → Seen R) → R → Lent (List Record)
-    → Lent (List (List ℕ)) → Lent (List (List Float)) → Lent (List (List ℤ)) → Lent (List ℕ) → Lent (List (List ℕ)) → Lent (List (List Float)) → Lent (List (List ℕ)) → Type 0
-Shows call r records a b c d e f g = seen r (is records) (after a b c d e f g) ≡ call (was records) (before a b c d e f g)
+-- the promise of a call: what is seen of it, with the records and the tables t' after it, is what `call` shows of records and tables before it
+abbrev pub Shows : {R : Type 0} → (List Record → Tables → Seen R) → R → List Record → Tables → List Record → Tables → Type 0
+Shows call r records t records' t' = seen r records' t' ≡ call records t
 
 -- the outcome of a core call, with the records gathered
 abbrev pub back : {R : Type 0} → List Record → Outcome R → Seen R

@@ -1,6 +1,6 @@
 -- The records laid into columns, and gathered out of them. Both are total: what has no place on the other side stays. Assumes nothing.
-use Rattle.basics.specs.Words.{ℕ, List, [], ◌∷◌, ℤ}
-use Rattle.std.specs.Prelude.{Float}
+use Rattle.std.specs.Prelude.{◌∷◌, Float}
+use Rattle.basics.specs.Words.{ℕ, List, [], ℤ}
 use Rattle.point_records.specs.declared.Record.{Record}
 use Rattle.point_records.specs.Meaning.Columns.{record_of, nums_of, reals_of, ints_of}
 use Rattle.point_tables.specs.Meaning.Tables.{Tables, tables}

@@ -1,47 +1,47 @@
 -- `slot_walks::count_live` meets its contract: the live slots among those passed are counted. Assumes nothing.
-use Rattle.basics.specs.Words.{◌≤◌, ◌-◌, ◌+◌, ◌≡◌, refl, sym, ap, ◌∙◌, ⊎_elim, length, take_all, arith, needs}
+use Rattle.basics.specs.Words.{◌≤◌, ◌-◌, ◌+◌, ◌≡◌, refl, sym, ap, ◌∙◌, ⊎_elim, length, take_all, arith, rules}
 use Rattle.slot_walks.specs.Meaning.Live.{live_from}
 use Rattle.slot_walks.proofs.laws.LiveLaws.{live_to, live-most, live-within}
 use Rattle.slot_walks.proofs.laws.FillLaws.{one_more, as_many}
 use Rattle.slot_walks.proofs.count_live.Statement.{statement}
 use Rattle.slot_walks.proofs.count_live.Tie as tie
 
-abbrev invariant-loop : tie.invariant-loop
-invariant-loop nums k₀ i₀ k i = (i ≤ length nums) × (k ≡ length (live_to i nums))
+abbrev invariant-loop-i : tie.invariant-loop-i
+invariant-loop-i nums k₀ i₀ k i = (i ≤ length nums) × (k ≡ length (live_to i nums))
 
-abbrev decreases-loop : tie.decreases-loop
-decreases-loop nums k₀ i₀ k i = length nums - i
+abbrev decreases-loop-i : tie.decreases-loop-i
+decreases-loop-i nums k₀ i₀ k i = length nums - i
 
-least : (c : tie.At-loop invariant-loop decreases-loop) → c.loop.k ≤ 4096
-least c = omega (arith, c.loop.invariant.1, live-within c.before.args.nums.now 0, live-most c.before.args.nums.now c.loop.i, c.before.requires)
+least : (c : tie.At-loop-i invariant-loop-i decreases-loop-i) → c.loop-i.k ≤ 4096
+least c = omega (arith, c.loop-i.invariant.1, live-within c.args.nums.now 0, live-most c.args.nums.now c.loop-i.i, c.requires)
 
-loop-again : tie.Need-loop-preserved invariant-loop decreases-loop
+loop-again : tie.Need-loop-i-preserved invariant-loop-i decreases-loop-i
 loop-again c =
-    let r = c.before.before in
-    let l = r.before.before in
-    let ns = l.before.args.nums.now in
-    let h = r.before.loop-test.true in
-    let e = sym c.before.is_live.ensures in
+    let r = c in
+    let l = r in
+    let ns = l.args.nums.now in
+    let h = r.loop-i-test.true in
+    let e = sym c.is_live.ensures in
     ⊎_elim
-    (λ w. (omega arith, w.1 ∙ ap (λ n. n + 1) l.loop.invariant.1 ∙ one_more ns l.loop.i h (e ∙ w.0.taken)))
-    (λ w. (omega arith, w.1 ∙ l.loop.invariant.1 ∙ as_many ns l.loop.i h (e ∙ w.0.left)))
-    c.if1.branch
+    (λ w. (omega arith, w.k-is ∙ ap (λ n. n + 1) l.loop-i.invariant.1 ∙ one_more ns l.loop-i.i h (e ∙ w.if-is_live.true)))
+    (λ w. (omega arith, w.k-is ∙ l.loop-i.invariant.1 ∙ as_many ns l.loop-i.i h (e ∙ w.if-is_live.false)))
+    c.if-is_live.branch-raw
 
-returns : tie.Need-returns invariant-loop decreases-loop
+returns : tie.Need-returns invariant-loop-i decreases-loop-i
 returns c =
-    let s = c.before.before in
-    c.before.loop.invariant.1 ∙ ap (λ l. length (live_from 0 l)) (take_all c.before.loop.i s.args.nums.now (omega arith))
+    let s = c in
+    c.loop-i.invariant.1 ∙ ap (λ l. length (live_from 0 l)) (take_all c.loop-i.i s.args.nums.now (omega arith))
 
-pub count-live-spec : {M : Type 1} → statement M
-count-live-spec =
+pub count_live_spec : {M : Type 1} → statement M
+count_live_spec =
     tie.close
     (tie.spec
-    invariant-loop
-    decreases-loop
+    invariant-loop-i
+    decreases-loop-i
     (λ c. (omega arith, refl))
-    (λ c. search needs)
+    (λ c. search rules)
     (λ c. omega arith)
-    (λ c κs. search needs)
+    (λ c κs. search rules)
     (λ c. omega (arith, least c.before.before.before.before))
     (λ c. omega arith)
     (λ c. omega arith)

@@ -1,6 +1,6 @@
 -- Clearing slot by slot: the rows of which the first are cleared, and the map with their bits; and each slot after it. Assumes nothing.
 use Rattle.basics.specs.Words.{ℕ, zero, suc, ◌+◌, ◌/◌, ◌<◌, ◌≤◌, ◌≡◌, refl, sym, ap, ◌∙◌, subst, Bool, true, false, List, [], ◌∷◌, ◌++◌, map, map-append}
-use Rattle.basics.specs.Words.{append-nil, append_assoc, inr, ⊎_elim, length, get_or, take, drop, length-append, length-map, List·getD-map, take-append-drop}
+use Rattle.basics.specs.Words.{append-nil, append_assoc, inr, ⊎_elim, length, get_or, take, drop, length-append, length-map, get_or-map, take-append-drop}
 use Rattle.basics.specs.Words.{take-suc, take-length, drop-length, drop-cons, length-take-le, get_or_at, set_at, eqb, add-one, arith, eqb-true, eq-eqb, ne_eqb}
 use Rattle.basics.specs.Meaning.Refusals.{pick}
 use Rattle.basics.proofs.laws.Says.{d_eq}
@@ -144,7 +144,7 @@ next_not_live v e = go (eqb v last_version) e
 
 module _ (nums : List (List ℕ)) where
   cleared-row : (s : ℕ) → get_or (cleared_rows nums) s [] ≡ cleared_row (get_or nums s [])
-  cleared-row s = List·getD-map cleared_row nums s []
+  cleared-row s = get_or-map cleared_row nums s []
 
   -- the version of a live slot rises, or the slot is retired at the last one
   pub cleared-live : (s : ℕ) → phase_at nums s ≡ live → (version_at (cleared_rows nums) s ≡ next_version (version_at nums s)) × (phase_at (cleared_rows nums) s ≡ next_phase (version_at nums s))

@@ -1,5 +1,6 @@
 -- Every live slot is emptied: versions rise as with any emptying, and a slot at its last version is retired. Assumes nothing.
-use Rattle.basics.specs.Words.{ℕ, suc, List, [], ◌∷◌, map, get_or, eqb}
+use Rattle.std.specs.Prelude.{◌∷◌}
+use Rattle.basics.specs.Words.{ℕ, suc, List, [], map, get_or, eqb}
 use Rattle.basics.specs.Meaning.Refusals.{pick}
 use Rattle.slots.specs.Meaning.Map.{given_back}
 use Rattle.slots.specs.Meaning.Slot.{live, last_version, emptied_row}

@@ -1,5 +1,6 @@
 -- The live slots, ascending, and their handles. Assumes nothing.
-use Rattle.basics.specs.Words.{ℕ, suc, Bool, List, [], ◌∷◌, map, get_or, eqb}
+use Rattle.std.specs.Prelude.{◌∷◌}
+use Rattle.basics.specs.Words.{ℕ, suc, Bool, List, [], map, get_or, eqb}
 use Rattle.basics.specs.Meaning.Refusals.{pick}
 use Rattle.slots.specs.Meaning.Slot.{live, version_at}
 

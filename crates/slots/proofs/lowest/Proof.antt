@@ -7,36 +7,36 @@ use Rattle.slots.proofs.laws.LowestLaws.{lowest_in_word, lowest_past_words}
 use Rattle.slots.proofs.lowest.Statement.{statement}
 use Rattle.slots.proofs.lowest.Tie as tie
 
-abbrev invariant-loop : tie.invariant-loop
-invariant-loop map n words w₀ w = (w ≤ words) × (words ≡ words_for n) × ((v : ℕ) → v < w → get_or map (head + v) 0 ≡ 0)
+abbrev invariant-loop-w : tie.invariant-loop-w
+invariant-loop-w map n words w₀ w = (w ≤ words) × (words ≡ words_for n) × ((v : ℕ) → v < w → get_or map (head + v) 0 ≡ 0)
 
-abbrev decreases-loop : tie.decreases-loop
-decreases-loop map n words w₀ w = words - w
+abbrev decreases-loop-w : tie.decreases-loop-w
+decreases-loop-w map n words w₀ w = words - w
 
-add-t14 : tie.Need-overflow-add-t14 invariant-loop decreases-loop
+add-t14 : tie.Need-overflow_add-result invariant-loop-w decreases-loop-w
 add-t14 c =
     let l = c.before.before.before.before in
-    omega (arith, c.wide.ensures, trailing_le 64 (get_or l.before.before.before.args.map.now (head + l.loop.w) 0))
+    omega (arith, c.wide-t.ensures, trailing_le 64 (get_or l.before.before.before.args.map.now (head + l.loop-w.w) 0))
 
-returns : tie.Need-returns invariant-loop decreases-loop
+returns : tie.Need-returns-then-x-ne0 invariant-loop-w decreases-loop-w
 returns c =
     let l = c.before.before.before.before in
     let s = l.before.before.before in
-    sym (lowest_in_word s.args.map.now s.args.n l.loop.w s.requires.2 l.loop.invariant.2 c.wide.result (omega arith) (omega (arith, c.before.if1.true)) (c.before.before.shared-slice-known2.given (head + l.loop.w)).fits c.wide.ensures)
+    sym (lowest_in_word s.args.map.now s.args.n l.loop-w.w s.requires.2 l.loop-w.invariant.2 c.wide-t.result (omega arith) (omega (arith, c.before.if-x-ne0.true)) (c.before.before.shared_slice_known-in-loop-w-1.given (head + l.loop-w.w)).fits c.wide-t.ensures)
 
-returns-2 : tie.Need-returns-2 invariant-loop decreases-loop
+returns-2 : tie.Need-returns invariant-loop-w decreases-loop-w
 returns-2 c =
     let s = c.before.before.before.before in
-    sym (lowest_past_words s.args.map.now s.args.n c.before.loop.w s.requires.2 c.before.loop.invariant.2 (omega arith))
+    sym (lowest_past_words s.args.map.now s.args.n c.before.loop-w.w s.requires.2 c.before.loop-w.invariant.2 (omega arith))
 
-pub lowest-spec : {M : Type 1} → statement M
-lowest-spec =
+pub lowest_spec : {M : Type 1} → statement M
+lowest_spec =
     tie.close
     (tie.spec
-    invariant-loop
-    decreases-loop
+    invariant-loop-w
+    decreases-loop-w
     (λ c κs. c.before.requires.1)
-    (λ c. (omega arith, c.words-for.ensures, below_none _))
+    (λ c. (omega arith, c.words_for-words.ensures, below_none _))
     (λ c. omega arith)
     (λ c. omega arith)
     (λ c. omega arith)
@@ -46,5 +46,5 @@ lowest-spec =
     returns
     (λ c. omega arith)
     (λ c. omega arith)
-    (λ c. (omega arith, c.before.before.before.loop.invariant.1, below_more _ _ c.before.before.before.loop.invariant.2 c.if1.false))
+    (λ c. (omega arith, c.before.before.before.loop-w.invariant.1, below_more _ _ c.before.before.before.loop-w.invariant.2 c.if-x-ne0.false))
     returns-2)

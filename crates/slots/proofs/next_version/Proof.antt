@@ -1,13 +1,13 @@
 -- `slots::next_version` meets its contract. Assumes nothing.
-use Rattle.basics.specs.Words.{eq-eqb, ne_eqb, needs}
+use Rattle.basics.specs.Words.{eq-eqb, ne_eqb, rules}
 use Rattle.slots.proofs.next_version.Statement.{statement}
 use Rattle.slots.proofs.next_version.Tie as tie
 
-returns : tie.Need-returns
-returns c = rw (eq-eqb c.before.args.v 4294967295 c.if1.true) c.if1.true
+returns : tie.Need-returns-then-v-eq-LAST_VERSION
+returns c = rw (eq-eqb c.before.args.v 4294967295 c.if-v-eq-LAST_VERSION.true) c.if-v-eq-LAST_VERSION.true
 
-returns-2 : tie.Need-returns-2
-returns-2 c = rw (ne_eqb c.before.args.v 4294967295 c.if1.false)
+returns-2 : tie.Need-returns
+returns-2 c = rw (ne_eqb c.before.args.v 4294967295 c.if-v-eq-LAST_VERSION.false)
 
-pub next-version-spec : {M : Type 1} → statement M
-next-version-spec = tie.close (tie.spec returns (λ c. search needs) returns-2)
+pub next_version_spec : {M : Type 1} → statement M
+next_version_spec = tie.close (tie.spec returns (λ c. search rules) returns-2)

@@ -1,5 +1,5 @@
 -- `slots::take` meets its contract. Assumes nothing.
-use Rattle.basics.specs.Words.{needs}
+use Rattle.basics.specs.Words.{rules}
 use Rattle.slots.proofs.take.Statement.{statement}
 use Rattle.slots.proofs.take.Tie as tie
 
@@ -7,11 +7,11 @@ pub take_spec : {M : Type 1} → statement M
 take_spec =
     tie.close
     (tie.spec
-    (λ c. search needs)
-    (λ c κs. search needs)
-    (λ c. search needs)
-    (λ c. search needs)
-    (λ c. search needs)
-    (λ c. search needs)
-    (λ c. search needs)
-    (λ c. cc c.before.bit-of.ensures))
+    (λ c. search rules)
+    (λ c κs. search rules)
+    (λ c. search rules)
+    (λ c. search rules)
+    (λ c. search rules)
+    (λ c. search rules)
+    (λ c. search rules)
+    (λ c. cc c.before.bit_of-m.ensures))

@@ -1,6 +1,7 @@
 -- The slot map: 64 slots to a word, a bit set for each usable slot. Three head words, the grid's own, stand before the bits.
 -- Assumes nothing.
-use Rattle.basics.specs.Words.{ℕ, zero, suc, ◌+◌, ◌/◌, ◌%◌, ◌^◌, Bool, true, false, List, get_or, set, eqb}
+use Rattle.std.specs.Prelude.{◌+◌, ◌/◌, ◌%◌, ◌^◌}
+use Rattle.basics.specs.Words.{ℕ, zero, suc, Bool, true, false, List, get_or, set, eqb}
 use Rattle.std.specs.Int.Bits.{bit_and, bit_or, bit_xor}
 use Rattle.basics.specs.Meaning.Refusals.{pick}
 use Rattle.slots.specs.declared.Usable.{Usable}

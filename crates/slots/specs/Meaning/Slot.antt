@@ -1,5 +1,6 @@
 -- A slot's version and phase, which stand first in its row of numbers, and when a handle is good, gone or never issued. Assumes nothing.
-use Rattle.basics.specs.Words.{ℕ, ◌+◌, ◌*◌, ◌≤◌, ◌<◌, ◌≡◌, Bool, not, ◌&&◌, ◌||◌, List, [], ◌∷◌, length, get_or, set, drop, eqb, leb, ltb}
+use Rattle.std.specs.Prelude.{◌+◌, ◌*◌, ◌≤◌, ◌<◌, ◌≡◌, ◌&&◌, ◌||◌, ◌∷◌}
+use Rattle.basics.specs.Words.{ℕ, Bool, not, List, [], length, get_or, set, drop, eqb, leb, ltb}
 use Rattle.basics.specs.Meaning.Refusals.{Refusal, unless, first_of, pick}
 use Rattle.slots.specs.declared.Handle.{Handle}
 use Rattle.slots.specs.Meaning.Map.{words_for, usable, given_back}

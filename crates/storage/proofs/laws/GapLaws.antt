@@ -1,7 +1,7 @@
 -- How a loop that moves one element a turn opens a gap, and closes one: the laws that the loop's invariant goes by, for any type of
 -- elements. Assumes nothing.
 use Rattle.basics.specs.Words.{ℕ, zero, suc, ◌+◌, ◌-◌, ◌<◌, ◌≤◌, ◌≡◌, refl, sym, ◌∙◌, ap, List, ◌∷◌, ◌++◌, append_assoc, length, get_or, set, take, drop}
-use Rattle.basics.specs.Words.{length-set, length-append, List·getD-append, take-append-drop, slice, slice_empty, slice-cons, length-slice, set_at, take-suc}
+use Rattle.basics.specs.Words.{length-set, length-append, get_or-append, take-append-drop, slice, slice_empty, slice-cons, length-slice, set_at, take-suc}
 use Rattle.basics.specs.Words.{drop-cons, split_at, get_or-take, get_or-append-add, get_or-drop, append_snoc, length-take-le, not-suc-le-zero, add-one, sub-one}
 use Rattle.basics.specs.Words.{arith}
 use Rattle.storage.specs.Inner.Places.{opened, closed}
@@ -18,7 +18,7 @@ module _ {A : Type 0} (d : A) (s₀ : List A) where
   up : (s : List A) (i k : ℕ) (x : A) → i < k → k < length s₀ → s ≡ opened s₀ (suc i) k x → set s (suc i) (get_or s i d) ≡ opened s₀ i k (get_or s₀ i d)
   up s i k x h l e =
       let n : length (take (suc i) s₀) ≡ suc i = length-take-le (suc i) s₀ (omega arith) in
-      let r : get_or s i d ≡ get_or s₀ i d = rw e (List·getD-append (take (suc i) s₀) (x ∷ (slice (suc i) k s₀ ++ drop (k + 1) s₀)) d i (omega arith) ∙ get_or-take (suc i) s₀ i d (omega arith)) in
+      let r : get_or s i d ≡ get_or s₀ i d = rw e (get_or-append (take (suc i) s₀) (x ∷ (slice (suc i) k s₀ ++ drop (k + 1) s₀)) d i (omega arith) ∙ get_or-take (suc i) s₀ i d (omega arith)) in
       rw (r, e, set_at (take (suc i) s₀) x (slice (suc i) k s₀ ++ drop (k + 1) s₀) (get_or s₀ i d) (suc i) n, take-suc s₀ i d (omega arith), append_snoc, slice-cons i k s₀ d h (omega arith))
 
   -- one turn: the element below j is copied to j

@@ -1,7 +1,7 @@
 -- Elements that come in, go, or change places, by place and for any type of elements; and one column of a table of which this is a
 -- part. Assumes nothing.
 use Rattle.basics.specs.Words.{ℕ, zero, suc, ◌+◌, ◌-◌, ◌<◌, ◌≤◌, ◌≡◌, refl, sym, ◌∙◌, ap, List, [], ◌∷◌, ◌++◌, map, map-append, append_assoc, length, get_or, set}
-use Rattle.basics.specs.Words.{take, drop, length-append, length-set, length-drop, take-append-drop, List·getD-map, slice, take-take, length-take-le}
+use Rattle.basics.specs.Words.{take, drop, length-append, length-set, length-drop, take-append-drop, get_or-map, slice, take-take, length-take-le}
 use Rattle.basics.specs.Words.{length-slice, get_or-take, take-set-lt, drop-set-lt, set-get_or, add-one, arith}
 use Rattle.storage.specs.Meaning.Keyed.{written}
 use Rattle.storage.proofs.laws.FilterLaws.{by_order}
@@ -81,4 +81,4 @@ module _ {A B : Type 0} (f : A → B) where
   pub map_swapped : (d : A) (l : List A) (i j : ℕ) → map f (swapped d l i j) ≡ swapped (f d) (map f l) i j
   map_swapped d l i j =
       map-removed (set l i (get_or l j d)) j
-      ∙ ap (λ m. removed m j) (map-set l i (get_or l j d) ∙ ap (set (map f l) i) (sym (List·getD-map f l j d)))
+      ∙ ap (λ m. removed m j) (map-set l i (get_or l j d) ∙ ap (set (map f l) i) (sym (get_or-map f l j d)))

@@ -1,7 +1,7 @@
 -- What a stretch of the walk is of the whole: the entries of the window from a place on are those of the next stretch, and then those
 -- of the window from its end on. Assumes nothing.
 use Rattle.basics.specs.Words.{ℕ, ◌+◌, ◌-◌, ◌<◌, ◌≤◌, ◌≡◌, sym, ◌∙◌, ap, Bool, true, false, List, [], ◌++◌, map, length, get_or, take, drop, length-map}
-use Rattle.basics.specs.Words.{List·getD-map, take-append-drop, slice, length-slice, length-take-le, get_or-drop, get_or-take, drop-append-le, arith}
+use Rattle.basics.specs.Words.{get_or-map, take-append-drop, slice, length-slice, length-take-le, get_or-drop, get_or-take, drop-append-le, arith}
 use Rattle.cells.specs.declared.Cell.{Cell}
 use Rattle.cells.proofs.laws.Numbers.{Fits}
 use Rattle.cells.specs.Meaning.Key.{key_of}
@@ -45,7 +45,7 @@ module _ {A : Type 0} (f : A → List ℕ) (d : A) (l : List A) (pool : List (Li
   size = sym (length-map l f) ∙ ap length col ∙ length-take-le used pool room
 
   row_at : (j : ℕ) → j < used → f (get_or l j d) ≡ get_or pool j []
-  row_at j h = sym (List·getD-map f l j d) ∙ rw (fd, col) (get_or-take used pool j [] h)
+  row_at j h = sym (get_or-map f l j d) ∙ rw (fd, col) (get_or-take used pool j [] h)
 
   pub next_stretch : (i x0 y0 x1 y1 : ℕ) (r : Run) → NextRun pool used i x0 y0 x1 y1 r
       → filter (λ x. in_window x0 y0 x1 y1 (row_key (f x))) (drop i l) ≡ slice r.from r.to l ++ filter (λ x. in_window x0 y0 x1 y1 (row_key (f x))) (drop r.to l)

@@ -1,7 +1,7 @@
 -- A key is that of a cell of a range exactly if it lies in the range's window. Assumes nothing.
 -- Here: the laws.
-use Rattle.basics.specs.Words.{ℕ, ◌<◌, ◌≡◌, refl, sym, ◌∙◌, ap, Bool, true, ◌&&◌, List, [], ◌∷◌, List-as-Memᴰ, List·Memᴰ·head, List·Memᴰ·tail}
-use Rattle.basics.specs.Words.{List·Memᴰ·cases-cons, List·Memᴰ·not-nil, ⊎_elim, eqb, ℤ, pos, negsuc, arith, leb-true, eqb-true, eq-eqb}
+use Rattle.basics.specs.Words.{ℕ, ◌<◌, ◌≡◌, refl, sym, ◌∙◌, ap, Bool, true, ◌&&◌, List, [], ◌∷◌, Memᴰ, Memᴰ-head, Memᴰ-tail}
+use Rattle.basics.specs.Words.{Memᴰ-cases_cons, Memᴰ-not_nil, ⊎_elim, eqb, ℤ, pos, negsuc, arith, leb-true, eqb-true, eq-eqb}
 use lib.Signed.{mag, le_z}
 use Rattle.basics.specs.Meaning.Says.{Says}
 use Rattle.basics.proofs.laws.Says.{says_same, apart, both_true}
@@ -21,19 +21,19 @@ use Rattle.storage.specs.Inner.Window.{window_of}
 
 -- ---- whether a list has an element that passes, by its members
 module _ {A : Type 0} (test : A → Bool) where
-  pub has_member : (x : A) (l : List A) → List-as-Memᴰ x l → test x ≡ true → has test l ≡ true
-  has_member x [] m e = absurd (List·Memᴰ·not-nil m)
+  pub has_member : (x : A) (l : List A) → Memᴰ x l → test x ≡ true → has test l ≡ true
+  has_member x [] m e = absurd (Memᴰ-not_nil m)
   has_member x (y ∷ l) m e =
       by_test (test y)
       (λ q. rw q)
-      (λ q. rw q (⊎_elim (λ i. absurd (apart (sym q ∙ ap test (sym i) ∙ e))) (λ i. has_member x l i e) (List·Memᴰ·cases-cons m)))
+      (λ q. rw q (⊎_elim (λ i. absurd (apart (sym q ∙ ap test (sym i) ∙ e))) (λ i. has_member x l i e) (Memᴰ-cases_cons m)))
 
-  pub member_has : (l : List A) → has test l ≡ true → (x : A) × List-as-Memᴰ x l × (test x ≡ true)
+  pub member_has : (l : List A) → has test l ≡ true → (x : A) × Memᴰ x l × (test x ≡ true)
   member_has [] h = absurd (apart h)
   member_has (y ∷ l) h =
       by_test (test y)
-      (λ q. (y, List·Memᴰ·head refl, q))
-      (λ q. let m = member_has l (rw q at h) in (m.0, List·Memᴰ·tail m.1, m.2))
+      (λ q. (y, Memᴰ-head refl, q))
+      (λ q. let m = member_has l (rw q at h) in (m.0, Memᴰ-tail m.1, m.2))
 
 -- ---- a cell between two that fit 32 bits fits
 between : (a c b : ℤ) → le_z a c ≡ true → le_z c b ≡ true → mag a < 2147483648 → mag b < 2147483648 → mag c < 2147483648

@@ -1,7 +1,8 @@
 -- Laws of `append1` and `append_all`: each comes at the end of the list of its key, which in a sorted list is before the first greater
 -- key. Assumes nothing.
 -- Here: what only inner contracts cite.
-use Rattle.basics.specs.Words.{ℕ, List, [], ◌∷◌, ltb}
+use Rattle.std.specs.Prelude.{◌∷◌}
+use Rattle.basics.specs.Words.{ℕ, List, [], ltb}
 use Rattle.basics.specs.Meaning.Refusals.{pick}
 
 module _ {A : Type 0} (key : A → ℕ) where

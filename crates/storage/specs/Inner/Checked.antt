@@ -1,5 +1,6 @@
 -- Where the list of a cell begins in the pool. Assumes nothing.
-use Rattle.basics.specs.Words.{ℕ, ◌-◌, ◌<◌, ◌≡◌, List}
+use Rattle.std.specs.Prelude.{◌-◌, ◌<◌, ◌≡◌}
+use Rattle.basics.specs.Words.{ℕ, List}
 use Rattle.storage.specs.Meaning.Packed.{first}
 
 -- entry j begins a list

@@ -1,6 +1,7 @@
 -- Lists of elements that have a key: those of one key are a cell's list. Assumes nothing.
 -- Here: what only inner contracts cite.
-use Rattle.basics.specs.Words.{ℕ, ◌≤◌, List, [], ◌∷◌}
+use Rattle.std.specs.Prelude.{◌≤◌, ◌∷◌}
+use Rattle.basics.specs.Words.{ℕ, List, []}
 use Rattle.storage.specs.Meaning.Keyed.{All}
 
 module _ {A : Type 0} (key : A → ℕ) where

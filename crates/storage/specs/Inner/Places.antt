@@ -2,7 +2,8 @@
 --     opened s p k v     v comes in at p, and the elements from p up to k move one place up. What stands past k stays
 --     closed s p k       the element at p goes, and those after it up to k move one place down. What stands from k - 1 on stays
 -- Here: what only inner contracts cite.
-use Rattle.basics.specs.Words.{ℕ, ◌+◌, ◌-◌, List, ◌∷◌, ◌++◌, length, take, drop, slice}
+use Rattle.std.specs.Prelude.{◌+◌, ◌-◌, ◌∷◌, ◌++◌}
+use Rattle.basics.specs.Words.{ℕ, List, length, take, drop, slice}
 use Rattle.storage.specs.Meaning.Keyed.{below, under}
 
 -- the end of the list of key k

@@ -1,6 +1,6 @@
 -- What a pool's used part is after an entry came in or went, and what each column then is. Assumes nothing.
-use Rattle.basics.specs.Words.{ℕ, ◌≡◌, List, map, length}
-use Rattle.std.specs.Prelude.{Float}
+use Rattle.std.specs.Prelude.{◌≡◌, Float}
+use Rattle.basics.specs.Words.{ℕ, List, map, length}
 use Rattle.storage.specs.Meaning.Keyed.{written, on_list, append1, take_out}
 use Rattle.storage.specs.Meaning.Entries.{Entry, entry, is_item, row_of, spot_of, entry_key, entries_of}
 

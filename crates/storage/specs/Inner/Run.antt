@@ -1,5 +1,6 @@
 -- What the range walk asks of the pool: the next stretch of entries whose cells lie in a window. Assumes nothing.
-use Rattle.basics.specs.Words.{ℕ, ◌<◌, ◌≤◌, ◌≡◌, true, false, List}
+use Rattle.std.specs.Prelude.{◌<◌, ◌≤◌, ◌≡◌}
+use Rattle.basics.specs.Words.{ℕ, true, false, List}
 use Rattle.storage.specs.Inner.Window.{in_window}
 use Rattle.storage.specs.Meaning.Packed.{first}
 use Rattle.storage.specs.declared.Run.{Run}

@@ -1,7 +1,8 @@
 -- The storage as a reader expects it: a finite map from cells to non-empty lists, each with a dirty mark. A cell is named by its key, and
 -- the map is the list of its rows in the order of the keys. Assumes nothing.
 -- Here: what only inner contracts cite.
-use Rattle.basics.specs.Words.{ℕ, ◌<◌, Bool, true, false, List, [], ◌∷◌, ◌++◌, eqb, ltb}
+use Rattle.std.specs.Prelude.{◌<◌, ◌∷◌, ◌++◌}
+use Rattle.basics.specs.Words.{ℕ, Bool, true, false, List, [], eqb, ltb}
 use Rattle.basics.specs.Meaning.Refusals.{pick}
 use Rattle.storage.specs.Meaning.Keyed.{All, take_out}
 

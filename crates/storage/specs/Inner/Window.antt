@@ -1,6 +1,7 @@
 -- A range of cells as four numbers, each counted upward from the least: lowest column, lowest row, highest column, highest row.
 -- A key is a row and a column, and it lies in the window if both do. Assumes nothing.
-use Rattle.basics.specs.Words.{ℕ, Bool, ◌&&◌, leb}
+use Rattle.std.specs.Prelude.{◌&&◌}
+use Rattle.basics.specs.Words.{ℕ, Bool, leb}
 use Rattle.cells.specs.Inner.Key.{column_of, line_of}
 use Rattle.cells.specs.declared.Cell.{Cell}
 use Rattle.cells.specs.Meaning.Key.{upward}

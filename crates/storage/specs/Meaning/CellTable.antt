@@ -1,5 +1,6 @@
 -- The table of the cells in use: a row (key, mark) for each, in the order of the keys; the mark is 1 for a dirty cell. Assumes nothing.
-use Rattle.basics.specs.Words.{ℕ, List, [], ◌∷◌, map, eqb}
+use Rattle.std.specs.Prelude.{◌∷◌}
+use Rattle.basics.specs.Words.{ℕ, List, [], map, eqb}
 use Rattle.basics.specs.Meaning.Refusals.{pick}
 use Rattle.storage.specs.Meaning.Keyed.{on_list}
 use Rattle.storage.specs.Meaning.Entries.{row_key}

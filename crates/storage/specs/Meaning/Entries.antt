@@ -1,7 +1,7 @@
 -- What the pool holds. A row is a cell key and a number that says which object; a point's entry has a position beside its row.
 -- Assumes nothing.
-use Rattle.basics.specs.Words.{ℕ, Bool, List, [], ◌∷◌, get_or, take, eqb}
-use Rattle.std.specs.Prelude.{Float}
+use Rattle.std.specs.Prelude.{◌∷◌, Float}
+use Rattle.basics.specs.Words.{ℕ, Bool, List, [], get_or, take, eqb}
 
 abbrev pub row_key : List ℕ → ℕ
 row_key r = get_or r 0 0

@@ -1,5 +1,6 @@
 -- Lists of elements that have a key: those of one key are a cell's list. Assumes nothing.
-use Rattle.basics.specs.Words.{ℕ, Bool, List, [], ◌∷◌, ◌++◌, length, drop, ltb, eqb}
+use Rattle.std.specs.Prelude.{◌∷◌, ◌++◌}
+use Rattle.basics.specs.Words.{ℕ, Bool, List, [], length, drop, ltb, eqb}
 use Rattle.basics.specs.Meaning.Refusals.{pick}
 
 abbrev pub All : {A : Type 0} → (A → Type 0) → List A → Type 0

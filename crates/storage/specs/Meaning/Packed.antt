@@ -1,6 +1,7 @@
 -- When the first `used` rows of the pool and the first `rows` rows of the cell table are a storage: no cell has two lists, each pool
 -- entry is in one list or free, and each list has its row. Assumes nothing.
-use Rattle.basics.specs.Words.{ℕ, ◌<◌, ◌≤◌, ◌≡◌, List, [], get_or}
+use Rattle.std.specs.Prelude.{◌<◌, ◌≤◌, ◌≡◌}
+use Rattle.basics.specs.Words.{ℕ, List, [], get_or}
 
 -- the first and the second number of a row of two
 abbrev pub first : List (List ℕ) → ℕ → ℕ

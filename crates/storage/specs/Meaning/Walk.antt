@@ -1,5 +1,6 @@
 -- The walk of a range: the lists of its cells, in range order and then in list order. Assumes nothing.
-use Rattle.basics.specs.Words.{ℕ, List, [], ◌∷◌, ◌++◌}
+use Rattle.std.specs.Prelude.{◌∷◌, ◌++◌}
+use Rattle.basics.specs.Words.{ℕ, List, []}
 use Rattle.cells.specs.declared.Cell.{Cell}
 use Rattle.cells.specs.Meaning.Range.{range_cells}
 use Rattle.cells.specs.Meaning.Key.{key_of}

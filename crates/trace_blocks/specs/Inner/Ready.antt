@@ -1,6 +1,6 @@
 -- How far the program is: the bytes that it has are in the block, and the answers fit the output. Assumes nothing.
 -- Here: what only inner contracts cite.
-use Rattle.basics.specs.Words.{◌+◌, ◌≤◌}
+use Rattle.std.specs.Prelude.{◌+◌, ◌≤◌}
 use Rattle.trace_printing.specs.Meaning.Said.{longest}
 use Rattle.trace_blocks.specs.declared.Progress.{Progress}
 

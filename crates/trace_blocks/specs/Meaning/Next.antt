@@ -1,5 +1,6 @@
 -- The next record that ends in some bytes: what is so far after it, the record, if one ends, and the place behind it. Assumes nothing.
-use Rattle.basics.specs.Words.{ℕ, ◌+◌, List, [], ◌∷◌, take}
+use Rattle.std.specs.Prelude.{◌+◌, ◌∷◌}
+use Rattle.basics.specs.Words.{ℕ, List, [], take}
 use Rattle.basics.specs.Meaning.Refusals.{pick}
 use Rattle.trace_splits.specs.Meaning.Sofar.{Sofar, feed, sofar}
 use Rattle.trace_blocks.specs.declared.Found.{Found}

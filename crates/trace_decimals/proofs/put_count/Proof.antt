@@ -1,5 +1,5 @@
 -- `trace_decimals::put_count` meets its contract. Assumes nothing.
-use Rattle.basics.specs.Words.{ℕ, ◌≡◌, refl, sym, ap, ◌∙◌, subst, true, false, [], ◌∷◌, ℤ, pos, negsuc, nat_abs, arith, ltb-true, needs}
+use Rattle.basics.specs.Words.{ℕ, ◌≡◌, refl, sym, ap, ◌∙◌, subst, true, false, [], ◌∷◌, ℤ, pos, negsuc, nat_abs, arith, ltb-true, rules}
 use lib.Signed.{lt_z}
 use mir.Syntax.{w32}
 use mir.Val.{to_z, of_z}
@@ -22,13 +22,13 @@ unfolding signed_text
 plain_text (pos n) h = refl
 plain_text (negsuc n) h = absurd (apart (sym h))
 
-put-number-requires : tie.Need-put-number-requires
+put-number-requires : tie.Need-put_number-requires
 put-number-requires c κs =
     let p = c.before.before.before.before in
     let s = p.before.before.before.before in
-    omega (arith, next_is s.args.out.now s.args.at (45 ∷ []) p.put_byte.ensures, length_is s.args.out.now s.args.at (45 ∷ []) p.put_byte.ensures (omega arith))
+    omega (arith, next_is s.args.out.now s.args.at (45 ∷ []) p.put_byte-next.ensures, length_is s.args.out.now s.args.at (45 ∷ []) p.put_byte-next.ensures (omega arith))
 
-returns : tie.Need-returns
+returns : tie.Need-returns-then-k-lt0
 returns c =
     let n = c.before.before in
     let m = n.before in
@@ -37,30 +37,30 @@ returns c =
     let w = buffer s.args.out.now s.args.at in
     let k : to_z w32 (of_z w32 s.args.k) ≡ s.args.k = to_z-of_z w32 s.args.k s.ranges.k in
     let size : m.magnitude.result ≡ nat_abs s.args.k = m.magnitude.ensures ∙ ap nat_abs k in
-    n.put-number.ensures ∙ (λ z. put_text (p.put_byte.ensures z) (decimal (size z)))
+    n.put_number.ensures ∙ (λ z. put_text (p.put_byte-next.ensures z) (decimal (size z)))
     ∙ put-put w (45 ∷ []) (decimal (nat_abs s.args.k)) (omega arith)
-    ∙ ap (put_text w) (minus-text s.args.k (subst (λ (z : ℤ). lt_z z (pos 0) ≡ true) k p.before.before.if1.true))
+    ∙ ap (put_text w) (minus-text s.args.k (subst (λ (z : ℤ). lt_z z (pos 0) ≡ true) k p.before.before.if-k-lt0.true))
 
-returns-2 : tie.Need-returns-2
+returns-2 : tie.Need-returns
 returns-2 c =
     let n = c.before.before in
     let m = n.before in
     let s = m.before.before.before.before in
     let w = buffer s.args.out.now s.args.at in
     let k : to_z w32 (of_z w32 s.args.k) ≡ s.args.k = to_z-of_z w32 s.args.k s.ranges.k in
-    n.put-number2.ensures ∙ ap (λ (x : ℕ). put_text w (decimal x)) (m.magnitude2.ensures ∙ ap nat_abs k)
-    ∙ ap (put_text w) (plain_text s.args.k (subst (λ (z : ℤ). lt_z z (pos 0) ≡ false) k m.before.before.if1.false))
+    n.put_number-2.ensures ∙ ap (λ (x : ℕ). put_text w (decimal x)) (m.magnitude-2.ensures ∙ ap nat_abs k)
+    ∙ ap (put_text w) (plain_text s.args.k (subst (λ (z : ℤ). lt_z z (pos 0) ≡ false) k m.before.before.if-k-lt0.false))
 
-pub put-count-spec : {M : Type 1} → statement M
-put-count-spec =
+pub put_count_spec : {M : Type 1} → statement M
+put_count_spec =
     tie.close
     (tie.spec
-    (λ c κs. search needs)
-    (λ c κs. search needs)
+    (λ c κs. search rules)
+    (λ c κs. search rules)
     put-number-requires
-    (λ c. search needs)
+    (λ c. search rules)
     returns
-    (λ c κs. search needs)
-    (λ c κs. search needs)
-    (λ c. search needs)
+    (λ c κs. search rules)
+    (λ c κs. search rules)
+    (λ c. search rules)
     returns-2)

@@ -5,54 +5,54 @@ use Rattle.trace_decimals.proofs.laws.StepLaws.{nothing_left, low-stops, high-st
 use Rattle.trace_decimals.proofs.read_digits.Statement.{statement}
 use Rattle.trace_decimals.proofs.read_digits.Tie as tie
 
-abbrev invariant-loop : tie.invariant-loop
-invariant-loop b from to most limit v₀ i₀ v i = (i ≤ to) × (v ≤ most) × (digits_from most v (slice i to b) ≡ digits_from most 0 (slice from to b))
+abbrev invariant-loop-i : tie.invariant-loop-i
+invariant-loop-i b from to most limit v₀ i₀ v i = (i ≤ to) × (v ≤ most) × (digits_from most v (slice i to b) ≡ digits_from most 0 (slice from to b))
 
-abbrev decreases-loop : tie.decreases-loop
-decreases-loop b from to most limit v₀ i₀ v i = to - i
+abbrev decreases-loop-i : tie.decreases-loop-i
+decreases-loop-i b from to most limit v₀ i₀ v i = to - i
 
-returns : tie.Need-returns invariant-loop decreases-loop
+returns : tie.Need-returns-then-c-lt48 invariant-loop-i decreases-loop-i
 returns c =
     let l = c.before.before.before in
     let s = l.before.before in
-    low-stops s.args.b.now l.loop.i s.args.to (omega arith) s.requires.1 s.args.most l.loop.v c.if1.true ∙ l.loop.invariant.2
+    low-stops s.args.b.now l.loop-i.i s.args.to (omega arith) s.requires.1 s.args.most l.loop-i.v c.if-c-lt48.true ∙ l.loop-i.invariant.2
 
-returns-2 : tie.Need-returns-2 invariant-loop decreases-loop
+returns-2 : tie.Need-returns-then-c-gt57 invariant-loop-i decreases-loop-i
 returns-2 c =
     let l = c.before.before.before.before in
     let s = l.before.before in
-    high-stops s.args.b.now l.loop.i s.args.to (omega arith) s.requires.1 s.args.most l.loop.v c.if2.true ∙ l.loop.invariant.2
+    high-stops s.args.b.now l.loop-i.i s.args.to (omega arith) s.requires.1 s.args.most l.loop-i.v c.if-c-gt57.true ∙ l.loop-i.invariant.2
 
-returns-3 : tie.Need-returns-3 invariant-loop decreases-loop
+returns-3 : tie.Need-returns-then-limit-n invariant-loop-i decreases-loop-i
 returns-3 c =
     let l = c.before.before.before.before.before.before in
     let s = l.before.before in
-    large_stops s.args.b.now l.loop.i s.args.to (omega arith) s.requires.1 s.args.most l.loop.v _ (omega (arith, c.before.digit.ensures)) (omega arith) (omega arith) c.if3.true
-    ∙ l.loop.invariant.2
+    large_stops s.args.b.now l.loop-i.i s.args.to (omega arith) s.requires.1 s.args.most l.loop-i.v _ (omega (arith, c.before.digit.ensures)) (omega arith) (omega arith) c.if-limit-n.true
+    ∙ l.loop-i.invariant.2
 
-loop-again : tie.Need-loop-preserved invariant-loop decreases-loop
+loop-again : tie.Need-loop-i-preserved invariant-loop-i decreases-loop-i
 loop-again c =
     let l = c.before.before.before.before.before.before in
     let s = l.before.before in (
       omega arith,
       omega arith,
-      step s.args.b.now l.loop.i s.args.to (omega arith) s.requires.1 s.args.most l.loop.v _ (omega (arith, c.before.digit.ensures)) (omega arith) (omega arith) (omega arith)
-          ∙ l.loop.invariant.2,
+      step s.args.b.now l.loop-i.i s.args.to (omega arith) s.requires.1 s.args.most l.loop-i.v _ (omega (arith, c.before.digit.ensures)) (omega arith) (omega arith) (omega arith)
+          ∙ l.loop-i.invariant.2,
     )
 
-returns-4 : tie.Need-returns-4 invariant-loop decreases-loop
+returns-4 : tie.Need-returns invariant-loop-i decreases-loop-i
 unfolding digits_from
 returns-4 c =
     let l = c.before in
     let a = l.before.before.args in
-    rw (← l.loop.invariant.2, nothing_left a.b.now l.loop.i a.to (omega arith))
+    rw (← l.loop-i.invariant.2, nothing_left a.b.now l.loop-i.i a.to (omega arith))
 
-pub read-digits-spec : {M : Type 1} → statement M
-read-digits-spec =
+pub read_digits_spec : {M : Type 1} → statement M
+read_digits_spec =
     tie.close
     (tie.spec
-    invariant-loop
-    decreases-loop
+    invariant-loop-i
+    decreases-loop-i
     (λ c. (omega arith, omega arith, refl))
     (λ c. omega arith)
     returns

@@ -1,6 +1,6 @@
 -- What the bytes of a field read as, digit by digit. Assumes nothing.
 -- Here: what only inner contracts cite.
-use Rattle.basics.specs.Words.{◌≤◌}
+use Rattle.std.specs.Prelude.{◌≤◌}
 use Rattle.trace_decimals.specs.declared.Number.{Number}
 use Rattle.trace_decimals.specs.declared.Number.TheVariants.{Read, Unreadable}
 use Rattle.trace_decimals.specs.Meaning.Fields.{farthest}

@@ -1,5 +1,6 @@
 -- What the bytes of a field read as, digit by digit. Assumes nothing.
-use Rattle.basics.specs.Words.{ℕ, zero, suc, ◌+◌, ◌-◌, ◌*◌, Bool, ◌&&◌, List, [], ◌∷◌, leb, eqb, pos, negsuc}
+use Rattle.std.specs.Prelude.{◌+◌, ◌-◌, ◌*◌, ◌&&◌, ◌∷◌}
+use Rattle.basics.specs.Words.{ℕ, zero, suc, Bool, List, [], leb, eqb, pos, negsuc}
 use Rattle.basics.specs.Meaning.Refusals.{pick}
 use Rattle.trace_decimals.specs.declared.Number.{Number}
 use Rattle.trace_decimals.specs.declared.Number.TheVariants.{Read, Unreadable}

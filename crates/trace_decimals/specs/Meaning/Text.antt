@@ -1,5 +1,6 @@
 -- The decimal text of a number: no plus, no leading zero, no -0. Bytes are ASCII: 48 to 57 are the digits, 45 is the minus. Assumes nothing.
-use Rattle.basics.specs.Words.{ℕ, zero, suc, ◌+◌, ◌/◌, ◌%◌, List, [], ◌∷◌, ◌++◌, ℤ, pos, negsuc}
+use Rattle.std.specs.Prelude.{◌+◌, ◌/◌, ◌%◌, ◌∷◌, ◌++◌}
+use Rattle.basics.specs.Words.{ℕ, zero, suc, List, [], ℤ, pos, negsuc}
 
 -- the digits of n, and none for 0; n has at most `most` of them
 unfoldable pub leading : ℕ → ℕ → List ℕ

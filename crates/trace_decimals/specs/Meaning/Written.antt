@@ -1,5 +1,6 @@
 -- A buffer that is written from the front: its bytes, and where the next one goes. Assumes nothing.
-use Rattle.basics.specs.Words.{ℕ, ◌+◌, List, ◌++◌, length, take, drop}
+use Rattle.std.specs.Prelude.{◌+◌, ◌++◌}
+use Rattle.basics.specs.Words.{ℕ, List, length, take, drop}
 
 -- `text` stands at `at`, and every other byte is as it was
 abbrev pub put_text_at : List ℕ → ℕ → List ℕ → List ℕ

@@ -1,23 +1,19 @@
 -- `trace_lines::box_lines` meets its contract, row by row. Assumes nothing.
-use Rattle.basics.specs.Words.{needs}
+use Rattle.basics.specs.Words.{rules}
 use Rattle.trace_lines.proofs.box_lines.Statement.{statement}
 use Rattle.trace_lines.proofs.box_lines.Tie as tie
 
-pub box-lines-spec : {M : Type 1} → statement M
-box-lines-spec =
+pub box_lines_spec : {M : Type 1} → statement M
+box_lines_spec =
     tie.close
     (tie.spec
-    (λ c. search needs)
-    (λ c κs. search needs)
-    (λ c. search needs)
-    (λ c κs. search needs)
-    (λ c. search needs)
-    (λ c κs. search needs)
-    (λ c. search needs)
-    (λ c κs. search needs)
+    (λ c κs. search rules)
+    (λ c κs. search rules)
+    (λ c κs. search rules)
+    (λ c κs. search rules)
     (λ c. rw (
-      c.row4.ensures,
-      c.before.before.row3.ensures,
-      c.before.before.before.before.row2.ensures,
-      c.before.before.before.before.before.before.row.ensures,
+      c.row.ensures,
+      c.row-t-3.ensures,
+      c.row-t-2.ensures,
+      c.row-t.ensures,
     )))

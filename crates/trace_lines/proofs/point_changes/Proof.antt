@@ -1,26 +1,21 @@
 -- `trace_lines::point_changes` meets its contract, row by row. Assumes nothing.
-use Rattle.basics.specs.Words.{needs}
+use Rattle.basics.specs.Words.{rules}
 use Rattle.trace_lines.proofs.point_changes.Statement.{statement}
 use Rattle.trace_lines.proofs.point_changes.Tie as tie
 
-pub point-changes-spec : {M : Type 1} → statement M
-point-changes-spec =
+pub point_changes_spec : {M : Type 1} → statement M
+point_changes_spec =
     tie.close
     (tie.spec
-    (λ c. search needs)
-    (λ c κs. search needs)
-    (λ c. search needs)
-    (λ c κs. search needs)
-    (λ c. search needs)
-    (λ c κs. search needs)
-    (λ c. search needs)
-    (λ c κs. search needs)
-    (λ c. search needs)
-    (λ c κs. search needs)
+    (λ c κs. search rules)
+    (λ c κs. search rules)
+    (λ c κs. search rules)
+    (λ c κs. search rules)
+    (λ c κs. search rules)
     (λ c. rw (
-      c.row5.ensures,
-      c.before.before.row4.ensures,
-      c.before.before.before.before.row3.ensures,
-      c.before.before.before.before.before.before.row2.ensures,
-      c.before.before.before.before.before.before.before.before.row.ensures,
+      c.row.ensures,
+      c.row-t-4.ensures,
+      c.row-t-3.ensures,
+      c.row-t-2.ensures,
+      c.row-t.ensures,
     )))

@@ -1,14 +1,14 @@
 -- `trace_lines::row` meets its contract. Assumes nothing.
 use Rattle.trace_lines.specs.Meaning.Words.{row_says}
-use Rattle.basics.specs.Words.{needs}
+use Rattle.basics.specs.Words.{rules}
 use Rattle.trace_lines.proofs.row.Statement.{statement}
 use Rattle.trace_lines.proofs.row.Tie as tie
 
-pub row-spec : {M : Type 1} → statement M
+pub row_spec : {M : Type 1} → statement M
 unfolding row_says
-row-spec =
+row_spec =
     tie.close
     (tie.spec
-    (λ c κs. search needs)
-    (λ c. rw (← c.before.same.ensures, c.if1.true))
-    (λ c. rw (← c.before.same.ensures, c.if1.false)))
+    (λ c κs. search rules)
+    (λ c. rw (← c.same.ensures, c.if-same.true))
+    (λ c. rw (← c.same.ensures, c.if-same.false)))

@@ -1,5 +1,6 @@
 -- The fields from a place on, for code that walks a record: where a field ends, and what a taker of the code took. Assumes nothing.
-use Rattle.basics.specs.Words.{ℕ, suc, ◌+◌, List, [], ◌∷◌, length, drop, eqb, leb, ℤ}
+use Rattle.std.specs.Prelude.{◌+◌, ◌∷◌}
+use Rattle.basics.specs.Words.{ℕ, suc, List, [], length, drop, eqb, leb, ℤ}
 use Rattle.basics.specs.Meaning.Refusals.{pick}
 use Rattle.slots.specs.declared.Handle.{Handle}
 use Rattle.trace_lines.specs.declared.Spot.{Spot}

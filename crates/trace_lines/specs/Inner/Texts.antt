@@ -1,5 +1,6 @@
 -- The text of a request behind its word, and when its numbers are in range. Assumes nothing.
-use Rattle.basics.specs.Words.{ℕ, ◌≤◌, ◌≡◌, Bool, true, false, List, [], ◌∷◌, ◌++◌, ltb, ℤ, pos, nat_abs}
+use Rattle.std.specs.Prelude.{◌≤◌, ◌≡◌, ◌∷◌, ◌++◌}
+use Rattle.basics.specs.Words.{ℕ, Bool, true, false, List, [], ltb, ℤ, pos, nat_abs}
 use Rattle.basics.specs.Meaning.Refusals.{pick}
 use Rattle.slots.specs.declared.Handle.{Handle}
 use Rattle.trace_decimals.specs.Meaning.Text.{decimal, signed_text}

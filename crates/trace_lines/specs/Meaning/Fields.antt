@@ -1,5 +1,6 @@
 -- The fields of a record: its bytes are cut at each comma. Assumes nothing.
-use Rattle.basics.specs.Words.{ℕ, List, [], ◌∷◌, eqb}
+use Rattle.std.specs.Prelude.{◌∷◌}
+use Rattle.basics.specs.Words.{ℕ, List, [], eqb}
 use Rattle.basics.specs.Meaning.Refusals.{pick}
 use Rattle.trace_splits.specs.Meaning.Records.{onto}
 

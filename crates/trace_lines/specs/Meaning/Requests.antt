@@ -1,6 +1,7 @@
 -- The request that a record reads as: the first field is its word, and the fields behind it are what the word asks for, no more and no fewer.
 -- Assumes nothing.
-use Rattle.basics.specs.Words.{ℕ, List, [], ◌∷◌, length, leb, ℤ, pos}
+use Rattle.std.specs.Prelude.{◌∷◌}
+use Rattle.basics.specs.Words.{ℕ, List, [], length, leb, ℤ, pos}
 use Rattle.basics.specs.Meaning.Refusals.{pick}
 use Rattle.slots.specs.declared.Handle.{Handle}
 use Rattle.trace_lines.specs.declared.Spot.{Spot}

@@ -1,5 +1,6 @@
 -- What is taken off the front of a list of fields: a value and the fields behind it, or nothing, where they do not read so. Assumes nothing.
-use Rattle.basics.specs.Words.{ℕ, Bool, List, [], ◌∷◌, ltb, ℤ, pos}
+use Rattle.std.specs.Prelude.{◌∷◌}
+use Rattle.basics.specs.Words.{ℕ, Bool, List, [], ltb, ℤ, pos}
 use Rattle.basics.specs.Meaning.Refusals.{pick}
 use Rattle.slots.specs.declared.Handle.{Handle}
 use Rattle.trace_decimals.specs.declared.Number.{Number}

@@ -1,5 +1,6 @@
 -- The words that a record may begin with, in ASCII, and what each asks for. Assumes nothing.
-use Rattle.basics.specs.Words.{ℕ, Bool, true, false, ◌&&◌, List, [], ◌∷◌, ◌++◌, eqb}
+use Rattle.std.specs.Prelude.{◌&&◌, ◌∷◌, ◌++◌}
+use Rattle.basics.specs.Words.{ℕ, Bool, true, false, List, [], eqb}
 use Rattle.basics.specs.Meaning.Refusals.{pick}
 use Rattle.trace_lines.specs.declared.Line.{Line}
 use Rattle.trace_lines.specs.declared.Line.TheVariants.{Cell, PointChange, PointSearch, BoxChange, BoxSearch, Unreadable}

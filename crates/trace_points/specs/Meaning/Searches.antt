@@ -1,6 +1,6 @@
 -- The lines that search the points: each is a query of the grid, and says its count; the findings are in the outputs. Assumes nothing.
-use Rattle.basics.specs.Words.{[], ◌∷◌, eqb, ℤ}
-use Rattle.std.specs.Prelude.{Float}
+use Rattle.std.specs.Prelude.{◌∷◌, Float}
+use Rattle.basics.specs.Words.{[], eqb, ℤ}
 use Rattle.basics.specs.Meaning.Refusals.{pick}
 use Rattle.geometry.specs.declared.Position.{Position}
 use Rattle.point_tables.specs.Meaning.Tables.{Tables}

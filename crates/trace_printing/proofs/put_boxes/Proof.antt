@@ -6,36 +6,36 @@ use Rattle.trace_printing.proofs.laws.Puts.{puts_none, puts-length, puts_then, p
 use Rattle.trace_printing.proofs.put_boxes.Statement.{statement}
 use Rattle.trace_printing.proofs.put_boxes.Tie as tie
 
-abbrev invariant-loop : tie.invariant-loop
-invariant-loop out₀ at handles boxes n next₀ i₀ out next i = (i ≤ n) × Puts out₀ at out next (boxes_text handles boxes i) (i * 70)
+abbrev invariant-loop-i : tie.invariant-loop-i
+invariant-loop-i out₀ at handles boxes n next₀ i₀ out next i = (i ≤ n) × Puts out₀ at out next (boxes_text handles boxes i) (i * 70)
 
-abbrev decreases-loop : tie.decreases-loop
-decreases-loop out₀ at handles boxes n next₀ i₀ out next i = n - i
+abbrev decreases-loop-i : tie.decreases-loop-i
+decreases-loop-i out₀ at handles boxes n next₀ i₀ out next i = n - i
 
-put-box-requires : tie.Need-put-box-requires invariant-loop decreases-loop
+put-box-requires : tie.Need-put_box-next-requires invariant-loop-i decreases-loop-i
 put-box-requires c κs =
-    let l = c.before.before.before.before in
-    omega (arith, l.loop.invariant.1.short, puts-length l.loop.invariant.1 (omega arith))
+    let l = c in
+    omega (arith, l.loop-i.invariant.1.short, puts-length l.loop-i.invariant.1 (omega arith))
 
-loop-again : tie.Need-loop-preserved invariant-loop decreases-loop
+loop-again : tie.Need-loop-i-preserved invariant-loop-i decreases-loop-i
 loop-again c =
-    let l = c.before.before.before.before.before.before.before in
-    let s = l.before.before in
-    (omega arith, puts_as (puts_then l.loop.invariant.1 (omega arith) c.before.before.put-box.ensures) (ap (boxes_text s.args.handles.now s.args.boxes.now) (sym (add-one l.loop.i))) (omega arith))
+    let l = c in
+    let s = l in
+    (omega arith, puts_as (puts_then l.loop-i.invariant.1 (omega arith) c.put_box-next.ensures) (ap (boxes_text s.args.handles.now s.args.boxes.now) (sym (add-one l.loop-i.i))) (omega arith))
 
-returns : tie.Need-returns invariant-loop decreases-loop
+returns : tie.Need-returns invariant-loop-i decreases-loop-i
 returns c =
-    let l = c.before in
-    let s = l.before.before in
-    let e : l.loop.i ≡ s.args.n = omega arith in
-    puts_as l.loop.invariant.1 (ap (boxes_text s.args.handles.now s.args.boxes.now) e) (omega (arith, e))
+    let l = c in
+    let s = l in
+    let e : l.loop-i.i ≡ s.args.n = omega arith in
+    puts_as l.loop-i.invariant.1 (ap (boxes_text s.args.handles.now s.args.boxes.now) e) (omega (arith, e))
 
-pub put-boxes-spec : {M : Type 1} → statement M
-put-boxes-spec =
+pub put_boxes_spec : {M : Type 1} → statement M
+put_boxes_spec =
     tie.close
     (tie.spec
-    invariant-loop
-    decreases-loop
+    invariant-loop-i
+    decreases-loop-i
     (λ c. (omega arith, puts_none _ _))
     (λ c. omega arith)
     (λ c. omega arith)
@@ -45,5 +45,5 @@ put-boxes-spec =
     (λ c. omega arith)
     (λ c. omega arith)
     loop-again
-    (λ c. puts-length c.before.loop.invariant.1 (omega arith))
+    (λ c. puts-length c.loop-i.invariant.1 (omega arith))
     returns)

@@ -1,21 +1,21 @@
 -- `trace_printing::put_pair` meets its contract. Assumes nothing.
-use Rattle.basics.specs.Words.{arith, needs}
+use Rattle.basics.specs.Words.{arith, rules}
 use Rattle.trace_printing.proofs.laws.Puts.{puts_then}
 use Rattle.trace_printing.proofs.put_pair.Statement.{statement}
 use Rattle.trace_printing.proofs.put_pair.Tie as tie
 
 returns : tie.Need-returns
 returns c =
-    let p = c.before.before.before.before.before.before in
-    puts_then p.put-number.ensures (omega arith) c.before.before.put-number2.ensures
+    let p = c in
+    puts_then p.put_number-next.ensures (omega arith) c.put_number.ensures
 
-pub put-pair-spec : {M : Type 1} → statement M
-put-pair-spec =
+pub put_pair_spec : {M : Type 1} → statement M
+put_pair_spec =
     tie.close
     (tie.spec
-    (λ c. search needs)
-    (λ c κs. search needs)
-    (λ c. search needs)
-    (λ c κs. search needs)
-    (λ c. search needs)
+    (λ c. search rules)
+    (λ c κs. search rules)
+    (λ c. search rules)
+    (λ c κs. search rules)
+    (λ c. search rules)
     returns)

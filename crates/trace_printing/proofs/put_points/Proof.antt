@@ -6,36 +6,36 @@ use Rattle.trace_printing.proofs.laws.Puts.{puts_none, puts-length, puts_then, p
 use Rattle.trace_printing.proofs.put_points.Statement.{statement}
 use Rattle.trace_printing.proofs.put_points.Tie as tie
 
-abbrev invariant-loop : tie.invariant-loop
-invariant-loop out₀ at handles places objs n next₀ i₀ out next i = (i ≤ n) × Puts out₀ at out next (points_text handles places objs i) (i * 68)
+abbrev invariant-loop-i : tie.invariant-loop-i
+invariant-loop-i out₀ at handles places objs n next₀ i₀ out next i = (i ≤ n) × Puts out₀ at out next (points_text handles places objs i) (i * 68)
 
-abbrev decreases-loop : tie.decreases-loop
-decreases-loop out₀ at handles places objs n next₀ i₀ out next i = n - i
+abbrev decreases-loop-i : tie.decreases-loop-i
+decreases-loop-i out₀ at handles places objs n next₀ i₀ out next i = n - i
 
-put-point-requires : tie.Need-put-point-requires invariant-loop decreases-loop
+put-point-requires : tie.Need-put_point-next-requires invariant-loop-i decreases-loop-i
 put-point-requires c κs =
-    let l = c.before.before.before.before.before in
-    omega (arith, l.loop.invariant.1.short, puts-length l.loop.invariant.1 (omega arith))
+    let l = c in
+    omega (arith, l.loop-i.invariant.1.short, puts-length l.loop-i.invariant.1 (omega arith))
 
-loop-again : tie.Need-loop-preserved invariant-loop decreases-loop
+loop-again : tie.Need-loop-i-preserved invariant-loop-i decreases-loop-i
 loop-again c =
-    let l = c.before.before.before.before.before.before.before.before in
-    let s = l.before.before in
-    (omega arith, puts_as (puts_then l.loop.invariant.1 (omega arith) c.before.before.put-point.ensures) (ap (points_text s.args.handles.now s.args.places.now s.args.objs.now) (sym (add-one l.loop.i))) (omega arith))
+    let l = c in
+    let s = l in
+    (omega arith, puts_as (puts_then l.loop-i.invariant.1 (omega arith) c.put_point-next.ensures) (ap (points_text s.args.handles.now s.args.places.now s.args.objs.now) (sym (add-one l.loop-i.i))) (omega arith))
 
-returns : tie.Need-returns invariant-loop decreases-loop
+returns : tie.Need-returns invariant-loop-i decreases-loop-i
 returns c =
-    let l = c.before in
-    let s = l.before.before in
-    let e : l.loop.i ≡ s.args.n = omega arith in
-    puts_as l.loop.invariant.1 (ap (points_text s.args.handles.now s.args.places.now s.args.objs.now) e) (omega (arith, e))
+    let l = c in
+    let s = l in
+    let e : l.loop-i.i ≡ s.args.n = omega arith in
+    puts_as l.loop-i.invariant.1 (ap (points_text s.args.handles.now s.args.places.now s.args.objs.now) e) (omega (arith, e))
 
-pub put-points-spec : {M : Type 1} → statement M
-put-points-spec =
+pub put_points_spec : {M : Type 1} → statement M
+put_points_spec =
     tie.close
     (tie.spec
-    invariant-loop
-    decreases-loop
+    invariant-loop-i
+    decreases-loop-i
     (λ c. (omega arith, puts_none _ _))
     (λ c. omega arith)
     (λ c. omega arith)
@@ -47,5 +47,5 @@ put-points-spec =
     (λ c. omega arith)
     (λ c. omega arith)
     loop-again
-    (λ c. puts-length c.before.loop.invariant.1 (omega arith))
+    (λ c. puts-length c.loop-i.invariant.1 (omega arith))
     returns)

@@ -1,6 +1,7 @@
 -- What a function that writes says: the text that it put, and at most how long that is. Assumes nothing.
 -- Here: what only inner contracts cite.
-use Rattle.basics.specs.Words.{ℕ, ◌+◌, ◌≤◌, ◌≡◌, List}
+use Rattle.std.specs.Prelude.{◌+◌, ◌≤◌, ◌≡◌}
+use Rattle.basics.specs.Words.{ℕ, List}
 use Rattle.trace_decimals.specs.Meaning.Written.{buffer, put_text}
 
 -- from place `at` of the bytes a on, up to r, where the bytes are then b

@@ -1,7 +1,8 @@
 -- The record that tells an answer: a refusal is its number alone; after 0 come the numbers that there are to tell, and for a query its
 -- count and then slot, version, coordinates, data and tracker of each finding of points; slot, version and corners of boxes. Assumes nothing.
 -- Here: what only inner contracts cite.
-use Rattle.basics.specs.Words.{ℕ, ◌-◌, ◌≤◌}
+use Rattle.std.specs.Prelude.{◌-◌, ◌≤◌}
+use Rattle.basics.specs.Words.{ℕ}
 use Rattle.trace_printing.specs.declared.Said.{Said}
 use Rattle.trace_printing.specs.declared.Said.TheVariants.{Refused, Done, One, Two, Points, Boxes}
 use Rattle.trace_printing.specs.Meaning.Said.{longest}

@@ -1,7 +1,7 @@
 -- The record that tells an answer: a refusal is its number alone; after 0 come the numbers that there are to tell, and for a query its
 -- count and then slot, version, coordinates, data and tracker of each finding of points; slot, version and corners of boxes. Assumes nothing.
-use Rattle.basics.specs.Words.{ℕ, zero, suc, List, [], ◌∷◌, ◌++◌, get_or}
-use Rattle.std.specs.Prelude.{Float}
+use Rattle.std.specs.Prelude.{◌∷◌, ◌++◌, Float}
+use Rattle.basics.specs.Words.{ℕ, zero, suc, List, [], get_or}
 use Rattle.std.specs.Float.{nan}
 use Rattle.trace_decimals.specs.Meaning.Text.{decimal, signed_text}
 use Rattle.trace_sixteenths.specs.Meaning.Sixteenth.{sixteenths_of}

@@ -1,7 +1,8 @@
 -- A record replayed: its request performed on the two grids, and its answer put behind what is written. A trace is its records, one after the
 -- other. Assumes nothing.
 -- Here: what only inner contracts cite.
-use Rattle.basics.specs.Words.{ℕ, List, [], ◌∷◌, ◌++◌}
+use Rattle.std.specs.Prelude.{◌∷◌, ◌++◌}
+use Rattle.basics.specs.Words.{ℕ, List, []}
 use Rattle.trace_replay.specs.Meaning.Replay.{Grids, answer_to, answer_text, grids_of}
 
 -- ---- all of them: what the program writes

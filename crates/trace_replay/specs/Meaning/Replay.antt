@@ -1,14 +1,11 @@
 -- A record replayed: its request performed on the two grids, and its answer put behind what is written. A trace is its records, one after the
 -- other. Assumes nothing.
-use Rattle.basics.specs.Words.{ℕ, ◌≡◌, false, List, replicate, ℤ, pos}
-use Rattle.std.specs.Prelude.{Float}
+use Rattle.std.specs.Prelude.{◌≡◌, Float}
+use Rattle.basics.specs.Words.{ℕ, false, List, replicate, pos}
 use Rattle.std.specs.Float.{fin}
-use Rattle.basics.specs.Meaning.Lent.{Lent}
 use Rattle.trace_decimals.specs.Meaning.Written.{Buffer, put_text}
 use Rattle.point_tables.specs.Meaning.Tables as point
-use Rattle.point_tables.specs.Meaning.Lent as Points
 use Rattle.box_tables.specs.Meaning.Tables as box
-use Rattle.box_tables.specs.Meaning.Lent as Boxes
 use Rattle.trace_printing.specs.Meaning.Said.{record_text}
 use Rattle.trace_lines.specs.Meaning.Requests.{request_of}
 use Rattle.trace_answers.specs.Meaning.State.{State, state, Answered}
@@ -51,9 +48,6 @@ replayed g w = record { after = g; out = w }
 abbrev pub replay_of : Grids → List ℕ → Buffer → Replayed
 replay_of g bytes w = replayed (grids_of (answer_to g bytes)) (put_text w (answer_text (answer_to g bytes)))
 
--- the promise of a record's answer, with the tables behind their references named once: w is what is written before it, v what is written after it
-abbrev pub Replays : List ℕ → Buffer → Buffer
-    → Lent (List (List ℕ)) → Lent (List (List Float)) → Lent (List (List ℤ)) → Lent (List ℕ) → Lent (List (List ℕ)) → Lent (List (List Float)) → Lent (List (List ℕ))
-    → Lent (List (List ℕ)) → Lent (List (List Float)) → Lent (List ℕ) → Lent (List (List ℕ)) → Type 0
-Replays bytes w v a b c d e f g h i j k =
-    replayed (grids (Points.after a b c d e f g) (Boxes.after h i j k)) v ≡ replay_of (grids (Points.before a b c d e f g) (Boxes.before h i j k)) bytes w
+-- the promise of a record's answer: w is what is written before it and g the grids, v and g' are these after it
+abbrev pub Replays : List ℕ → Buffer → Buffer → Grids → Grids → Type 0
+Replays bytes w v g g' = replayed g' v ≡ replay_of g bytes w

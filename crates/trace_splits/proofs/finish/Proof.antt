@@ -1,5 +1,5 @@
 -- `trace_splits::finish` meets its contract. Assumes nothing.
-use Rattle.basics.specs.Words.{ℕ, ◌-◌, min, ◌≡◌, refl, sym, ap, ◌∙◌, Bool, true, false, not, List, [], ◌∷◌, length, take, length-take, eqb, needs}
+use Rattle.basics.specs.Words.{ℕ, ◌-◌, min, ◌≡◌, refl, sym, ap, ◌∙◌, Bool, true, false, not, List, [], ◌∷◌, length, take, length-take, eqb, rules}
 use Rattle.basics.specs.Meaning.Refusals.{pick}
 use Rattle.trace_splits.proofs.laws.LineLaws.{cut_last}
 use Rattle.trace_splits.specs.Meaning.Sofar.{Fed, begun}
@@ -15,12 +15,12 @@ not_empty false r = refl
 
 returns : tie.Need-returns
 returns c =
-    let l = c.before.before.lesser in
+    let l = c.before.before.lesser-n in
     let a = c.before.before.before.before.args in
     let n : l.result ≡ length (take a.s.len a.line.now) = l.ensures ∙ sym (length-take a.s.len a.line.now) in
-    let m : c.lesser2.result ≡ min l.result (length a.line.now - 1) = c.lesser2.ensures ∙ ap (min l.result) c.before.one_less.ensures in
-    let r = cut_last a.line.now a.s.len l.result c.lesser2.result l.ensures m in
-    ap handed (not_empty (eqb l.result 0) (take c.lesser2.result a.line.now) ∙ (λ z. pick (eqb (n z) 0) [] (r z ∷ [])))
+    let m : c.lesser.result ≡ min l.result (length a.line.now - 1) = c.lesser.ensures ∙ ap (min l.result) c.before.one_less-most.ensures in
+    let r = cut_last a.line.now a.s.len l.result c.lesser.result l.ensures m in
+    ap handed (not_empty (eqb l.result 0) (take c.lesser.result a.line.now) ∙ (λ z. pick (eqb (n z) 0) [] (r z ∷ [])))
 
 pub finish_spec : {M : Type 1} → statement M
-finish_spec = tie.close (tie.spec (λ c κs. search needs) (λ c κs. search needs) (λ c κs. search needs) returns)
+finish_spec = tie.close (tie.spec (λ c κs. search rules) (λ c κs. search rules) (λ c κs. search rules) returns)

@@ -1,7 +1,8 @@
 -- Splitting byte by byte with room for few: the first `room` bytes since the last line end are kept, and whether the last of all is a CR.
 -- Of a record the first room - 1 bytes are handed out, so one that is longer than it may be is still seen to be. Assumes nothing.
 -- Here: what only inner contracts cite.
-use Rattle.basics.specs.Words.{ℕ, ◌-◌, List, [], ◌∷◌, length, take, eqb}
+use Rattle.std.specs.Prelude.{◌-◌, ◌∷◌}
+use Rattle.basics.specs.Words.{ℕ, List, [], length, take, eqb}
 use Rattle.basics.specs.Meaning.Refusals.{pick}
 use Rattle.trace_splits.specs.declared.Stepped.{Stepped}
 use Rattle.trace_splits.specs.Meaning.Sofar.{Sofar, Fed, begun, sofar}

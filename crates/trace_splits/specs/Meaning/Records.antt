@@ -1,6 +1,7 @@
 -- The records of an input: it is cut at each CR LF, from left to right. The last record may lack the ending, and nothing after a last CR LF
 -- is no record. Assumes nothing.
-use Rattle.basics.specs.Words.{ℕ, List, [], ◌∷◌}
+use Rattle.std.specs.Prelude.{◌∷◌}
+use Rattle.basics.specs.Words.{ℕ, List, []}
 
 abbrev pub cr : ℕ
 cr = 13

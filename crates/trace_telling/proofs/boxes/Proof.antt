@@ -4,9 +4,9 @@ use Rattle.trace_telling.proofs.laws.Tells.{told_done, told_refused}
 use Rattle.trace_telling.proofs.boxes.Statement.{statement}
 use Rattle.trace_telling.proofs.boxes.Tie as tie
 
-pub boxes-spec : {M : Type 1} → statement M
-boxes-spec =
+pub boxes_spec : {M : Type 1} → statement M
+boxes_spec =
     tie.close
     (tie.spec
-    (λ c. let a = c.before.args in told_done a.answer (Boxes a.count) c.if1.true)
-    (λ c. let a = c.before.args in told_refused a.answer (Boxes a.count) c.if1.false))
+    (λ c. let a = c.args in told_done a.answer (Boxes a.count) c.if-answer-eq0.true)
+    (λ c. let a = c.args in told_refused a.answer (Boxes a.count) c.if-answer-eq0.false))

@@ -8,5 +8,5 @@ pub one_spec : {M : Type 1} → statement M
 one_spec =
     tie.close
     (tie.spec
-    (λ c. let a = c.before.args in told_done a.answer (One a.x) c.if1.true)
-    (λ c. let a = c.before.args in told_refused a.answer (One a.x) c.if1.false))
+    (λ c. let a = c.args in told_done a.answer (One a.x) c.if-answer-eq0.true)
+    (λ c. let a = c.args in told_refused a.answer (One a.x) c.if-answer-eq0.false))

@@ -4,9 +4,9 @@ use Rattle.trace_telling.proofs.laws.Tells.{told_done, told_refused}
 use Rattle.trace_telling.proofs.two.Statement.{statement}
 use Rattle.trace_telling.proofs.two.Tie as tie
 
-pub two-spec : {M : Type 1} → statement M
-two-spec =
+pub two_spec : {M : Type 1} → statement M
+two_spec =
     tie.close
     (tie.spec
-    (λ c. let a = c.before.args in told_done a.answer (Two a.x a.y) c.if1.true)
-    (λ c. let a = c.before.args in told_refused a.answer (Two a.x a.y) c.if1.false))
+    (λ c. let a = c.args in told_done a.answer (Two a.x a.y) c.if-answer-eq0.true)
+    (λ c. let a = c.args in told_refused a.answer (Two a.x a.y) c.if-answer-eq0.false))

@@ -34,7 +34,7 @@ module _ (t : Tables) (h : Handle) (p : Position) (k : ℕ) where
   own-order_matters e =
       let a : set_position_answer t h p k ≡ 0 = sym (set-answer_is t h p k) ∙ e in
       let r = moved_removable t h p k a in
-      let s : set_position_answer (remove_of t h k).after h p k ≡ 1 = removed-stays t h k r p (set-accepted t h p k a).in_domain_lem in
+      let s : set_position_answer (remove_of t h k).after h p k ≡ 1 = removed-stays t h k r p (set-accepted t h p k a).within_domain in
       let refused : (set_position_of (remove_of t h k).after h p k).result ≡ reply 1 0 =
       ap (λ (o : Outcome Reply). o.result) (set-refused (remove_of t h k).after h p k (λ z. omega (arith, s, z))) ∙ ap (λ (n : ℕ). reply n 0) s in
       record {

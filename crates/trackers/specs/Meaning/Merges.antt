@@ -1,7 +1,7 @@
 -- Trackers share a point grid: each deferred call names its tracker, and a merge is a list of such calls. What each tracker sees of it.
 -- Assumes nothing.
-use Rattle.basics.specs.Words.{ℕ, ◌≡◌, List, [], ◌∷◌, map, length, eqb}
-use Rattle.std.specs.Prelude.{Float}
+use Rattle.std.specs.Prelude.{◌≡◌, ◌∷◌, Float}
+use Rattle.basics.specs.Words.{ℕ, List, [], map, length, eqb}
 use Rattle.basics.specs.Meaning.Refusals.{pick}
 use Rattle.point_tables.specs.Meaning.Tables.{Tables}
 use Rattle.point_tables.specs.Meaning.Outcome.{Outcome}

@@ -60,14 +60,14 @@ module _ (t : Tables) (s : Settled t) (cs : List Call) where
       n : Named t g
       n = record { inside = l; occupied = eqb-true _ _ e; version = refl }
 
-      in_domain_lem : InDomain (record_on u i).position
-      in_domain_lem = (u_holds.records i (rw (calls_slots t cs) l) (eqb-true _ _ (live_is ∙ e))).occupied.in_domain_lem
+      within_domain : InDomain (record_on u i).position
+      within_domain = (u_holds.records i (rw (calls_slots t cs) l) (eqb-true _ _ (live_is ∙ e))).occupied.within_domain
 
       of_live : has_moved (record_on u i) ≡ (not gone && differs (last_at g cs (replies t cs) was) was)
       of_live =
           by_test gone
           (λ k. rw k (removed_unmoved (record_on u i) (removed_is t s cs g n ∙ k)))
-          (λ k. rw k (moved_if_headed (record_on u i) in_domain_lem (removed_is t s cs g n ∙ k) ∙ (λ z. differs (headed_is t s cs g n k z) (position_is z))))
+          (λ k. rw k (moved_if_headed (record_on u i) within_domain (removed_is t s cs g n ∙ k) ∙ (λ z. differs (headed_is t s cs g n k z) (position_is z))))
 
     of_slot : ◌≡◌ {A = ℕ} (pick (is_live u i) (pick (has_moved (record_on u i)) 1 0) 0) (pick (displaced t cs g) 1 0)
     of_slot = by_test (is_live t i) (λ e. rw (live_is, good_is, e, of_live e)) (λ e. rw (live_is, good_is, e))

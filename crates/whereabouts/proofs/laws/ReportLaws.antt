@@ -1,5 +1,5 @@
 -- Right after the next maintain a circle that is not refused reports, once each, exactly the points that are due. Assumes nothing.
-use Rattle.basics.specs.Words.{ℕ, zero, suc, ◌<◌, ◌≡◌, sym, ap, ◌∙◌, subst, true, ◌&&◌, List, [], ◌∷◌, List-as-Memᴰ, List·Memᴰ·cases-cons, List·Memᴰ·not-nil}
+use Rattle.basics.specs.Words.{ℕ, zero, suc, ◌<◌, ◌≡◌, sym, ap, ◌∙◌, subst, true, ◌&&◌, List, [], ◌∷◌, Memᴰ, Memᴰ-cases_cons, Memᴰ-not_nil}
 use Rattle.basics.specs.Words.{⊎_elim, length, get_or, T, not-suc-le-zero, le_of_suc-le-suc, arith}
 use lib.Ieee.{Float}
 use lib.Ieee.Fits.{and_l, and_r}
@@ -35,13 +35,13 @@ use Rattle.point_search.proofs.laws.FindLaws.{search_ok, search_done}
 use Rattle.whereabouts.proofs.laws.ShownLaws.{no_entry, entry_of, Shown, shown, reported, Stands, shown_stands}
 
 -- ---- places of a list
-member_at : {A : Type 0} (x d : A) (l : List A) → List-as-Memᴰ x l → (j : ℕ) × (j < length l) × (get_or l j d ≡ x)
-member_at x d [] m = absurd (List·Memᴰ·not-nil m)
+member_at : {A : Type 0} (x d : A) (l : List A) → Memᴰ x l → (j : ℕ) × (j < length l) × (get_or l j d ≡ x)
+member_at x d [] m = absurd (Memᴰ-not_nil m)
 member_at x d (y ∷ l) m =
     ⊎_elim
     (λ e. (0, omega arith, sym e))
     (λ k. let (j, h, q) = member_at x d l k in (suc j, omega arith, q))
-    (List·Memᴰ·cases-cons m)
+    (Memᴰ-cases_cons m)
 
 once_at : (d : Entry) (es : List Entry) → Once es → (i j : ℕ) → j < length es → i < j → slot_of (get_or es i d) ≡ slot_of (get_or es j d) → ⊥
 once_at d [] o i j h g = absurd (not-suc-le-zero h)
@@ -118,7 +118,7 @@ module _ (m : Tables) (h : Holds m) (c : Position) (r : Float) (o : Outputs) (a 
 
     q_covered : in_range (cell_at (size_of m) low) (cell_at (size_of m) high) (cell_at (size_of m) q) ≡ true
     q_covered =
-        let inside = (h.records g.slot n.inside n.occupied).occupied.in_domain_lem in
+        let inside = (h.records g.slot n.inside n.occupied).occupied.within_domain in
         circle_cover (size_of m) h.counted.size.0 q c r inside dc dr q_near
 
     shown_at : (j : ℕ) → j < length es → slot_of (at j) ≡ g.slot → Shows j g p d k

@@ -1,7 +1,8 @@
 -- The points that a row of deferred calls has displaced, told by the calls and their replies: what the next maintain counts first.
 -- Assumes nothing.
 -- Here: what only a further theorem cites.
-use Rattle.basics.specs.Words.{ℕ, zero, suc, ◌+◌, Bool, not, ◌&&◌, List}
+use Rattle.std.specs.Prelude.{◌+◌, ◌&&◌}
+use Rattle.basics.specs.Words.{ℕ, zero, suc, Bool, not, List}
 use Rattle.basics.specs.Meaning.Refusals.{pick}
 use Rattle.slots.specs.declared.Handle.{Handle}
 use Rattle.slots.specs.Meaning.Slot.{version_at, good}

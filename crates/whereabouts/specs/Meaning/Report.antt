@@ -1,7 +1,7 @@
 -- What a query reports, read from what it returns and from its outputs, and what a circle has to report after deferred calls and maintain.
 -- Assumes nothing.
-use Rattle.basics.specs.Words.{ℕ, ◌<◌, ◌≡◌, true, false, List, [], ◌∷◌, get_or}
-use Rattle.std.specs.Prelude.{Float}
+use Rattle.std.specs.Prelude.{◌<◌, ◌≡◌, ◌∷◌, Float}
+use Rattle.basics.specs.Words.{ℕ, true, false, List, [], get_or}
 use Rattle.geometry.specs.declared.Position.{Position}
 use Rattle.geometry.specs.Meaning.Circle.{in_circle}
 use Rattle.slots.specs.declared.Handle.{Handle}

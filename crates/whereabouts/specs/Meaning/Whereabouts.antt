@@ -1,6 +1,7 @@
 -- What a row of deferred calls asked for the point of a handle, told by the calls and their replies alone: only a call that was answered 0
 -- counts. Assumes nothing.
-use Rattle.basics.specs.Words.{Bool, false, not, ◌&&◌, ◌||◌, List, [], ◌∷◌, eqb}
+use Rattle.std.specs.Prelude.{◌&&◌, ◌||◌, ◌∷◌}
+use Rattle.basics.specs.Words.{Bool, false, not, List, [], eqb}
 use Rattle.basics.specs.Meaning.Refusals.{pick}
 use Rattle.geometry.specs.declared.Position.{Position}
 use Rattle.slots.specs.declared.Handle.{Handle}

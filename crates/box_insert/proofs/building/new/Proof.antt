@@ -1,5 +1,5 @@
 -- `box_insert::building::new` meets its contract. Assumes nothing.
-use Rattle.basics.specs.Words.{◌≡◌, sym, ap, ◌∙◌, arith, needs}
+use Rattle.basics.specs.Words.{◌≡◌, sym, ap, ◌∙◌, arith, rules}
 use Rattle.basics.specs.Meaning.Refusals.{first_of}
 use Rattle.basics.specs.Meaning.Outcome.{outcome}
 use Rattle.basics.proofs.laws.Says.{says_same}
@@ -16,50 +16,50 @@ abbrev at_entry : tie.Start → Tables
 at_entry c = tables c.args.nums.now c.args.reals.now c.args.map.now c.args.pool.now
 
 -- the answer is that of the two tests
-module _ (a : tie.After-answer) where
+module _ (a : tie.After-answer-a) where
   abbrev start : tie.Start
   start = a.before.before.before
 
-  answered : a.answer.result ≡ new_answer (at_entry start) start.args.size
+  answered : a.answer-a.result ≡ new_answer (at_entry start) start.args.size
   unfolding new_answer
   answered =
-      a.answer.ensures
-      ∙ ap (λ q. first_of (build_tests q start.args.size)) (says_same _ _ a.before.lengths-ok.ensures (sized_says (at_entry start)))
+      a.answer-a.ensures
+      ∙ ap (λ q. first_of (build_tests q start.args.size)) (says_same _ _ a.before.lengths_ok-sized.ensures (sized_says (at_entry start)))
 
-returns : tie.Need-returns
+returns : tie.Need-returns-then-a-ne0
 unfolding new_of new_answer built
 returns c =
     let s = start c.before in
     let t = at_entry s in
-    build_refused t (built t s.args.size) (sized t) (size_ok s.args.size) _ (answered c.before) c.if1.true
+    build_refused t (built t s.args.size) (sized t) (size_ok s.args.size) _ (answered c.before) c.if-a-ne0.true
 
-new-map-requires : tie.Need-new-map-requires
+new-map-requires : tie.Need-new_map-requires
 unfolding new_answer
 new-map-requires c κs =
     let a = c.before.before in
     let t = at_entry (start a) in
-    let z = (sized_says t).yes (build_sized (sized t) (size_ok (start a).args.size) (sym (answered a) ∙ c.before.if1.false)) in
+    let z = (sized_says t).yes (build_sized (sized t) (size_ok (start a).args.size) (sym (answered a) ∙ c.before.if-a-ne0.false)) in
     (z.of_map, omega (arith, z.most))
 
-returns-2 : tie.Need-returns-2
+returns-2 : tie.Need-returns
 unfolding new_of new_answer built
 returns-2 c =
     let m = c.before.before.before.before.before in
     let a = m.before.before.before in
     let s = start a in
     let t = at_entry s in
-    (λ z. outcome 0 (tables (c.before.free-slots.ensures z) s.args.reals.now (m.new-map.ensures z) s.args.pool.now))
-    ∙ build_done t (built t s.args.size) (sized t) (size_ok s.args.size) _ (answered a) m.before.before.if1.false
+    (λ z. outcome 0 (tables (c.before.free_slots.ensures z) s.args.reals.now (m.new_map.ensures z) s.args.pool.now))
+    ∙ build_done t (built t s.args.size) (sized t) (size_ok s.args.size) _ (answered a) m.before.before.if-a-ne0.false
 
 pub new_spec : {M : Type 1} → statement M
 new_spec =
     tie.close
     (tie.spec
-    (λ c κs. search needs)
-    (λ c κs. search needs)
+    (λ c κs. search rules)
+    (λ c κs. search rules)
     returns
     new-map-requires
-    (λ c κs. search needs)
-    (λ c. search needs)
-    (λ c. search needs)
+    (λ c κs. search rules)
+    (λ c. search rules)
+    (λ c. search rules)
     returns-2)

@@ -1,5 +1,5 @@
 -- `box_search::keeping::keep` meets its contract: of the slots passed, those that are kept stand first. Assumes nothing.
-use Rattle.basics.specs.Words.{ℕ, ◌+◌, ◌≤◌, ◌<◌, ◌-◌, ◌≡◌, sym, ap, ◌∙◌, subst, Bool, ⊎_elim, length, get_or, take, arith, needs}
+use Rattle.basics.specs.Words.{ℕ, ◌+◌, ◌≤◌, ◌<◌, ◌-◌, ◌≡◌, sym, ap, ◌∙◌, subst, Bool, ⊎_elim, length, get_or, take, arith, rules}
 use Rattle.geometry.specs.Meaning.Intersects.{intersects}
 use Rattle.box_tables.specs.Meaning.Tables.{aabb_at}
 use Rattle.storage.specs.Meaning.Keyed.{filter}
@@ -7,86 +7,86 @@ use Rattle.box_search.proofs.laws.KeepLaws.{Kept, kept-none, kept_here, kept-tak
 use Rattle.box_search.proofs.keeping.keep.Statement.{statement}
 use Rattle.box_search.proofs.keeping.keep.Tie as tie
 
-abbrev invariant-loop : tie.invariant-loop
-invariant-loop reals q n found₀ k₀ j₀ found k j = (j ≤ n) × Kept (λ s. intersects q (aabb_at reals s)) found₀ found k j
+abbrev invariant-loop-j : tie.invariant-loop-j
+invariant-loop-j reals q n found₀ k₀ j₀ found k j = (j ≤ n) × Kept (λ s. intersects q (aabb_at reals s)) found₀ found k j
 
-abbrev decreases-loop : tie.decreases-loop
-decreases-loop reals q n found₀ k₀ j₀ found k j = n - j
+abbrev decreases-loop-j : tie.decreases-loop-j
+decreases-loop-j reals q n found₀ k₀ j₀ found k j = n - j
 
 -- the places of the code
-module _ (l : tie.At-loop invariant-loop decreases-loop) where
-  abbrev start : tie.Start invariant-loop decreases-loop
+module _ (l : tie.At-loop-j invariant-loop-j decreases-loop-j) where
+  abbrev start : tie.Start invariant-loop-j decreases-loop-j
   start = l.before
 
   abbrev test : ℕ → Bool
   test s = intersects start.args.q (aabb_at start.args.reals.now s)
 
-  inside : l.loop.j < start.args.n → l.loop.j < length start.args.found.now
-  inside h = omega (arith, h, start.pre.most, start.pre.size)
+  inside : l.loop-j.j < start.args.n → l.loop-j.j < length start.args.found.now
+  inside h = omega (arith, h, start.requires.most, start.requires.size)
 
   -- the slot at hand is the one that was found
-  here : l.loop.j < start.args.n → get_or l.loop.found l.loop.j 0 ≡ get_or start.args.found.now l.loop.j 0
-  here h = kept_here test start.args.found.now l.loop.found l.loop.k l.loop.j l.loop.inv.1 (inside h)
+  here : l.loop-j.j < start.args.n → get_or l.loop-j.found l.loop-j.j 0 ≡ get_or start.args.found.now l.loop-j.j 0
+  here h = kept_here test start.args.found.now l.loop-j.found l.loop-j.k l.loop-j.j l.loop-j.invariant.1 (inside h)
 
-in-found : (c : tie.In-loop invariant-loop decreases-loop) → c.before.loop.j < 256
-in-found c = omega (arith, c.loop-test.true, c.before.before.requires.most)
+in-found : (c : tie.In-loop-j invariant-loop-j decreases-loop-j) → c.loop-j.j < 256
+in-found c = omega (arith, c.loop-j-test.true, c.requires.most)
 
-load-box-requires : tie.Need-load-box-requires invariant-loop decreases-loop
+load-box-requires : tie.Need-load_box-requires invariant-loop-j decreases-loop-j
 load-box-requires c κs =
-    let l = c.before.before.before in
-    let h = c.before.before.loop-test.true in
-    let a = (start l).args in
-    subst (λ s. s < length a.reals.now) (sym (c.wide.ensures ∙ here l h)) ((start l).requires.each l.loop.j h)
+    let l = c in
+    let h = c.loop-j-test.true in
+    let a = (start c.before.before.before.before).args in
+    subst (λ s. s < length a.reals.now) (sym (c.wide.ensures ∙ here c.before.before.before.before h)) ((start c.before.before.before.before).requires.each l.loop-j.j h)
 
 -- the place to keep it at
-room : (c : tie.Then1 invariant-loop decreases-loop) → c.before.before.before.before.before.before.loop.k < 256
+room : (c : tie.Then-intersects invariant-loop-j decreases-loop-j) → c.loop-j.k < 256
 room c =
-    let l = c.before.before.before.before.before.before in
-    omega (arith, l.loop.invariant.1.few, in-found c.before.before.before.before.before)
+    let l = c in
+    omega (arith, l.loop-j.invariant.1.few, in-found c.before.before.before.before.before.before)
 
 -- what the test said of it
-said : (c : tie.After-intersects invariant-loop decreases-loop) → let l = c.before.before.before.before.before in c.intersects.result ≡ test l (get_or l.loop.found l.loop.j 0)
+said : (c : tie.After-intersects invariant-loop-j decreases-loop-j) → let l = c in c.intersects.result ≡ test c.before.before.before.before.before.before (get_or l.loop-j.found l.loop-j.j 0)
 said c =
-    let l = c.before.before.before.before.before in
-    let a = (start l).args in
-    c.intersects.ensures ∙ ap (intersects a.q) (c.before.load-box.ensures ∙ ap (aabb_at a.reals.now) c.before.before.wide.ensures)
+    let l = c in
+    let a = (start c.before.before.before.before.before.before).args in
+    c.intersects.ensures ∙ ap (intersects a.q) (c.load_box.ensures ∙ ap (aabb_at a.reals.now) c.wide.ensures)
 
-loop-again : tie.Need-loop-preserved invariant-loop decreases-loop
+loop-again : tie.Need-loop-j-preserved invariant-loop-j decreases-loop-j
 loop-again c =
-    let l = c.before.before.before.before.before.before in
-    let h = c.before.before.before.before.before.loop-test.true in
-    let fs = (start l).args.found.now in
-    let s = get_or l.loop.found l.loop.j 0 in (
+    let l = c in
+    let h = c.loop-j-test.true in
+    let fs = (start c.before.before.before.before.before.before.before).args.found.now in
+    let s = get_or l.loop-j.found l.loop-j.j 0 in (
       omega arith,
       ⊎_elim
-          (λ w. kept_as (test l) fs _ _ _ _ (l.loop.j + 1) w.1 w.2 (kept-taken (test l) fs l.loop.found l.loop.k l.loop.j l.loop.invariant.1 (inside l h) s (here l h) (sym (said c.before) ∙ w.0.taken)))
-          (λ w. kept_as (test l) fs _ _ _ _ (l.loop.j + 1) w.1 w.2 (kept-passed (test l) fs l.loop.found l.loop.k l.loop.j l.loop.invariant.1 (inside l h) s (here l h) (sym (said c.before) ∙ w.0.left)))
-          c.if1.branch,
+          (λ w. kept_as (test c.before.before.before.before.before.before.before) fs _ _ _ _ (l.loop-j.j + 1) w.found-is w.k-is (kept-taken (test c.before.before.before.before.before.before.before) fs l.loop-j.found l.loop-j.k l.loop-j.j l.loop-j.invariant.1 (inside c.before.before.before.before.before.before.before h) s (here c.before.before.before.before.before.before.before h) (sym (said c.before) ∙ w.if-intersects.true)))
+          (λ w. kept_as (test c.before.before.before.before.before.before.before) fs _ _ _ _ (l.loop-j.j + 1) w.found-is w.k-is (kept-passed (test c.before.before.before.before.before.before.before) fs l.loop-j.found l.loop-j.k l.loop-j.j l.loop-j.invariant.1 (inside c.before.before.before.before.before.before.before h) s (here c.before.before.before.before.before.before.before h) (sym (said c.before) ∙ w.if-intersects.false)))
+          c.if-intersects.branch-raw,
     )
 
-returns : tie.Need-returns invariant-loop decreases-loop
+returns : tie.Need-returns invariant-loop-j decreases-loop-j
 returns c =
-    let l = c.before in
-    let a = (start l).args in
-    let p = l.loop.invariant.1 in
-    let e : l.loop.j ≡ a.n = omega arith in
-    (omega (arith, p.few, l.loop.invariant.0), p.first ∙ ap (λ j. filter (test l) (take j a.found.now)) e, p.size ∙ (start l).requires.size)
+    let l = c in
+    let a = (start c.before).args in
+    let p = l.loop-j.invariant.1 in
+    let e : l.loop-j.j ≡ a.n = omega arith in
+    (omega (arith, p.few, l.loop-j.invariant.0), p.first ∙ ap (λ j. filter (test c.before) (take j a.found.now)) e, p.size ∙ (start c.before).requires.size)
 
 pub keep_spec : {M : Type 1} → statement M
 keep_spec =
     tie.close
     (tie.spec
-    invariant-loop
-    decreases-loop
+    invariant-loop-j
+    decreases-loop-j
     (λ c. (omega arith, kept-none _ c.args.found.now))
-    (λ c. let h = in-found c in search needs)
-    in-found
-    (λ c κs. search needs)
+    (λ c. let h = in-found c in search rules)
+    (λ c. in-found c.before)
+    (λ c κs. search rules)
     load-box-requires
-    (λ c κs. search needs)
-    (λ c. let h = room c in search needs)
+    (λ c κs. search rules)
+    (λ c. let h = room c in search rules)
     room
-    (λ c. let h = room c in search needs)
+    (λ c. let h = room c in search rules)
     (λ c. omega arith)
     (λ c. omega arith)
     loop-again

@@ -1,6 +1,6 @@
 -- `box_tables::guess::digits` meets its contract. Assumes nothing.
 use Rattle.basics.specs.Words.{ℕ, suc, ◌-◌, ◌%◌, ◌<◌, ◌≡◌, refl, sym, subst, Bool, true, false, cond, ltb, ℤ, pos, negsuc, ◌-ℤ◌, arith, ltb-true, ltb-false}
-use Rattle.basics.specs.Words.{needs}
+use Rattle.basics.specs.Words.{rules}
 use lib.Signed.{mag}
 use mir.Syntax.{w32}
 use mir.Val.{SFits, to_z}
@@ -22,5 +22,5 @@ shifted b = go (b % 2147483648) (omega arith)
     go : (n : ℕ) → n < 2147483648 → SFits w32 (to_z w32 n -ℤ pos 1262485504)
     go n h = subst (λ (z : ℤ). SFits w32 (z -ℤ pos 1262485504)) (sym (to_z_pos w32 n h)) (record { sfits = small n h })
 
-pub digits-spec : {M : Type 1} → statement M
-digits-spec = tie.close (tie.spec (λ c. search needs) (λ c. shifted c.args.b) (λ c. search needs))
+pub digits_spec : {M : Type 1} → statement M
+digits_spec = tie.close (tie.spec (λ c. search rules) (λ c. shifted c.args.b) (λ c. search rules))

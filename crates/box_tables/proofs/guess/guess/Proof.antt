@@ -1,5 +1,5 @@
 -- `box_tables::guess::guess` meets its contract. Assumes nothing.
-use Rattle.basics.specs.Words.{T, needs}
+use Rattle.basics.specs.Words.{T, rules}
 use lib.Ieee.{binary32, of_bits}
 use lib.Ieee.Scale.{finite}
 use Rattle.box_tables.proofs.laws.NumberLaws.{guess_number}
@@ -15,5 +15,5 @@ middle-finite : T (finite (of_bits binary32 1262485504))
 unfolding of_bits
 middle-finite = tt
 
-pub guess-spec : {M : Type 1} → statement M
-guess-spec = tie.close (tie.spec (λ c. guess_number c.args.x c.args.rate _ _ c.requires.1 c.requires.0 less-finite middle-finite) (λ c κs. search needs) (λ c. search needs))
+pub guess_spec : {M : Type 1} → statement M
+guess_spec = tie.close (tie.spec (λ c. guess_number c.args.x c.args.rate _ _ c.requires.1 c.requires.0 less-finite middle-finite) (λ c κs. search rules) (λ c. search rules))

@@ -1,5 +1,5 @@
 -- `box_tables::guess::rate_of` meets its contract: a cell size is a binary32. Assumes nothing.
-use Rattle.basics.specs.Words.{ℕ, ◌≤◌, ◌<◌, ◌^◌, ◌≡◌, sym, ◌∙◌, subst, T, le→leb, ℤ, pos, arith, needs}
+use Rattle.basics.specs.Words.{ℕ, ◌≤◌, ◌<◌, ◌^◌, ◌≡◌, sym, ◌∙◌, subst, T, le→leb, ℤ, pos, arith, rules}
 use lib.Ieee.{binary32, in_float, of_bits, fits, le, lt, eq}
 use mir.Syntax.{w64}
 use mir.Val.{to_z}
@@ -22,12 +22,12 @@ zero_in : T (in_domain (of_bits binary32 0))
 unfolding of_bits fits le lt eq
 zero_in = tt
 
-pub rate-of-spec : {M : Type 1} → statement M
-rate-of-spec =
+pub rate_of_spec : {M : Type 1} → statement M
+rate_of_spec =
     tie.close
     (tie.spec
-    (λ c. search needs)
-    (λ c. subst (λ (z : ℤ). T (in_float binary32 z)) (sym (signed c.before.args.size c.before.requires.1)) (held c.before.args.size c.before.requires.1))
-    (λ c κs. search needs)
-    (λ c. subst T (sym c.if1.true ∙ c.before.in-domain.ensures) tt)
+    (λ c. search rules)
+    (λ c. subst (λ (z : ℤ). T (in_float binary32 z)) (sym (signed c.args.size c.requires.1)) (held c.args.size c.requires.1))
+    (λ c κs. search rules)
+    (λ c. subst T (sym c.if-in_domain.true ∙ c.in_domain.ensures) tt)
     (λ c. zero_in))

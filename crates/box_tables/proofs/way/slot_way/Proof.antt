@@ -1,5 +1,5 @@
 -- `box_tables::way::slot_way` meets its contract. Assumes nothing.
-use Rattle.basics.specs.Words.{refl, sym, ap, ◌∙◌, [], ◌∷◌, arith, not-true, not-false, needs}
+use Rattle.basics.specs.Words.{refl, sym, ap, ◌∙◌, [], ◌∷◌, arith, rules}
 use Rattle.basics.specs.Meaning.Says.{Says}
 use Rattle.basics.proofs.laws.Says.{apart}
 use Rattle.slots.specs.Meaning.Map.{usable}
@@ -12,43 +12,43 @@ use Rattle.box_tables.proofs.way.slot_way.Statement.{statement}
 use Rattle.box_tables.proofs.way.slot_way.Tie as tie
 
 -- what the test of version, phase and bit says
-told : (c : tie.After-slot-ok) → let a = c.before.before.before.before.args in Says c.Slot-ok.result (SlotHolds (version_at a.nums.now a.s) (phase_at a.nums.now a.s) (usable a.map.now a.s))
-told c = let a = c.before.before.before.before.args in said-slot a.map.now a.s c.before.is-usable.result _ _ c.Slot-ok.result c.before.is-usable.ensures c.Slot-ok.ensures
+told : (c : tie.After-slot_ok) → let a = c.args in Says c.slot_ok.result (SlotHolds (version_at a.nums.now a.s) (phase_at a.nums.now a.s) (usable a.map.now a.s))
+told c = let a = c.args in said-slot a.map.now a.s c.is_usable-mapped.result _ _ c.slot_ok.result c.is_usable-mapped.ensures c.slot_ok.ensures
 
-returns : tie.Need-returns
-returns c = given-none _ refl (λ h. apart (sym (not-true _ c.if1.true) ∙ (told c.before).no h.slot))
+returns : tie.Need-returns-then-not-slot_ok
+returns c = given-none _ refl (λ h. apart (sym c.if-not-slot_ok.true ∙ (told c.before).no h.slot))
 
-returns-2 : tie.Need-returns-2
+returns-2 : tie.Need-returns-then-n-ne-LIVE
 returns-2 r =
-    let c = r.before in
-    let a = c.before.before.before.before.before.before.args in
-    let w = way_none a.nums.now a.reals.now a.size a.s c.if2.true in
-    given-some _ _ ((λ z. 1 ∷ 0 ∷ 1 ∷ r.item_of.ensures z ∷ []) ∙ sym w) (λ e. omega (arith, e, ap jump_in w)) (record { slot = (told c.before.before).yes (not-false _ c.before.if1.false); if_live = λ p. absurd (c.if2.true p) })
+    let c = r in
+    let a = c.args in
+    let w = way_none a.nums.now a.reals.now a.size a.s c.if-n-ne-LIVE.true in
+    given-some _ _ ((λ z. 1 ∷ 0 ∷ 1 ∷ r.item_of-item.ensures z ∷ []) ∙ sym w) (λ e. omega (arith, e, ap jump_in w)) (record { slot = (told c.before.before.before).yes c.if-not-slot_ok.false; if_live = λ p. absurd (c.if-n-ne-LIVE.true p) })
 
-returns-3 : tie.Need-returns-3
+returns-3 : tie.Need-returns
 returns-3 c =
-    let d = c.before.before in
-    let a = d.before.before.before.before.before.args in
-    let l = c.live-way.ensures in
-    let w = sym (way_live a.nums.now a.reals.now a.size a.s c.before.if2.false) in
+    let d = c in
+    let a = d.args in
+    let l = c.live_way.ensures in
+    let w = sym (way_live a.nums.now a.reals.now a.size a.s c.if-n-ne-LIVE.false) in
     record {
-      some = λ e. let g = l.some e in (record { slot = (told d.before).yes (not-false _ d.if1.false); if_live = λ p. g.0 }, g.1 ∙ w);
-      none = λ e h. l.none e (h.if-live c.before.if2.false);
+      some = λ e. let g = l.some e in (record { slot = (told c.before.before.before).yes d.if-not-slot_ok.false; if_live = λ p. g.0 }, g.1 ∙ w);
+      none = λ e h. l.none e (h.if_live c.if-n-ne-LIVE.false);
     }
 
-pub slot-way-spec : {M : Type 1} → statement M
-slot-way-spec =
+pub slot_way_spec : {M : Type 1} → statement M
+slot_way_spec =
     tie.close
     (tie.spec
-    (λ c. search needs)
-    (λ c. search needs)
-    (λ c κs. search needs)
-    (λ c. search needs)
-    (λ c. search needs)
-    (λ c κs. search needs)
+    (λ c. search rules)
+    (λ c. search rules)
+    (λ c κs. search rules)
+    (λ c. search rules)
+    (λ c. search rules)
+    (λ c κs. search rules)
     returns
-    (λ c. search needs)
-    (λ c κs. search needs)
+    (λ c. search rules)
+    (λ c κs. search rules)
     returns-2
-    (λ c κs. search needs)
+    (λ c κs. search rules)
     returns-3)

@@ -16,34 +16,34 @@ at_entry s = poolless s.args.nums.now s.args.reals.now s.args.ints.now s.args.ma
 abbrev asked : tie.Start → Call
 asked s = call s.args.kind s.args.h s.args.at s.args.tracker
 
-returns : tie.Need-returns
-returns c = let s = c.before.before.before.before.before.before in refused (at_entry s) (asked s) _ c.before.refusal.ensures c.if1.true
+returns : tie.Need-returns-then-a-ne0
+returns c = let s = c in refused (at_entry c.before.before.before) (asked c.before.before.before) _ c.refusal-a.ensures c.if-a-ne0.true
 
-work-requires : tie.Need-work-requires
+work-requires : tie.Need-work-d-requires
 work-requires c κs =
-    let s = c.before.before.before.before.before.before.before.before.before.before.before in
-    let w = held-accepted (at_entry s) (asked s) (sym c.before.before.before.before.before.before.refusal.ensures ∙ c.before.before.before.before.before.if1.false) in
-    (s.requires, subst (λ (n : ℕ). Workable (at_entry s) n s.args.kind s.args.at) (sym c.before.before.before.before.wide.ensures) w)
+    let s = c in
+    let w = held-accepted (at_entry c.before.before.before.before.before.before.before.before) (asked c.before.before.before.before.before.before.before.before) (sym c.refusal-a.ensures ∙ c.if-a-ne0.false) in
+    (s.requires, subst (λ (n : ℕ). Workable (at_entry c.before.before.before.before.before.before.before.before) n s.args.kind s.args.at) (sym c.wide-s.ensures) w)
 
-returns-2 : tie.Need-returns-2
+returns-2 : tie.Need-returns
 returns-2 c =
-    let s = c.before.before.before.before.before.before.before.before.before.before.before.before.before.before.before.before in
-    done (at_entry s) _ (asked s) _ _ c.before.before.before.before.before.before.before.before.before.before.before.refusal.ensures c.before.before.before.before.before.before.before.before.before.before.if1.false
-    (c.before.before.before.before.work.ensures ∙ ap (λ (n : ℕ). worked (at_entry s) n s.args.kind s.args.at) c.before.before.before.before.before.before.before.before.before.wide.ensures)
+    let s = c in
+    done (at_entry c.before.before.before.before.before.before.before.before.before.before.before.before.before) _ (asked c.before.before.before.before.before.before.before.before.before.before.before.before.before) _ _ c.refusal-a.ensures c.if-a-ne0.false
+    (c.work-d.ensures ∙ ap (λ (n : ℕ). worked (at_entry c.before.before.before.before.before.before.before.before.before.before.before.before.before) n s.args.kind s.args.at) c.wide-s.ensures)
 
-pub deferred-spec : {M : Type 1} → statement M
-deferred-spec =
+pub deferred_spec : {M : Type 1} → statement M
+deferred_spec =
     tie.close
     (tie.spec
-    (λ c κs. (c.before.before.before.before.requires.of-reals, c.before.before.before.before.requires.of-ints))
+    (λ c κs. (c.requires.of_reals, c.requires.of_ints))
     (λ c. refl)
     (λ c. refl)
     (λ c. refl)
     returns
     (λ c κs. tt)
     work-requires
-    (λ c. c.before.before.before.nums.given)
-    (λ c. c.before.before.reals.given)
-    (λ c. c.before.ints.given)
-    (λ c. c.cells.given)
+    (λ c. c.nums-1.given)
+    (λ c. c.reals-1.given)
+    (λ c. c.ints-1.given)
+    (λ c. c.cells-1.given)
     returns-2)

@@ -1,5 +1,5 @@
 -- `point_deferred::call::work` meets its contract. Assumes nothing.
-use Rattle.basics.specs.Words.{◌<◌, length, arith, needs}
+use Rattle.basics.specs.Words.{◌<◌, length, arith, rules}
 use Rattle.point_tables.specs.Meaning.Tables.{Tables}
 use Rattle.point_deferred.specs.Inner.Held.{poolless}
 use Rattle.point_deferred.proofs.Shared.{made, rising}
@@ -12,43 +12,43 @@ at_entry s = poolless s.args.nums.now s.args.reals.now s.args.ints.now s.args.ma
 
 -- the slot's row of cells
 inside : (s : tie.Start) → s.args.s < length s.args.ints.now
-inside s = omega (arith, s.requires.1.inside, s.requires.0.of-ints)
+inside s = omega (arith, s.requires.1.inside, s.requires.0.of_ints)
 
-mark-cell-requires : tie.Need-mark-cell-requires
-mark-cell-requires c κs = let s = c.before.before.before.before.before.before.before in rising (at_entry s) _ s.requires.0 c.before.index_of.ensures
+mark-cell-requires : tie.Need-mark_cell-requires
+mark-cell-requires c κs = let s = c in rising (at_entry c.before.before.before.before.before.before.before) _ s.requires.0 c.index_of-rows.ensures
 
 pend-requires : tie.Need-pend-requires
 pend-requires c κs =
-    let s = c.before.before.before.before.before.before.before.before.before.before.before.before.before in
+    let s = c in
     let p = s.requires in
-    (p.1.inside, omega (arith, p.1.inside, p.0.of-reals), inside s, p.0.size, p.1.in-domain)
+    (p.1.inside, omega (arith, p.1.inside, p.0.of_reals), inside c.before.before.before.before.before.before.before.before.before.before.before.before.before, p.0.size, p.1.within_domain)
 
 returns : tie.Need-returns
 returns c =
-    let a = c.before.before.before.before.before.before.before.before.before.before.before.before.before.before.before.before.before.args in
-    let m = c.before.before.before.before.before.before.before.before.before in
+    let a = c.args in
+    let m = c in
     made a.nums.now a.reals.now a.ints.now a.map.now a.cells.now a.s a.kind a.at _ _ _ _ _ _ _ _
-    m.before.before.before.before.before.cell_in.ensures
-    m.before.before.before.before.key_of.ensures
-    m.before.before.index_of.ensures
-    m.mark-cell.ensures
-    c.before.before.before.pend.ensures
+    m.cell_in.ensures
+    m.key_of-k.ensures
+    m.index_of-rows.ensures
+    m.mark_cell.ensures
+    c.pend.ensures
 
-pub work-spec : {M : Type 1} → statement M
-work-spec =
+pub work_spec : {M : Type 1} → statement M
+work_spec =
     tie.close
     (tie.spec
     (λ c. omega (arith, inside c.before))
     (λ c. inside c.before)
-    (λ c κs. search needs)
-    (λ c κs. search needs)
-    (λ c. search needs)
-    (λ c κs. search needs)
+    (λ c κs. search rules)
+    (λ c κs. search rules)
+    (λ c. search rules)
+    (λ c κs. search rules)
     mark-cell-requires
-    (λ c. search needs)
+    (λ c. search rules)
     pend-requires
-    (λ c. c.before.before.nums.given)
-    (λ c. c.before.reals.given)
-    (λ c. c.ints.given)
-    (λ c. c.before.before.before.before.before.before.before.before.cells.given)
+    (λ c. c.nums-1.given)
+    (λ c. c.reals-1.given)
+    (λ c. c.ints-1.given)
+    (λ c. c.cells-1.given)
     returns)

@@ -3,29 +3,29 @@ use Rattle.basics.specs.Words.{eq-eqb, ne_eqb}
 use Rattle.point_records.proofs.trackers.tracker_of.Statement.{statement}
 use Rattle.point_records.proofs.trackers.tracker_of.Tie as tie
 
-returns : tie.Need-returns
-returns c = simp (eq-eqb _ _ c.if1.true)
+returns : tie.Need-returns-then-k-eq0
+returns c = simp (eq-eqb _ _ c.if-k-eq0.true)
 
-returns-2 : tie.Need-returns-2
-returns-2 c = simp (ne_eqb _ _ c.before.if1.false, eq-eqb _ _ c.if2.true)
+returns-2 : tie.Need-returns-then-k-eq1
+returns-2 c = simp (ne_eqb _ _ c.before.if-k-eq0.false, eq-eqb _ _ c.if-k-eq1.true)
 
-returns-3 : tie.Need-returns-3
-returns-3 c = simp (ne_eqb _ _ c.before.before.if1.false, ne_eqb _ _ c.before.if2.false, eq-eqb _ _ c.if3.true)
+returns-3 : tie.Need-returns-then-k-eq2
+returns-3 c = simp (ne_eqb _ _ c.before.before.if-k-eq0.false, ne_eqb _ _ c.before.if-k-eq1.false, eq-eqb _ _ c.if-k-eq2.true)
 
-returns-4 : tie.Need-returns-4
-returns-4 c = simp (ne_eqb _ _ c.before.before.before.if1.false, ne_eqb _ _ c.before.before.if2.false, ne_eqb _ _ c.before.if3.false, eq-eqb _ _ c.if4.true)
+returns-4 : tie.Need-returns-then-k-eq3
+returns-4 c = simp (ne_eqb _ _ c.before.before.before.if-k-eq0.false, ne_eqb _ _ c.before.before.if-k-eq1.false, ne_eqb _ _ c.before.if-k-eq2.false, eq-eqb _ _ c.if-k-eq3.true)
 
-returns-5 : tie.Need-returns-5
-returns-5 c = simp (ne_eqb _ _ c.before.before.before.before.if1.false, ne_eqb _ _ c.before.before.before.if2.false, ne_eqb _ _ c.before.before.if3.false, ne_eqb _ _ c.before.if4.false, eq-eqb _ _ c.if5.true)
+returns-5 : tie.Need-returns-then-k-eq4
+returns-5 c = simp (ne_eqb _ _ c.before.before.before.before.if-k-eq0.false, ne_eqb _ _ c.before.before.before.if-k-eq1.false, ne_eqb _ _ c.before.before.if-k-eq2.false, ne_eqb _ _ c.before.if-k-eq3.false, eq-eqb _ _ c.if-k-eq4.true)
 
-returns-6 : tie.Need-returns-6
-returns-6 c = simp (ne_eqb _ _ c.before.before.before.before.before.if1.false, ne_eqb _ _ c.before.before.before.before.if2.false, ne_eqb _ _ c.before.before.before.if3.false, ne_eqb _ _ c.before.before.if4.false, ne_eqb _ _ c.before.if5.false, eq-eqb _ _ c.if6.true)
+returns-6 : tie.Need-returns-then-k-eq5
+returns-6 c = simp (ne_eqb _ _ c.before.before.before.before.before.if-k-eq0.false, ne_eqb _ _ c.before.before.before.before.if-k-eq1.false, ne_eqb _ _ c.before.before.before.if-k-eq2.false, ne_eqb _ _ c.before.before.if-k-eq3.false, ne_eqb _ _ c.before.if-k-eq4.false, eq-eqb _ _ c.if-k-eq5.true)
 
-returns-7 : tie.Need-returns-7
-returns-7 c = simp (ne_eqb _ _ c.before.before.before.before.before.before.if1.false, ne_eqb _ _ c.before.before.before.before.before.if2.false, ne_eqb _ _ c.before.before.before.before.if3.false, ne_eqb _ _ c.before.before.before.if4.false, ne_eqb _ _ c.before.before.if5.false, ne_eqb _ _ c.before.if6.false, eq-eqb _ _ c.if7.true)
+returns-7 : tie.Need-returns-then-k-eq6
+returns-7 c = simp (ne_eqb _ _ c.before.before.before.before.before.before.if-k-eq0.false, ne_eqb _ _ c.before.before.before.before.before.if-k-eq1.false, ne_eqb _ _ c.before.before.before.before.if-k-eq2.false, ne_eqb _ _ c.before.before.before.if-k-eq3.false, ne_eqb _ _ c.before.before.if-k-eq4.false, ne_eqb _ _ c.before.if-k-eq5.false, eq-eqb _ _ c.if-k-eq6.true)
 
-returns-8 : tie.Need-returns-8
-returns-8 c = simp (ne_eqb _ _ c.before.before.before.before.before.before.if1.false, ne_eqb _ _ c.before.before.before.before.before.if2.false, ne_eqb _ _ c.before.before.before.before.if3.false, ne_eqb _ _ c.before.before.before.if4.false, ne_eqb _ _ c.before.before.if5.false, ne_eqb _ _ c.before.if6.false, ne_eqb _ _ c.if7.false)
+returns-8 : tie.Need-returns
+returns-8 c = simp (ne_eqb _ _ c.before.before.before.before.before.before.if-k-eq0.false, ne_eqb _ _ c.before.before.before.before.before.if-k-eq1.false, ne_eqb _ _ c.before.before.before.before.if-k-eq2.false, ne_eqb _ _ c.before.before.before.if-k-eq3.false, ne_eqb _ _ c.before.before.if-k-eq4.false, ne_eqb _ _ c.before.if-k-eq5.false, ne_eqb _ _ c.if-k-eq6.false)
 
-pub tracker-of-spec : {M : Type 1} → statement M
-tracker-of-spec = tie.close (tie.spec returns returns-2 returns-3 returns-4 returns-5 returns-6 returns-7 returns-8)
+pub tracker_of_spec : {M : Type 1} → statement M
+tracker_of_spec = tie.close (tie.spec returns returns-2 returns-3 returns-4 returns-5 returns-6 returns-7 returns-8)

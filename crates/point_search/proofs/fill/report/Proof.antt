@@ -1,5 +1,5 @@
 -- `point_search::fill::report` meets its contract. Assumes nothing.
-use Rattle.basics.specs.Words.{ℕ, ◌<◌, ◌≡◌, sym, ap, ◌∙◌, List, length, take, length-take-le, arith, needs}
+use Rattle.basics.specs.Words.{ℕ, ◌<◌, ◌≡◌, sym, ap, ◌∙◌, List, length, take, length-take-le, arith, rules}
 use Rattle.point_search.specs.Meaning.Searches.{Outputs, outputs, room, findings}
 use Rattle.point_search.specs.Inner.Fill.{filled}
 use Rattle.point_search.proofs.laws.FillLaws.{filled_9, filled_put}
@@ -16,29 +16,29 @@ module _ (s : tie.Start) where
   lent = outputs s.args.handles.now s.args.places.now s.args.objs.now
 
   number : s.args.r ≡ length js
-  number = sym (length-take-le s.args.r s.args.found.now s.pre.0.0)
+  number = sym (length-take-le s.args.r s.args.found.now s.requires.0.0)
 
   -- an output that is too short
   short : room lent < s.args.r → let a = s.args in findings (count 9 a.r) lent ≡ filled a.nums.now a.pool.now a.spots.now js lent
   short l = let a = s.args in ap (λ (n : ℕ). findings (count 9 n) lent) number ∙ filled_9 a.nums.now a.pool.now a.spots.now js lent (omega (arith, number))
 
-returns-2 : tie.Need-returns-2
+returns-2 : tie.Need-returns
 returns-2 c =
     let p = c.before.before.before in
     let e = p.before.before.before.before in
     let s = e.before.before.before in
     let a = s.args in
-    filled_put a.nums.now a.pool.now a.spots.now (js s) (lent s) a.r _ (number s) p.put-findings.ensures (omega (arith, e.before.room.ensures, e.if1.false))
+    filled_put a.nums.now a.pool.now a.spots.now (js s) (lent s) a.r _ (number s) p.put_findings.ensures (omega (arith, e.before.room.ensures, e.if-room-r.false))
 
-pub report-spec : {M : Type 1} → statement M
-report-spec =
+pub report_spec : {M : Type 1} → statement M
+report_spec =
     tie.close
     (tie.spec
-    (λ c. search needs)
-    (λ c κs. search needs)
-    (λ c. short c.before.before.before (omega (arith, c.before.room.ensures, c.if1.true)))
-    (λ c κs. search needs)
-    (λ c. search needs)
-    (λ c. search needs)
-    (λ c. search needs)
+    (λ c. search rules)
+    (λ c κs. search rules)
+    (λ c. short c.before.before.before (omega (arith, c.before.room.ensures, c.if-room-r.true)))
+    (λ c κs. search rules)
+    (λ c. search rules)
+    (λ c. search rules)
+    (λ c. search rules)
     returns-2)

@@ -7,54 +7,54 @@ use Rattle.storage.proofs.Tests.{denied}
 use Rattle.storage.proofs.table.rebuild.Statement.{statement}
 use Rattle.storage.proofs.table.rebuild.Tie as tie
 
-abbrev invariant-loop : tie.invariant-loop
-invariant-loop cells₀ pool used rows₀ j₀ cells rows j = (j ≤ used) × Built cells₀ pool j rows cells
+abbrev invariant-loop-j : tie.invariant-loop-j
+invariant-loop-j cells₀ pool used rows₀ j₀ cells rows j = (j ≤ used) × Built cells₀ pool j rows cells
 
-abbrev decreases-loop : tie.decreases-loop
-decreases-loop cells₀ pool used rows₀ j₀ cells rows j = used - j
+abbrev decreases-loop-j : tie.decreases-loop-j
+decreases-loop-j cells₀ pool used rows₀ j₀ cells rows j = used - j
 
 -- there is room for a row
-inside : (c : tie.Then1 invariant-loop decreases-loop) → c.before.before.before.loop.rows < length c.before.before.before.loop.cells
+inside : (c : tie.Then-begins invariant-loop-j decreases-loop-j) → c.loop-j.rows < length c.loop-j.cells
 inside c =
-    let s = c.before.before.before.before in
+    let s = c in
     let a = s.args in
-    let l = c.before.before.before.loop in
-    built-room a.cells.now a.pool.now a.used s.requires.0 s.requires.1 l.j l.rows l.cells c.before.before.loop-test.true l.invariant.1 (c.before.begins.ensures.yes c.if1.true)
+    let l = c.loop-j in
+    built-room a.cells.now a.pool.now a.used s.requires.0 s.requires.1 l.j l.rows l.cells c.loop-j-test.true l.invariant.1 (c.begins.ensures.yes c.if-begins.true)
 
-loop-again : tie.Need-loop-preserved invariant-loop decreases-loop
+loop-again : tie.Need-loop-j-preserved invariant-loop-j decreases-loop-j
 loop-again c =
-    let s = c.before.before.before.before in
+    let s = c in
     let a = s.args in
-    let l = c.before.before.before.loop in
-    let t = c.before.before.loop-test.true in
-    let o = c.before.begins.ensures in (
+    let l = c.loop-j in
+    let t = c.loop-j-test.true in
+    let o = c.begins.ensures in (
       omega arith,
       ⊎_elim
           (λ w.
-          let row : List ℕ = w.1.result ∷ 0 ∷ [] in
-          let e : row ≡ first a.pool.now l.j ∷ 0 ∷ [] = ap (λ (k : ℕ). k ∷ 0 ∷ []) w.1.ensures in
-          let b = built-more a.cells.now a.pool.now a.used s.requires.0 s.requires.1 l.j l.rows l.cells t l.invariant.1 (o.yes w.0.taken) in
-          record { count = w.3 ∙ b.count; table = w.2 ∙ ap (set l.cells l.rows) e ∙ b.table; size = ap length (w.2 ∙ ap (set l.cells l.rows) e) ∙ b.size })
+          let row : List ℕ = w.key_at.result ∷ 0 ∷ [] in
+          let e : row ≡ first a.pool.now l.j ∷ 0 ∷ [] = ap (λ (k : ℕ). k ∷ 0 ∷ []) w.key_at.ensures in
+          let b = built-more a.cells.now a.pool.now a.used s.requires.0 s.requires.1 l.j l.rows l.cells t l.invariant.1 (o.yes w.if-begins.true) in
+          record { count = w.rows-is ∙ b.count; table = w.cells-is ∙ ap (set l.cells l.rows) e ∙ b.table; size = ap length (w.cells-is ∙ ap (set l.cells l.rows) e) ∙ b.size })
           (λ w.
-          let b = built-same a.cells.now a.pool.now a.used s.requires.0 s.requires.1 l.j l.rows l.cells t l.invariant.1 (denied o w.0.left) in
-          record { count = w.2 ∙ b.count; table = w.1 ∙ b.table; size = ap length w.1 ∙ b.size })
-          c.if1.branch,
+          let b = built-same a.cells.now a.pool.now a.used s.requires.0 s.requires.1 l.j l.rows l.cells t l.invariant.1 (denied o w.if-begins.false) in
+          record { count = w.rows-is ∙ b.count; table = w.cells-is ∙ b.table; size = ap length w.cells-is ∙ b.size })
+          c.if-begins.branch-raw,
     )
 
-returns : tie.Need-returns invariant-loop decreases-loop
+returns : tie.Need-returns invariant-loop-j decreases-loop-j
 returns c =
-    let a = c.before.before.args in
-    let l = c.before.loop in
-    let q : l.j ≡ a.used = omega (arith, l.invariant.0, c.loop-test.false) in
+    let a = c.args in
+    let l = c.loop-j in
+    let q : l.j ≡ a.used = omega (arith, l.invariant.0, c.loop-j-test.false) in
     let b : Built a.cells.now a.pool.now a.used l.rows l.cells = subst (λ (j : ℕ). Built a.cells.now a.pool.now j l.rows l.cells) q l.invariant.1 in
     (b.count, b.table)
 
-pub rebuild-spec : {M : Type 1} → statement M
-rebuild-spec =
+pub rebuild_spec : {M : Type 1} → statement M
+rebuild_spec =
     tie.close
     (tie.spec
-    invariant-loop
-    decreases-loop
+    invariant-loop-j
+    decreases-loop-j
     (λ c. (omega arith, built-none c.args.cells.now c.args.pool.now c.args.used c.requires.0 c.requires.1))
     (λ c κs. omega arith)
     (λ c κs. omega arith)
@@ -64,5 +64,5 @@ rebuild-spec =
     (λ c. omega arith)
     (λ c. omega arith)
     loop-again
-    (λ c. c.before.loop.invariant.1.size)
+    (λ c. c.loop-j.invariant.1.size)
     returns)

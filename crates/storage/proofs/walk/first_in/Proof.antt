@@ -13,57 +13,57 @@ use Rattle.storage.proofs.laws.RunLaws.{skip, behind}
 use Rattle.storage.proofs.walk.first_in.Statement.{statement}
 use Rattle.storage.proofs.walk.first_in.Tie as tie
 
-abbrev invariant-loop : tie.invariant-loop
-invariant-loop pool used i low high p₀ p =
+abbrev invariant-loop-p : tie.invariant-loop-p
+invariant-loop-p pool used i low high p₀ p =
     (i ≤ p) × (p ≤ used) × ((j : ℕ) → i ≤ j → j < p → in_window (column_of low) (line_of low) (column_of high) (line_of high) (first pool j) ≡ false)
 
-abbrev decreases-loop : tie.decreases-loop
-decreases-loop pool used i low high p₀ p = used - p
+abbrev decreases-loop-p : tie.decreases-loop-p
+decreases-loop-p pool used i low high p₀ p = used - p
 
 -- past the range's last key there is nothing
-returns : tie.Need-returns invariant-loop decreases-loop
+returns : tie.Need-returns-then-high-key invariant-loop-p decreases-loop-p
 returns c =
     let s = c.before.before.before.before in
     let a = s.args in
-    let l = c.before.before.before.loop in
+    let l = c.before.before.before.loop-p in
     record {
       onward = omega arith;
       within = omega arith;
       passed = λ j p q.
           by_order j l.p
           (λ w. l.invariant.2 j p w)
-          (λ w. behind a.pool.now a.used s.requires.1 s.requires.2 (column_of a.low) (line_of a.low) (column_of a.high) (line_of a.high) l.p (omega arith) (omega (arith, c.if1.true, c.before.key-at.ensures)) j (omega arith) q)
-          (λ w. behind a.pool.now a.used s.requires.1 s.requires.2 (column_of a.low) (line_of a.low) (column_of a.high) (line_of a.high) l.p (omega arith) (omega (arith, c.if1.true, c.before.key-at.ensures)) j (omega arith) q);
+          (λ w. behind a.pool.now a.used s.requires.1 s.requires.2 (column_of a.low) (line_of a.low) (column_of a.high) (line_of a.high) l.p (omega arith) (omega (arith, c.if-high-key.true, c.before.key_at-key.ensures)) j (omega arith) q)
+          (λ w. behind a.pool.now a.used s.requires.1 s.requires.2 (column_of a.low) (line_of a.low) (column_of a.high) (line_of a.high) l.p (omega arith) (omega (arith, c.if-high-key.true, c.before.key_at-key.ensures)) j (omega arith) q);
       here = λ h. absurd (omega arith);
     }
 
 -- the next key, of the key at the place
-from_here : (c : tie.After-next-key invariant-loop decreases-loop) → NextKey (column_of c.before.before.before.before.before.args.low) (line_of c.before.before.before.before.before.args.low) (column_of c.before.before.before.before.before.args.high) (line_of c.before.before.before.before.before.args.high) (first c.before.before.before.before.before.args.pool.now c.before.before.before.before.loop.p) c.next-key.result
+from_here : (c : tie.After-next_key-next invariant-loop-p decreases-loop-p) → NextKey (column_of c.before.before.before.before.before.args.low) (line_of c.before.before.before.before.before.args.low) (column_of c.before.before.before.before.before.args.high) (line_of c.before.before.before.before.before.args.high) (first c.before.before.before.before.before.args.pool.now c.before.before.before.before.loop-p.p) c.next_key-next.result
 from_here c =
     let a = c.before.before.before.before.before.args in
-    subst (λ (k : ℕ). NextKey (column_of a.low) (line_of a.low) (column_of a.high) (line_of a.high) k c.next-key.result) c.before.before.key-at.ensures c.next-key.ensures
+    subst (λ (k : ℕ). NextKey (column_of a.low) (line_of a.low) (column_of a.high) (line_of a.high) k c.next_key-next.result) c.before.before.key_at-key.ensures c.next_key-next.ensures
 
-returns-2 : tie.Need-returns-2 invariant-loop decreases-loop
+returns-2 : tie.Need-returns-then-next-key invariant-loop-p decreases-loop-p
 returns-2 c =
-    let l = c.before.before.before.before.before.loop in
-    record { onward = l.invariant.0; within = l.invariant.1; passed = l.invariant.2; here = λ h. (from_here c.before).here (omega (arith, c.if2.true, c.before.before.before.key-at.ensures)) }
+    let l = c.before.before.before.before.before.loop-p in
+    record { onward = l.invariant.0; within = l.invariant.1; passed = l.invariant.2; here = λ h. (from_here c.before).here (omega (arith, c.if-next-key.true, c.before.before.before.key_at-key.ensures)) }
 
 -- the place moves on
-further : (c : tie.Else2 invariant-loop decreases-loop) → c.before.before.before.before.before.loop.p < length (below row_key c.before.next-key.result (take c.before.before.before.before.before.before.args.used c.before.before.before.before.before.before.args.pool.now))
+further : (c : tie.Else-next-key invariant-loop-p decreases-loop-p) → c.before.before.before.before.before.loop-p.p < length (below row_key c.before.next_key-next.result (take c.before.before.before.before.before.before.args.used c.before.before.before.before.before.before.args.pool.now))
 further c =
     let s = c.before.before.before.before.before.before in
     let a = s.args in
-    let l = c.before.before.before.before.before.loop in
-    low_of row_key c.before.next-key.result [] a.pool.now a.used s.requires.1 s.requires.2 l.p c.before.before.before.before.loop-test.true
-    (omega (arith, (from_here c.before).onward, c.if2.false, c.before.before.before.key-at.ensures))
+    let l = c.before.before.before.before.before.loop-p in
+    low_of row_key c.before.next_key-next.result [] a.pool.now a.used s.requires.1 s.requires.2 l.p c.before.before.before.before.loop-p-test.true
+    (omega (arith, (from_here c.before).onward, c.if-next-key.false, c.before.before.before.key_at-key.ensures))
 
-loop-again : tie.Need-loop-preserved invariant-loop decreases-loop
+loop-again : tie.Need-loop-p-preserved invariant-loop-p decreases-loop-p
 loop-again c =
     let s = c.before.before.before.before.before.before.before in
     let a = s.args in
-    let l = c.before.before.before.before.before.before.loop in
-    let r = c.lower-bound-from in
-    let t = c.before.before.next-key.result in
+    let l = c.before.before.before.before.before.before.loop-p in
+    let r = c.lower_bound_from-p in
+    let t = c.before.before.next_key-next.result in
     let e : r.result ≡ length (below row_key t (take a.used a.pool.now)) = r.ensures in (
       omega (arith, l.invariant.0, further c.before, e),
       omega (arith, e, most_of row_key t [] a.pool.now a.used s.requires.1 s.requires.2),
@@ -72,23 +72,23 @@ loop-again c =
           by_order j l.p (λ w. l.invariant.2 j p w) (λ w. on (omega arith)) (λ w. on (omega arith)),
     )
 
-returns-3 : tie.Need-returns-3 invariant-loop decreases-loop
+returns-3 : tie.Need-returns invariant-loop-p decreases-loop-p
 returns-3 c =
-    let l = c.before.loop in
-    record { onward = l.invariant.0; within = l.invariant.1; passed = l.invariant.2; here = λ h. absurd (omega (arith, h, c.loop-test.false)) }
+    let l = c.before.loop-p in
+    record { onward = l.invariant.0; within = l.invariant.1; passed = l.invariant.2; here = λ h. absurd (omega (arith, h, c.loop-p-test.false)) }
 
-pub first-in-spec : {M : Type 1} → statement M
-first-in-spec =
+pub first_in_spec : {M : Type 1} → statement M
+first_in_spec =
     tie.close
     (tie.spec
-    invariant-loop
-    decreases-loop
+    invariant-loop-p
+    decreases-loop-p
     (λ c. (omega arith, c.requires.0, λ j p q. absurd (omega arith)))
     (λ c κs. omega arith)
     returns
-    (λ c κs. c.if1.false)
+    (λ c κs. c.if-high-key.false)
     returns-2
     (λ c κs. let s = c.before.before.before.before.before.before in (s.requires.1, s.requires.2, omega (arith, further c)))
-    (λ c. omega (arith, further c.before, c.lower-bound-from.ensures, c.before.before.before.before.before.loop-test.true))
+    (λ c. omega (arith, further c.before, c.lower_bound_from-p.ensures, c.before.before.before.before.before.loop-p-test.true))
     loop-again
     returns-3)

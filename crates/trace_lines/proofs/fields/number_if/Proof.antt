@@ -1,27 +1,27 @@
 -- `trace_lines::fields::number_if` meets its contract. Assumes nothing.
-use Rattle.basics.specs.Words.{arith, not-true, not-false, needs}
+use Rattle.basics.specs.Words.{arith, rules}
 use Rattle.trace_lines.proofs.laws.CursorLaws.{end_within, field_from, no_field}
 use Rattle.trace_lines.proofs.fields.number_if.Statement.{statement}
 use Rattle.trace_lines.proofs.fields.number_if.Tie as tie
 
-pub number-if-spec : {M : Type 1} → statement M
-number-if-spec =
+pub number_if_spec : {M : Type 1} → statement M
+number_if_spec =
     tie.close
     (tie.spec
-    (λ c. let a = c.before.before.args in rw (not-true a.asked c.if1.true))
-    (λ c. let a = c.before.before.before.args in rw (not-false a.asked c.before.if1.false, no_field a.b.now a.at c.if2.true))
-    (λ c κs. search needs)
-    (λ c κs. let a = c.before.before.before.before.args in omega (arith, c.field-end.ensures, end_within a.b.now a.at c.before.if2.false))
-    (λ c. search needs)
-    (λ c. let f = c.before.before.before.before in let a = f.before.before.before.before.args in omega (arith, f.field-end.ensures, end_within a.b.now a.at f.before.if2.false))
-    (λ c. search needs)
+    (λ c. let a = c.args in rw (c.if-not-asked.true))
+    (λ c. let a = c.args in rw (c.if-not-asked.false, no_field a.b.now a.at c.if-b-at.true))
+    (λ c κs. search rules)
+    (λ c κs. let a = c.args in omega (arith, c.field_end-end.ensures, end_within a.b.now a.at c.if-b-at.false))
+    (λ c. search rules)
+    (λ c. let f = c in let a = f.args in omega (arith, f.field_end-end.ensures, end_within a.b.now a.at f.if-b-at.false))
+    (λ c. search rules)
     (λ c.
-    let f = c.before.before.before.before in
-    let a = f.before.before.before.before.args in
-    let field = field_from a.b.now a.at f.before.if2.false f.field-end.ensures in
-    rw (not-false a.asked f.before.before.if1.false, field, ← c.before.before.before.read_number.ensures, c.before.n.given.1))
+    let f = c in
+    let a = f.args in
+    let field = field_from a.b.now a.at f.if-b-at.false f.field_end-end.ensures in
+    rw (f.if-not-asked.false, field, ← c.read_number-n.ensures, c.in-Read.is))
     (λ c.
-    let f = c.before.before.before in
-    let a = f.before.before.before.before.args in
-    let field = field_from a.b.now a.at f.before.if2.false f.field-end.ensures in
-    rw (not-false a.asked f.before.before.if1.false, field, ← c.before.before.read_number.ensures, c.enum_told.given.1)))
+    let f = c in
+    let a = f.args in
+    let field = field_from a.b.now a.at f.if-b-at.false f.field_end-end.ensures in
+    rw (f.if-not-asked.false, field, ← c.read_number-n.ensures, c.in-Unreadable.is)))
