@@ -1,4 +1,4 @@
-//! Links the port: the static library that `rt staticlib exports` writes.
+//! Links the port: the static library that `tools/staticlib` writes.
 fn main() {
     println!("cargo:rerun-if-env-changed=EXPORTS_FOLDER");
     let folder = std::env::var("EXPORTS_FOLDER").expect("EXPORTS_FOLDER: the folder of libexports.a");

@@ -1,4 +1,4 @@
-//! Finds the static library that `rt staticlib exports` writes: in the folder that CHAVRUPAS_LIB names, else in target/staticlib of this repository.
+//! Finds the static library that `tools/staticlib` writes: in the folder that CHAVRUPAS_LIB names, else in target/staticlib of this repository.
 use std::env;
 use std::path::PathBuf;
 
@@ -17,7 +17,7 @@ fn main() {
     println!("cargo:rerun-if-changed={}", library.display());
     if !library.is_file() {
         missing(&format!(
-            "there is no {}: run `rt staticlib exports` in the repository, or name the folder of libexports.a in CHAVRUPAS_LIB",
+            "there is no {}: run `tools/staticlib` in the repository, or name the folder of libexports.a in CHAVRUPAS_LIB",
             library.display()
         ));
     }

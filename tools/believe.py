@@ -7,7 +7,7 @@ It follows what is cited, from
 - the statements of the user's demands: the `pub` theorems of the files Demands, BoxDemands and EncoderDemands of crates/demands;
 - with --trace the contracts of the trace: every `pub fn` of trace_replay, and of src/records.rt of trace_blocks; the program of ./trace runs them.
 A definition (abbrev, unfoldable, record, data) is followed in full. A law is followed by its statement alone, and is not counted. A decider (a shut
-definition `f` beside a law `f-says`) is followed by that law's statement: what it decides is believed, not how. A private abbreviation inside a file of the
+definition `f` beside a law `f_says`) is followed by that law's statement: what it decides is believed, not how. A private abbreviation inside a file of the
 demands is part of their statements.
 
 It prints a line for each definition, with file and line, in the order of crates.txt, and counts definitions, lines (without comments and imports) and files.
@@ -74,10 +74,10 @@ def claims(tree, decl):
 
 def decider(tree, decl):
     """The law that says what a shut definition decides."""
-    if decl.kind != 'law' or decl.name.endswith('-says'):
+    if decl.kind != 'law' or decl.name.endswith('_says'):
         return None
     files = [decl.file] + [f for k, f in tree.files.items() if k[0] == decl.file.key[0]]
-    return next((f.decls[decl.name + '-says'] for f in files if decl.name + '-says' in f.decls), None)
+    return next((f.decls[decl.name + '_says'] for f in files if decl.name + '_says' in f.decls), None)
 
 
 def resolve(tree, decl, words):
@@ -116,7 +116,7 @@ def count(decls):
 
 
 def show(tree, decls, how):
-    crates = [l.split(':')[0] for l in read(f'{tree.root}/crates.txt') if ':' in l and not l.startswith('#')]
+    crates = [l.split(':')[0].split()[0] for l in read(f'{tree.root}/crates.txt') if ':' in l and not l.startswith('#')]
     for file in sorted({d.file for d in decls}, key=lambda f: (crates.index(f.key[0]), f.path)):
         there = sorted((d for d in decls if d.file is file), key=lambda d: d.line)
         if how == '--files':

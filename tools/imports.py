@@ -12,7 +12,7 @@ import re
 import sys
 from collections import Counter
 from rename_name import listed
-from tree import Decl, Source, Tree, Words, read
+from tree import Decl, OWN, Source, Tree, Words, read
 
 
 def standing(root):
@@ -20,18 +20,18 @@ def standing(root):
     for line in read(f'{root}/crates.txt'):
         crate, colon, rest = line.split('#')[0].partition(':')
         if colon:
-            deps[crate.strip()] = set(rest.split())
+            deps[crate.split()[0]] = set(rest.split())
     return deps
 
 
 def wrong_use(tree, crate, part, use):
     """What one line imports that is not there."""
-    if not use.path.startswith('Rattle·'):
+    if use.path.split('.')[0] != 'Rattle' or use.path.split('.')[1] not in OWN:
         return
     key = use.key
     if key is None:
         name = use.path.split('.declared.')[-1].split('.')
-        owner = re.match(r'Rattle·(\w+?)(?:·|\.)', use.path)[1]
+        owner = use.path.split('.')[1]
         if not any(re.search(rf'\b(struct|enum) {n}\b', tree.code(owner)) for n in name):
             yield f'no struct {name[0]} in {owner}'
         return

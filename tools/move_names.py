@@ -237,14 +237,14 @@ def needed(tree, moves, file, key):
         meant = tree.meaning(file, word)
         if word in file.decls or word in file.made:
             if moves.at(meant) != key:
-                wanted.setdefault((len(file.raw), path_of(moves.at(meant), key[0])), []).append((meant.line, word, word))
+                wanted.setdefault((len(file.raw), path_of(moves.at(meant))), []).append((meant.line, word, word))
         elif word in file.names:
             use, there = file.names[word]
-            path = path_of(moves.at(meant), key[0]) if isinstance(meant, Decl) else use.path
+            path = path_of(moves.at(meant)) if isinstance(meant, Decl) else use.path
             wanted.setdefault((use.line, path), []).append((use.names.index((there, word)), there, word))
         elif '.' in word and isinstance(meant, (Decl, Use)):
             use = file.aliases[word.split('.')[0]]
-            aliases.setdefault(use, {}).setdefault(path_of(moves.at(meant), key[0]) if isinstance(meant, Decl) else use.path, set()).add(word)
+            aliases.setdefault(use, {}).setdefault(path_of(moves.at(meant)) if isinstance(meant, Decl) else use.path, set()).add(word)
     lines = [(at, l) for (at, path), names in wanted.items() for l in use_lines(path, [(t, h) for _, t, h in sorted(names)])]
     for use, paths in aliases.items():
         for path, alias in renamed(use, paths, decls):
@@ -293,7 +293,7 @@ def write_pieces(tree, moves):
             there = tree.files[key]
             moves.written[key] = mend_uses(tree, moves, there.uses, there.raw, key[0], False).rstrip('\n').split('\n')
         if key in moves.written:
-            moves.written[key] = added(moves.written[key], uses, body, path_of(key, key[0]))
+            moves.written[key] = added(moves.written[key], uses, body, path_of(key))
         else:
             moves.written[key] = file.head + told + mods + uses + [''] * bool(uses or mods or file.head or told) + body
     moves.gone = {f.key for f in moves.files if f.key not in moves.written and not f.mods}
@@ -325,14 +325,14 @@ def mend_uses(tree, moves, uses, lines, crate, ghost):
             paths = {}
             for word in words:
                 if found := tree.find(use.key, word):
-                    paths.setdefault(path_of(moves.at(found), crate), set()).add(f'{use.alias}.{word}')
+                    paths.setdefault(path_of(moves.at(found)), set()).add(f'{use.alias}.{word}')
             parts = list(renamed(use, paths, [stub := Stub(out)]))
             out = stub.lines
             out[use.line] = '\n'.join(f'{marks}use {p}' + ('' if a == p.split('.')[-1] else f' as {a}') + end for p, a in parts)
             continue
         groups = {}
         for there, here in use.names:
-            groups.setdefault(path_of(moves.at(tree.find(use.key, there)), crate), []).append((there, here))
+            groups.setdefault(path_of(moves.at(tree.find(use.key, there))), []).append((there, here))
         out[use.line] = '\n'.join(l for path, names in groups.items() for l in use_lines(path, names, marks, end))
     return '\n'.join(out)
 
@@ -411,30 +411,6 @@ def mend_edits(tree, moves):
             write(path, '\n'.join(lines))
 
 
-def mend_generators(tree, moves):
-    """The `use` lines that scripts in tools/ write out; those that a script puts together are told."""
-    moved = {f.key for f in moves.files}
-
-    def lines(m):
-        key = key_of(m[1])
-        if key not in moved:
-            return m[0]
-        pairs = Use(USE.match(m[0]), 0).names
-        groups, own = {}, key[0] if '·specs' in m[1] or '·proofs' in m[1] else ''
-        for there, here in pairs:
-            groups.setdefault(path_of(moves.at(tree.find(key, there)), own), []).append((there, here))
-        return '\n'.join(l for path, names in groups.items() for l in use_lines(path, names))
-
-    for path in glob.glob(f'{tree.root}/tools/gen_*.py'):
-        text = '\n'.join(read(path))
-        new = re.sub(r'use (Rattle·[\w·]+\.(?:specs|proofs)\.[\w.]+)\.\{([^{}]+)\}', lines, text)
-        for number, line in enumerate(new.split('\n'), 1):
-            if re.search(r'specs\(.*\)\}\.[A-Z]', line):
-                moves.hand.add(f'{path}:{number}: puts a path of specs/ together: {line.strip()[:90]}')
-        if new != text:
-            write(path, new)
-
-
 def homes(moves, file, names, before, behind):
     """The paths of the pieces of a file that have these names, else of the piece with the most."""
     keys, decls = moves.pieces(file), file.decls
@@ -505,7 +481,6 @@ def main():
         pass_parameters(tree, moves)
         write_pieces(tree, moves)
         mend_edits(tree, moves)
-        mend_generators(tree, moves)
         mend_documents(tree, moves)
         write_all(tree, moves)
         print('\n'.join(sorted(moves.given) + [f'BY HAND: {w}' for w in sorted(moves.hand)]))

@@ -7,7 +7,7 @@ def reached(start):
     for line in open('crates.txt'):
         crate, colon, rest = line.split('#')[0].partition(':')
         if colon:
-            deps[crate.strip()] = rest.split()
+            deps[crate.split()[0]] = rest.split()
     seen, todo = set(), list(start)
     while todo:
         crate = todo.pop()

@@ -2,7 +2,7 @@
 """rename_crate.py OLD NEW [OLD NEW ..]: renames crates everywhere, all at once, so that names may change places.
 
 Many crates are called by ordinary words (moves, lines, reads), so a name is changed only where a crate stands: the folders of crates/, the names of
-crates.txt, `Rattle·OLD` and `#old·`, `OLD::` in code, edits and scripts (not where the crate that the file is in has a module of that name), `crates/OLD`,
+crates.txt, `Rattle.OLD`, `OLD::` in code, edits and scripts (not where the crate that the file is in has a module of that name), `crates/OLD`,
 `libOLD.a`, words behind rt, tools/run and reached.py, `OLD/specs`, `OLD/proofs`, `OLD/src` in documents, README's table and picture of crates, what scripts
 quote as a crate; names with a _ in all prose. Then it prints the lines that may still mean a crate (the name in backticks, or beside the word crate), to be
 looked at by hand. Run imports.py, names.py and rt fmt afterwards."""
@@ -35,7 +35,7 @@ def rules(path):
     modules = {os.path.basename(f)[:-3] for f in glob.glob(f'crates/{own[1]}/src/*.rt')} if own else set()
     inside = '|'.join(sorted(set(pairs) - modules, key=len, reverse=True)) or '(?!)'
     dashed = ANY.replace('_', '-')
-    found = [rf'Rattle·(?P<crate>{ANY})(?=[·.])', rf'#(?P<crate>{dashed})(?=·)', rf'(?<![\w/])crates/(?P<crate>{ANY})(?!\w)', rf'\blib(?P<crate>{ANY})\.a\b',
+    found = [rf'Rattle\.(?P<crate>{ANY})(?=\.)', rf'(?<![\w/])crates/(?P<crate>{ANY})(?!\w)', rf'\blib(?P<crate>{ANY})\.a\b',
              rf'(?:\brt (?:check|dev|staticlib|try|must-fail|goals|mir)|tools/run"?|reached\.py)(?: [\w\0]+)*? (?P<crate>{ANY})(?!\w)']
     if not path.endswith('.md'):
         found.append(rf'(?<![\w:.])(?P<crate>{inside})(?=::)')
@@ -54,7 +54,7 @@ def changed(path, text):
     for rule in rules(path):
         while (after := re.sub(rule, new, text)) != text:
             text = after
-    telling = re.compile(rf'(?<![\w·/])(?P<crate>{TELLING})(?!\w|::)')
+    telling = re.compile(rf'(?<![\w/])(?P<crate>{TELLING})(?!\w|::)')
     text = '\n'.join(telling.sub(new, l) if path.endswith('.md') or l.lstrip().startswith(('//', '--')) else l for l in text.split('\n'))
     if path == 'README.md':
         start = text.find('## The crates')

@@ -8,7 +8,9 @@ NAME = r'[^\s(){}.,;"⌜⌝]+'
 WORD = re.compile(rf'(?P<field>(?<![^\s)}}])\.)?(?P<name>{NAME}(?:\.{NAME})*)')
 DECL = re.compile(rf'((?:(?:unfoldable|abbrev|pub) )*)(?:(record|data) ({NAME})|({NAME})(?: \{{[^}}]*\}})? :(?=\s|$))')
 USE = re.compile(r'((?:unfoldable |pub |ghost )*)use ([^{\s]+?)(?:\.\{(.*)\})?(?: as (\S+?))?;?$')
-PATH = re.compile(r'Rattle·(\w+?)(?:·(?:specs|proofs))?\.(specs|proofs)\.(.+)')
+PATH = re.compile(r'Rattle\.(\w+)\.(specs|proofs)\.(.+)')
+# the crates of the tree, which a Tree notes: other modules of Rattle are the toolchain's
+OWN = set()
 FN = re.compile(r'(pub )?(?:extern "C" )?fn (\w+)')
 GROUP = re.compile(r'[({]([^(){}:.,;"]+?) :(?=\s)')
 MARK = re.compile('[\ue000-\uf8ff]')
@@ -36,12 +38,12 @@ def indent(line):
 def key_of(path):
     """(crate, specs or proofs, module) of a path that names a file of crates/, else None."""
     m = PATH.fullmatch(path)
-    return (m[1], m[2], m[3]) if m and not m[3].startswith('declared') else None
+    return (m[1], m[2], m[3]) if m and m[1] in OWN and not m[3].startswith('declared') else None
 
 
-def path_of(key, crate):
-    """How a file of a crate writes the module of key."""
-    return f'Rattle·{key[0]}{"·" + key[1] if key[0] == crate else ""}.{key[1]}.{key[2]}'
+def path_of(key):
+    """How a file writes the module of key."""
+    return f'Rattle.{key[0]}.{key[1]}.{key[2]}'
 
 
 class Use:
@@ -194,7 +196,8 @@ class File:
 class Tree:
     def __init__(self, root='.'):
         self.root, self.files, self.src = root, {}, {}
-        for crate in sorted(os.listdir(f'{root}/crates')):
+        OWN.update(os.listdir(f'{root}/crates'))
+        for crate in sorted(OWN):
             for part in 'specs', 'proofs', 'src':
                 base = f'{root}/crates/{crate}/{part}'
                 for folder, _, names in os.walk(base):
@@ -261,8 +264,8 @@ class Words:
         self.tree, self.file, self.found = tree, file, set()
         if not hasattr(file, 'mixfix'):
             file.mixfix = {}
-            for name in [n for n in [*file.decls, *file.made, *file.names] if '_' in n]:
-                for part in filter(None, name.split('_')):
+            for name in [n for n in [*file.decls, *file.made, *file.names] if '◌' in n]:
+                for part in filter(None, name.split('◌')):
                     file.mixfix.setdefault(part, set()).add(name)
         self.mixfix = file.mixfix
 
@@ -273,6 +276,8 @@ class Words:
     def take(self, word):
         for name in self.mixfix.get(word, ()):
             self.found.add(name)
+        if '.' in word and word.split('.')[0] not in self.file.aliases:  # a field of a value
+            word = word.split('.')[0]
         if self.tree.meaning(self.file, word):
             self.found.add(word)
 

@@ -23,7 +23,7 @@
 //! ```
 //!
 //! # Linking
-//! `rt staticlib exports` in the repository writes `target/staticlib/libexports.a`, which the build script finds there; a folder that is elsewhere is
+//! `tools/staticlib` in the repository writes `target/staticlib/libexports.a`, which the build script finds there; a folder that is elsewhere is
 //! named in the environment variable `CHAVRUPAS_LIB`. x86-64 Linux only.
 //!
 //! # What is proved
