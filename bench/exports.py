@@ -56,10 +56,10 @@ def export(grid, call, name, changed, parameters, result):
     arguments = ', '.join(list(grid) + given)
     value = f'if {call}({arguments}) {{ 1 }} else {{ 0 }}' if result == 'bool' else f'let r = {call}({arguments});\n    r{result}'
     text = f'pub extern "C" fn {name}({", ".join(tables + parameters)}) -> u32 {{\n    {value}\n}}\n'
-    slots = [f'Slice *{t}' for t in grid]
-    for word in re.findall(r'(\w+): (&|u32|f32)', ', '.join(parameters)):
-        slots.append({'&': 'Slice *', 'u32': 'uint32_t ', 'f32': 'float '}[word[1]] + word[0])
-    return '#[no_mangle]\n' + text, ''.join(f'uint32_t {shown}({", ".join(slots)});\n' for shown in (name, name + '_bare'))
+    slots = [f'void *{t}, size_t {t}_n' for t in grid]
+    for word, kind in re.findall(r'(\w+): (&|u32|f32)', ', '.join(parameters)):
+        slots.append({'&': f'void *{word}, size_t {word}_n', 'u32': f'uint32_t {word}', 'f32': f'float {word}'}[kind])
+    return '#[unsafe(no_mangle)]\n' + text, ''.join(f'uint32_t {shown}({", ".join(slots)});\n' for shown in (name, name + '_bare'))
 
 
 # The crate with a check that says `true` of all tables.

@@ -32,11 +32,13 @@ static uint8_t bytes[3600];
 static Slice box_nums = {b.nums, 256}, box_reals = {b.reals, 256}, box_map = {b.map, 3 + 256 / 64}, box_pool = {b.pool, ENTRIES};
 static Slice circles_ = {circles, PICKS}, bytes_ = {bytes, 3600};
 static Slice nums, reals, ints, map, pool, spots, cells, kinds_, handles_, found_, places_, objs_, found_boxes_;
-#define POINTS &nums, &reals, &ints, &map, &pool, &spots, &cells
-#define BOXES &nums, &reals, &map, &pool
-#define MAP_BOXES &box_nums, &box_reals, &box_map, &box_pool
-#define MAP POINTS, MAP_BOXES, &circles_, &bytes_
-#define QUERY &found_, &places_, &objs_
+/* A slice is lent as its start and its length. */
+#define LENT(slice) (slice).start, (slice).length
+#define POINTS LENT(nums), LENT(reals), LENT(ints), LENT(map), LENT(pool), LENT(spots), LENT(cells)
+#define BOXES LENT(nums), LENT(reals), LENT(map), LENT(pool)
+#define MAP_BOXES LENT(box_nums), LENT(box_reals), LENT(box_map), LENT(box_pool)
+#define MAP POINTS, MAP_BOXES, LENT(circles_), LENT(bytes_)
+#define QUERY LENT(found_), LENT(places_), LENT(objs_)
 
 #define OF(b) (b)[0], (b)[1], (b)[2], (b)[3]
 
@@ -91,19 +93,15 @@ static uint32_t nearest_bare(Spot c, float r) { return points_nearest_bare(POINT
 /* Calls of the proved static library, where there is one, to hold the figures of the unproved port to. */
 #ifdef PROVED
 #include "chavrupas.h"
-#define LENT(slice) (slice).start, (slice).length
-#define ALL_POINTS LENT(nums), LENT(reals), LENT(ints), LENT(map), LENT(pool), LENT(spots), LENT(cells)
-#define ALL_BOXES LENT(nums), LENT(reals), LENT(map), LENT(pool)
-#define ALL_MAP LENT(box_nums), LENT(box_reals), LENT(box_map), LENT(box_pool), LENT(circles_), LENT(bytes_)
 static void proved_frame(Slice to) {
-  COUNT("batch proved", 1, chavrupas_points_batch(ALL_POINTS, LENT(kinds_), LENT(handles_), LENT(to), LENT(found_)).answer);
-  COUNT("maintain proved", 1, chavrupas_points_maintain(ALL_POINTS).moved);
-  COUNT("frame map proved", 1, chavrupas_encoder_fill_map(ALL_POINTS, ALL_MAP));
+  COUNT("batch proved", 1, chavrupas_points_batch(POINTS, LENT(kinds_), LENT(handles_), LENT(to), LENT(found_)).answer);
+  COUNT("maintain proved", 1, chavrupas_points_maintain(POINTS).moved);
+  COUNT("frame map proved", 1, chavrupas_encoder_fill_map(MAP));
   UNDONE("circles proved", PICKS,
-         chavrupas_points_query_around(ALL_POINTS, centres[k][0], centres[k][1], 60, LENT(found_), LENT(places_), LENT(objs_)).count);
+         chavrupas_points_query_around(POINTS, centres[k][0], centres[k][1], 60, QUERY).count);
 }
 static void proved_boxes(void) {
-  UNDONE("set_aabb other proved", PICKS, chavrupas_boxes_set_aabb(ALL_BOXES, picked[k], 1, other[k][0], other[k][1], other[k][2], other[k][3]));
+  UNDONE("set_aabb other proved", PICKS, chavrupas_boxes_set_aabb(BOXES, picked[k], 1, other[k][0], other[k][1], other[k][2], other[k][3]));
 }
 #else
 static void proved_frame(Slice to) { (void)to; }
@@ -144,9 +142,9 @@ static void point_frames(void) {
     Slice to = {frames[f], n};
     kept = t;
     proved_frame(to);
-    COUNT("batch", 1, points_batch(POINTS, &kinds_, &handles_, &to, &found_));
+    COUNT("batch", 1, points_batch(POINTS, LENT(kinds_), LENT(handles_), LENT(to), LENT(found_)));
     UNDONE("maintain", 1, points_maintain(POINTS));
-    COUNT("batch bare", 1, points_batch_bare(POINTS, &kinds_, &handles_, &to, &found_));
+    COUNT("batch bare", 1, points_batch_bare(POINTS, LENT(kinds_), LENT(handles_), LENT(to), LENT(found_)));
     COUNT("check pending", 1, point_tables_check(POINTS));
     COUNT("maintain bare", 1, points_maintain_bare(POINTS));
     COUNT("circles", PICKS, around(centres[k], 60));
@@ -194,8 +192,8 @@ static void box_calls(FILE *f) {
   UNDONE("set_aabb other", PICKS, boxes_set_aabb(BOXES, picked[k], 1, OF(other[k])));
   UNDONE("set_aabb other bare", PICKS, boxes_set_aabb_bare(BOXES, picked[k], 1, OF(other[k])));
   proved_boxes();
-  COUNT("query", PICKS, boxes_query(BOXES, OF(asked[k]), &found_, &found_boxes_, &objs_));
-  COUNT("query bare", PICKS, boxes_query_bare(BOXES, OF(asked[k]), &found_, &found_boxes_, &objs_));
+  COUNT("query", PICKS, boxes_query(BOXES, OF(asked[k]), LENT(found_), LENT(found_boxes_), LENT(objs_)));
+  COUNT("query bare", PICKS, boxes_query_bare(BOXES, OF(asked[k]), LENT(found_), LENT(found_boxes_), LENT(objs_)));
   /* One box is out at a time, so that the pool is as full as it can be. */
   for (unsigned i = 0; i < PICKS; i++) {
     uint32_t s = picked[i];

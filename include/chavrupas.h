@@ -1,6 +1,6 @@
 /* Chavrupas: a grid of points and a grid of boxes, for C. Every call has a machine-checked proof of what it answers, writes and leaves alone.
 
-   Build      tools/staticlib           writes target/staticlib/libexports.a; for x86-64 Linux only
+   Build      tools/staticlib            writes target/staticlib/libexports.a; for x86-64 Linux only
    Link       cc -I include yours.c target/staticlib/libexports.a
    Example    examples/frame.c; ./examples/run builds and runs it
 
