@@ -75,7 +75,7 @@ def used(tree, file, name):
     if not hasattr(file, 'words'):
         words = Words(tree, file)
         if isinstance(file, Source):
-            words.text('\n'.join(text for _, text in file.fns.values()), set())
+            words.text(file.cited, set())
         for decl in file.decls.values():
             words.found |= tree.cited(decl)[1]
         file.words = words.found | {w.split('.')[0] + '.' for w in words.found if '.' in w}

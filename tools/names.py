@@ -1,7 +1,7 @@
 #!/usr/bin/env python3
-"""Holds the documents to the tree and to a screen. No line is wider than 160, but in docs/PORT.md, which sets clauses side by side. In docs/PROMISES.md and
-docs/WORDS.md every file that they name is there, and every name in backticks that stands with a file is declared in it; a cell of a table, or a point below a
-point of a list, is read part by part, parted by semicolons. Prints what is not so, and ends in 1 then."""
+"""Holds the documents to the tree and to a screen. No line is wider than 160, but in docs/PORT.md and docs/DESIGN-PASS.md, which set clauses side by
+side. In docs/PROMISES.md and docs/WORDS.md every file that they name is there, and every name in backticks that stands with a file is declared in it; a cell
+of a table, or a point below a point of a list, is read part by part, parted by semicolons. Prints what is not so, and ends in 1 then."""
 import glob
 import os
 import re
@@ -91,6 +91,6 @@ def wide_lines(document):
 
 
 wrong = [line for document in DOCUMENTS for line in wrong_lines(document)]
-wrong += [line for document in ['README.md', 'beside/README.md'] + sorted(set(glob.glob('docs/**/*.md', recursive=True)) - {'docs/PORT.md'}) for line in wide_lines(document)]
+wrong += [line for document in ['README.md', 'beside/README.md'] + sorted(set(glob.glob('docs/**/*.md', recursive=True)) - {'docs/PORT.md', 'docs/DESIGN-PASS.md'}) for line in wide_lines(document)]
 print('\n'.join(wrong) if wrong else f'every name in {" and ".join(DOCUMENTS)} is where it says')
 sys.exit(bool(wrong))

@@ -380,6 +380,10 @@ def contract(lines, i):
     return '\n'.join(text)
 
 
+# A clause of a contract or a ghost member, from its brace to the line's end, or what goes on of one from the line before.
+CLAUSE = re.compile(r'^\s*(?:(?:requires|ensures|ghost)\b.*|[×∷].*)$')
+
+
 class Source:
     """A .rt file as far as contracts go: looks like a File to Words."""
 
@@ -389,6 +393,8 @@ class Source:
         self.names = {here: (u, there) for u in self.uses for there, here in u.names}
         self.aliases = {u.alias: u for u in self.uses if u.alias}
         self.fns = {m[2]: (bool(m[1]), contract(lines, i)) for i, l in enumerate(lines) if (m := FN.match(l))}
+        # what cites names anywhere: the contracts of functions and methods, and the ghost members of types, traits and impls
+        self.cited = '\n'.join(clause for l in lines if not l.startswith('ghost use ') for clause in CLAUSE.findall(l.split('//')[0]))
 
 
 def asked(tree, source, text):

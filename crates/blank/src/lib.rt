@@ -4,44 +4,39 @@
 ghost use Rattle.std.specs.Prelude.{◌+◌, ◌≤◌, ◌≡◌, ◌∷◌, ◌++◌};
 ghost use Rattle.basics.specs.Words.{length, take, drop};
 ghost use Rattle.basics.specs.Meaning.Limits.{most_slots};
+ghost use Rattle.basics.specs.Meaning.Answers.{answer_of};
 ghost use Rattle.basics.specs.Meaning.Refusals.{first_of};
 ghost use Rattle.slots.specs.Meaning.Map.{words_for};
 ghost use Rattle.blank.specs.Meaning.Blank.{free_word, free_words, blank_nums, blank_map, build_tests};
 
+use basics::Refusal;
 use slots::Row;
 
-// The answer of building: 3 where the tables have not the lengths of a grid, 2 for a size of cells outside its limits, else 0.
-pub fn answer(sized: bool, size: u32) -> u32
-    ensures { result ≡ first_of (build_tests sized size) }
+// Whether a grid can be built: not where the tables have not its lengths, nor for a size of cells outside its limits.
+pub fn check(sized: bool, size: u32) -> Result<(), Refusal>
+    ensures { answer_of result ≡ first_of (build_tests sized size) }
 {
     if !sized {
-        return 3;
+        return Err(Refusal::Tables);
     }
     if !cells::size_in_domain(size as u64) {
-        return 2;
+        return Err(Refusal::CellSize);
     }
-    0
+    Ok(())
 }
 
 // Every slot is free at version 1.
 pub fn free_slots(nums: &mut [Row])
     ensures { nums.new ≡ blank_nums (length nums.old) }
 {
-    let mut i = 0;
-    while i < nums.len() {
-        nums[i] = [1, slots::FREE, 0, 0];
-        i += 1;
-    }
+    nums.fill([1, slots::FREE, 0, 0]);
 }
 
 // The word of n slots that are left, each usable.
 fn free_word(n: usize) -> u64
     ensures { result ≡ free_word n }
 {
-    if n >= 64 {
-        return 18446744073709551615;
-    }
-    (1u64 << n) - 1
+    if n >= 64 { u64::MAX } else { (1u64 << n) - 1 }
 }
 
 // The words of n slots, behind the head words.
@@ -49,11 +44,8 @@ fn free_words(map: &mut [u64], n: usize)
     requires { (length map.old ≡ 3 + words_for n) × (n ≤ most_slots) }
     ensures { map.new ≡ take 3 map.old ++ free_words (words_for n) n }
 {
-    let words = slots::words_for(n);
-    let mut w = 0;
-    while w < words {
+    for w in 0..slots::words_for(n) {
         map[3 + w] = free_word(n - 64 * w);
-        w += 1;
     }
 }
 

@@ -3,7 +3,7 @@
 #![tactic(auto)]
 
 ghost use Rattle.std.specs.Prelude.{◌+◌, ◌≡◌};
-ghost use Rattle.basics.specs.Words.{min, map, length};
+ghost use Rattle.basics.specs.Words.{map, length};
 ghost use Rattle.slots.specs.Meaning.Map.{words_for};
 ghost use Rattle.storage.specs.Meaning.Keyed.{written};
 ghost use Rattle.slot_walks.specs.Meaning.Live.{live_from, obj_at};
@@ -16,16 +16,6 @@ ghost use Rattle.box_clear.specs.Inner.Clear.{Room};
 use replies::Count;
 use slots::Row;
 
-// The smaller of two numbers of places.
-fn least(a: usize, b: usize) -> usize
-    ensures { result ≡ min a b }
-{
-    if a < b {
-        return a;
-    }
-    b
-}
-
 // The box and the data of each live slot, from place 0 of the outputs on.
 fn put_boxes(nums: &[Row], reals: &[[f32; 4]], boxes: &mut [[f32; 4]], objs: &mut [u32])
     requires { Room nums.now reals.now boxes.old objs.old }
@@ -33,16 +23,12 @@ fn put_boxes(nums: &[Row], reals: &[[f32; 4]], boxes: &mut [[f32; 4]], objs: &mu
     ensures objs { objs.new ≡ written (map (obj_at nums.now) (live_from 0 nums.now)) objs.old }
 {
     let mut k = 0;
-    let mut i = 0;
-    while i < nums.len() {
-        let row = nums[i];
+    for (i, &row) in nums.iter().enumerate() {
         if slot_walks::is_live(row) {
-            let q = reals[i];
-            boxes[k] = [q[0], q[1], q[2], q[3]];
+            boxes[k] = reals[i];
             objs[k] = row[2];
             k += 1;
         }
-        i += 1;
     }
 }
 
@@ -67,7 +53,7 @@ pub fn clear(
     ensures { outcome (wrote result boxes.new objs.new) (tables nums.new reals.now map.new pool.now) ≡ clear_of (tables nums.old reals.now map.old pool.now) boxes.old objs.old }
 {
     let held = box_tables::check(nums, reals, map, pool);
-    let c = box_get::list_answer(nums, held, least(boxes.len(), objs.len()));
+    let c = box_get::list_answer(nums, held, boxes.len().min(objs.len()));
     if c.answer != 0 {
         return c;
     }

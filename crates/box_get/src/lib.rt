@@ -2,6 +2,7 @@
 #![tactic(auto)]
 
 ghost use Rattle.std.specs.Prelude.{◌≤◌, ◌≡◌};
+ghost use Rattle.basics.specs.Meaning.Answers.{number_of};
 ghost use Rattle.basics.specs.Words.{true, length};
 ghost use Rattle.basics.specs.Meaning.Limits.{most_boxes};
 ghost use Rattle.slot_walks.specs.Meaning.Live.{live_from};
@@ -10,6 +11,7 @@ ghost use Rattle.box_get.specs.Meaning.Reads.{got, get_of, len_of, handles_of, l
 ghost use Rattle.geometry.specs.Meaning.Zero.{zero-aabb};
 ghost use Rattle.box_tables.specs.Meaning.Tables.{tables};
 
+use basics::Refusal;
 use geometry::{Aabb, Position};
 use replies::Count;
 use slots::{Handle, Row};
@@ -22,55 +24,50 @@ pub struct Got {
     pub obj: u32,
 }
 
-// A refusal of `get`.
-fn no_box(answer: u32) -> Got
-    ensures { result ≡ got answer zero-aabb 0 }
-{
-    let zero = Position { x: 0.0, y: 0.0 };
-    Got {
-        answer: answer,
-        aabb: Aabb { ll: zero, ur: zero },
-        obj: 0,
+impl Got {
+    // A refusal: zeros.
+    pub fn refused(why: Refusal) -> Got
+        ensures { result ≡ got (number_of why) zero-aabb 0 }
+    {
+        let zero = Position { x: 0.0, y: 0.0 };
+        Got {
+            answer: why.number(),
+            aabb: Aabb { ll: zero, ur: zero },
+            obj: 0,
+        }
     }
 }
 
+#[tactic(auto, using(crate::proofs::Reading::getting))]
 pub fn get(nums: &[Row], reals: &[[f32; 4]], map: &[u64], pool: &[[u64; 2]], h: Handle) -> Got
     ensures { result ≡ get_of (tables nums.now reals.now map.now pool.now) h }
 {
     if !box_tables::check(nums, reals, map, pool) {
-        return no_box(3);
+        return Got::refused(Refusal::Tables);
     }
-    let why = slots::refusal_of(nums, h);
-    if why != 0 {
-        return no_box(why);
+    if let Err(why) = slots::check_handle(nums, h) {
+        return Got::refused(why);
     }
-    let s = basics::wide(h.slot);
-    let n = nums[s];
-    let q = reals[s];
+    let n = nums[h.slot as usize];
+    let q = reals[h.slot as usize];
     let ll = Position { x: q[0], y: q[1] };
     let ur = Position { x: q[2], y: q[3] };
     Got {
         answer: 0,
-        aabb: Aabb { ll: ll, ur: ur },
+        aabb: Aabb { ll, ur },
         obj: n[2],
     }
 }
 
 // The number of objects: they are the live slots.
+#[tactic(auto, using(crate::proofs::Reading::counting))]
 pub fn len(nums: &[Row], reals: &[[f32; 4]], map: &[u64], pool: &[[u64; 2]]) -> Count
     ensures { result ≡ len_of (tables nums.now reals.now map.now pool.now) }
 {
     if !box_tables::check(nums, reals, map, pool) {
-        return Count {
-            answer: 3,
-            count: 0,
-        };
+        return Count::from(Err(Refusal::Tables));
     }
-    let n = slot_walks::count_live(nums);
-    Count {
-        answer: 0,
-        count: n,
-    }
+    Count::from(Ok(slot_walks::count_live(nums)))
 }
 
 // The answer of a call that writes a row for each object into outputs of so many places, with the number of objects.
@@ -79,22 +76,13 @@ pub fn list_answer(nums: &[Row], held: bool, room: usize) -> Count
     ensures { result ≡ count_by held (length (live_from 0 nums.now)) room }
 {
     if !held {
-        return Count {
-            answer: 3,
-            count: 0,
-        };
+        return Count::from(Err(Refusal::Tables));
     }
     let n = slot_walks::count_live(nums);
-    if room < basics::wide(n) {
-        return Count {
-            answer: 9,
-            count: n,
-        };
+    if room < n as usize {
+        return Count::short(n);
     }
-    Count {
-        answer: 0,
-        count: n,
-    }
+    Count::from(Ok(n))
 }
 
 // The handles of the objects, ascending by slot.

@@ -17,9 +17,8 @@ pub fn new(
     ensures { outcome result (tables nums.new reals.now map.new pool.now) ≡ new_of (tables nums.old reals.now map.old pool.now) size }
 {
     let sized = box_tables::lengths_ok(nums.len(), reals.len(), map.len(), pool.len());
-    let a = blank::answer(sized, size);
-    if a != 0 {
-        return a;
+    if let Err(why) = blank::check(sized, size) {
+        return why.number();
     }
     blank::new_map(map, nums.len(), size);
     blank::free_slots(nums);

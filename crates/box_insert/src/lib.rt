@@ -5,4 +5,4 @@ mod building;
 mod inserting;
 
 pub use building::new;
-pub use inserting::{insert, no_cells, store_box};
+pub use inserting::{insert, store_box};

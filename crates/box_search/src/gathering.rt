@@ -22,16 +22,13 @@ fn gather_run(
     ensures { Collected marks.old found.old n (slots_in pool.now from to) marks.new found.new result }
 {
     let mut k = n;
-    let mut j = from;
-    while j < to {
-        let row = pool[j];
-        let s = basics::index_of(row[1] / 2);
+    for j in from..to {
+        let s = (pool[j][1] / 2) as usize;
         if !marks[s] {
             found[k] = s as u32;
             k += 1;
         }
         marks[s] = true;
-        j += 1;
     }
     k
 }
@@ -47,9 +44,10 @@ pub fn gather(
     requires { (used ≤ length pool.now) × Sorted row_key (take used pool.now) × Slots pool.now used × (length found.old ≡ most_boxes) }
     ensures { (result ≤ most_boxes) × (take result found.new ≡ firsts (map slot_of (inside low high (take used pool.now)))) × (length found.new ≡ most_boxes) }
 {
-    let mut marks: [bool; basics::MOST_BOXES] = [false; basics::MOST_BOXES];
+    let mut marks = [false; basics::MOST_BOXES];
     let mut n = 0;
     let mut i = 0;
+    // A `for` would go on by one: i goes on to the end of what was found.
     while i < used {
         let run = storage::next_run(pool, used, i, low, high);
         n = gather_run(pool, run.from, run.to, n, &mut marks, found);

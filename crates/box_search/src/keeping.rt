@@ -12,14 +12,12 @@ pub fn keep(reals: &[[f32; 4]], q: Aabb, n: usize, found: &mut [u32; basics::MOS
     ensures { (result ≤ n) × (take result found.new ≡ intersecting q reals.now (take n found.old)) × (length found.new ≡ most_boxes) }
 {
     let mut k = 0;
-    let mut j = 0;
-    while j < n {
+    for j in 0..n {
         let s = found[j];
-        if geometry::intersects(q, box_tables::load_box(reals, basics::wide(s))) {
+        if geometry::intersects(q, box_tables::load_box(reals, s as usize)) {
             found[k] = s;
             k += 1;
         }
-        j += 1;
     }
     k
 }

@@ -17,12 +17,8 @@ pub fn put_handles(
     requires { Found (length nums.now) found.now n × (n ≤ length handles.old) }
     ensures { handles.new ≡ written (map (handle_at nums.now) (take n found.now)) handles.old }
 {
-    let mut k = 0;
-    while k < n {
-        let s = found[k];
-        let row = nums[basics::wide(s)];
-        handles[k] = [s, row[0]];
-        k += 1;
+    for (k, s) in found[..n].iter().enumerate() {
+        handles[k] = [*s, nums[*s as usize][0]];
     }
 }
 
@@ -39,15 +35,10 @@ pub fn put_findings(
     requires { Reportable nums.now reals.now found.now n handles.old boxes.old objs.old }
     ensures { Reported nums.now reals.now (take n found.now) handles.old boxes.old objs.old handles.new boxes.new objs.new }
 {
-    let mut k = 0;
-    while k < n {
-        let s = found[k];
-        let j = basics::wide(s);
-        let row = nums[j];
-        let q = reals[j];
-        handles[k] = [s, row[0]];
-        boxes[k] = [q[0], q[1], q[2], q[3]];
-        objs[k] = row[2];
-        k += 1;
+    for (k, s) in found[..n].iter().enumerate() {
+        let j = *s as usize;
+        handles[k] = [*s, nums[j][0]];
+        boxes[k] = reals[j];
+        objs[k] = nums[j][2];
     }
 }

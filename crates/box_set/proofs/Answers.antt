@@ -1,6 +1,11 @@
 -- `set_aabb` by its answer: the answer test by test, what holds where it is 0, and the outcome either way. Assumes nothing.
 use Rattle.basics.specs.Words.{ℕ, ◌+◌, ◌<◌, ◌≤◌, ◌≡◌, refl, sym, ◌∙◌, ap, Bool, true, false, List, [], ◌∷◌, length, T, arith, ne_eqb, le-leb, lt-leb}
+use Rattle.std.specs.Prelude.{Ok, Err}
 use Rattle.basics.proofs.laws.Says.{says_t}
+use Rattle.basics.proofs.laws.NumberLaws.{not_zero}
+use Rattle.basics.specs.declared.Refusal.{Refusal as Why}
+use Rattle.basics.specs.declared.Refusal.TheVariants.{Tables as NoGrid, OutsideDomain, TooManyCells, PoolFull}
+use Rattle.basics.specs.Meaning.Answers.{number_of}
 use Rattle.basics.specs.Meaning.Refusals.{Refusal, unless, or_else, first_of}
 use Rattle.geometry.specs.Meaning.Domain.{aabb_in_domain}
 use Rattle.geometry.specs.declared.Aabb.{Aabb}
@@ -17,7 +22,6 @@ use Rattle.box_insert.proofs.laws.InsertLaws.{few_says}
 use Rattle.box_set.specs.Meaning.SetAabb.{with_other_box, has_room_for, set_aabb_answer, set_aabb_of}
 use Rattle.box_remove.proofs.laws.RemoveLaws.{is_good, Names, names}
 use Rattle.box_set.proofs.laws.SetAabbLaws.{answer_by, room_for_says}
-use Rattle.box_set.specs.declared.Change.{Change}
 use Rattle.box_set.proofs.Shifted.{Movable}
 use Rattle.box_set.specs.Inner.Steps.{old_span, new_span, Judged}
 
@@ -66,39 +70,39 @@ few : (t : Tables) (b : Aabb) {q : Span} → q ≡ new_span t.map b → q.cells 
 few t b eq l = le-leb (covers (size_of t) b) 4096 (omega (arith, cells_are eq))
 
 -- ---- the answer, test by test
-module _ {t : Tables} {h : Handle} {b : Aabb} {c : Change} where
-  refuses : (k : ℕ) → c.answer ≡ k → 0 < k → k ≡ set_aabb_answer t h b → Judged t h b c
-  refuses k e l q = record { answers = e ∙ q; spans = λ z. absurd (omega arith) }
+module _ {t : Tables} {h : Handle} {b : Aabb} where
+  refuses : (why : Why) → number_of why ≡ set_aabb_answer t h b → Judged t h b (Err why)
+  refuses why q = record { answers = q; spans = tt }
 
-  pub told_3 : c.answer ≡ 3 → holds t ≡ false → Judged t h b c
-  told_3 a e = refuses 3 a (omega arith) (rw e at (by_five t h b))
+  pub told_3 : holds t ≡ false → Judged t h b (Err NoGrid)
+  told_3 e = refuses NoGrid (rw e at (by_five t h b))
 
-  pub told_6 : c.answer ≡ 6 → holds t ≡ true → aabb_in_domain b ≡ false → Judged t h b c
-  told_6 a e i = refuses 6 a (omega arith) (rw (e, i) at (by_five t h b))
+  pub told_6 : holds t ≡ true → aabb_in_domain b ≡ false → Judged t h b (Err OutsideDomain)
+  told_6 e i = refuses OutsideDomain (rw (e, i) at (by_five t h b))
 
-  pub told_lost : {k : ℕ} → c.answer ≡ k → holds t ≡ true → aabb_in_domain b ≡ true → k ≡ handle_refusal t.nums h → (k ≡ 0 → ⊥) → Judged t h b c
-  told_lost {k} a e i q n =
-      refuses k a (omega (arith, n))
+  pub told_lost : (why : Why) → holds t ≡ true → aabb_in_domain b ≡ true → number_of why ≡ handle_refusal t.nums h → Judged t h b (Err why)
+  told_lost why e i q =
+      refuses why
       (q
-      ∙ sym (first_lost (handle_test t.nums h) (unless (few_cells (size_of t) b) 7 ∷ unless (has_room_for t h.slot b) 8 ∷ []) (λ z. n (q ∙ z)))
+      ∙ sym (first_lost (handle_test t.nums h) (unless (few_cells (size_of t) b) 7 ∷ unless (has_room_for t h.slot b) 8 ∷ []) (λ z. not_zero why (q ∙ z)))
       ∙ (rw (e, i) at (by_five t h b)))
 
   module _ (w : Passed t h b) {q : Span} (eq : q ≡ new_span t.map b) where
-    pub told_7 : c.answer ≡ 7 → 4096 < q.cells → Judged t h b c
-    told_7 a l =
+    pub told_7 : 4096 < q.cells → Judged t h b (Err TooManyCells)
+    told_7 l =
         let x : few_cells (size_of t) b ≡ false = lt-leb (covers (size_of t) b) 4096 (omega (arith, cells_are eq)) in
-        refuses 7 a (omega arith) (rw (w.held, w.inside, w.good, x) at (by_five t h b))
+        refuses TooManyCells (rw (w.held, w.inside, w.good, x) at (by_five t h b))
 
     module _ (l : q.cells ≤ 4096) {p : Span} (ep : p ≡ old_span t.reals t.map h.slot) where
-      pub told_8 : c.answer ≡ 8 → length t.pool + p.cells < used_of t + q.cells → Judged t h b c
-      told_8 a m =
+      pub told_8 : length t.pool + p.cells < used_of t + q.cells → Judged t h b (Err PoolFull)
+      told_8 m =
           let x : has_room_for t h.slot b ≡ false = lt-leb (used_of t + covers (size_of t) b) (length t.pool + covers (size_of t) (aabb_on t h.slot)) (omega (arith, cells_are eq, cells_are ep)) in
-          refuses 8 a (omega arith) (rw (w.held, w.inside, w.good, few t b eq l, x) at (by_five t h b))
+          refuses PoolFull (rw (w.held, w.inside, w.good, few t b eq l, x) at (by_five t h b))
 
-      pub told_0 : c.answer ≡ 0 → c.old ≡ p → c.new ≡ q → used_of t + q.cells ≤ length t.pool + p.cells → Judged t h b c
-      told_0 a eo en m =
+      pub told_0 : used_of t + q.cells ≤ length t.pool + p.cells → Judged t h b (Ok (record { old = p; new = q }))
+      told_0 m =
           let x : has_room_for t h.slot b ≡ true = le-leb (used_of t + covers (size_of t) b) (length t.pool + covers (size_of t) (aabb_on t h.slot)) (omega (arith, cells_are eq, cells_are ep)) in
-          record { answers = a ∙ (rw (w.held, w.inside, w.good, few t b eq l, x) at (by_five t h b)); spans = λ z. (eo ∙ ep, en ∙ eq) }
+          record { answers = (rw (w.held, w.inside, w.good, few t b eq l, x) at (by_five t h b)); spans = (ep, eq) }
 
 -- ---- the outcome
 all_passed : (a i g f r : Bool) (n : ℕ) → (n ≡ 0 → ⊥) → answer_by a i g n f r ≡ 0 → (a ≡ true) × (i ≡ true) × (g ≡ true) × (f ≡ true) × (r ≡ true)

@@ -9,31 +9,19 @@ ghost use Rattle.box_tables.specs.Meaning.Tables.{corners_of, tables};
 ghost use Rattle.box_set.specs.Meaning.SetAabb.{set_aabb_of};
 ghost use Rattle.box_set.specs.Inner.Steps.{stay_in, shifted_map, shifted_pool, relisted_map, relisted_pool, Shifting, Judged};
 
+use basics::Refusal;
 use box_tables::Span;
 use geometry::Aabb;
 use slots::{Handle, Row};
 
-// The answer, and where it is 0 the old and the new range of cells.
+// The old and the new range of cells.
 #[derive(Clone, Copy)]
 struct Change {
-    answer: u32,
     old: Span,
     new: Span,
 }
 
-// A refusal: no ranges.
-fn refusal(answer: u32) -> Change
-    ensures { result.answer ≡ answer }
-{
-    let none = box_insert::no_cells();
-    Change {
-        answer,
-        old: none,
-        new: none,
-    }
-}
-
-// The first refusal that applies, or 0 and both ranges. The box's old entries make room for its new ones.
+// Both ranges, or the first refusal that applies. The box's old entries make room for its new ones.
 fn judge(
     nums: &[Row],
     reals: &[[f32; 4]],
@@ -41,47 +29,35 @@ fn judge(
     pool: &[[u64; 2]],
     h: Handle,
     b: Aabb,
-) -> Change
+) -> Result<Change, Refusal>
     ensures { Judged (tables nums.now reals.now map.now pool.now) h b result }
 {
     if !box_tables::check(nums, reals, map, pool) {
-        return refusal(3);
+        return Err(Refusal::Tables);
     }
     if !geometry::aabb_in_domain(b) {
-        return refusal(6);
+        return Err(Refusal::OutsideDomain);
     }
-    let why = slots::refusal_of(nums, h);
-    if why != 0 {
-        return refusal(why);
-    }
+    slots::check_handle(nums, h)?;
     let new = box_tables::span_of(map[0], b);
     let n = new.cells;
     if n > basics::MOST_CELLS {
-        return refusal(7);
+        return Err(Refusal::TooManyCells);
     }
-    let there = box_tables::load_box(reals, basics::wide(h.slot));
+    let there = box_tables::load_box(reals, h.slot as usize);
     let old = box_tables::span_of(map[0], there);
     let o = old.cells;
-    if map[1] + n > basics::word_of(pool.len()) + o {
-        return refusal(8);
+    if map[1] + n > pool.len() as u64 + o {
+        return Err(Refusal::PoolFull);
     }
-    Change {
-        answer: 0,
-        old,
-        new,
-    }
+    Ok(Change { old, new })
 }
 
 // Whether both corner cells stay.
 fn stays(p: Span, q: Span) -> bool
     ensures { result ≡ stay_in p q }
 {
-    let low = q.low;
-    let high = q.high;
-    if cells::same_cell(p.low, low) {
-        return cells::same_cell(p.high, high);
-    }
-    false
+    p.low == q.low && p.high == q.high
 }
 
 // The box of slot s goes from the cells of p to those of q.
@@ -90,12 +66,11 @@ fn shift(map: &mut [u64], pool: &mut [[u64; 2]], s: usize, p: Span, q: Span)
     ensures map { map.new ≡ shifted_map s p q map.old pool.old }
     ensures pool { pool.new ≡ shifted_pool s p q map.old pool.old }
 {
-    let used = basics::index_of(map[1]);
     let old = box_tables::item_of(s, p.cells == 1);
     let new = box_tables::item_of(s, q.cells == 1);
-    let left = box_cover::leave(pool, used, p.low, p.high, old);
+    let left = box_cover::leave(pool, map[1] as usize, p.low, p.high, old);
     box_cover::enter(pool, left, q.low, q.high, new);
-    map[1] = basics::word_of(left) + q.cells;
+    map[1] = left as u64 + q.cells;
 }
 
 // Its lists change only if a corner cell does.
@@ -104,10 +79,9 @@ fn relist(map: &mut [u64], pool: &mut [[u64; 2]], s: usize, p: Span, q: Span)
     ensures map { map.new ≡ relisted_map s p q map.old pool.old }
     ensures pool { pool.new ≡ relisted_pool s p q map.old pool.old }
 {
-    if stays(p, q) {
-        return;
+    if !stays(p, q) {
+        shift(map, pool, s, p, q);
     }
-    shift(map, pool, s, p, q);
 }
 
 // Box b takes the place of the box of slot s, which goes from the cells of p to those of q.
@@ -139,13 +113,11 @@ pub fn set_aabb(
 ) -> u32
     ensures { outcome result (tables nums.now reals.new map.new pool.new) ≡ set_aabb_of (tables nums.now reals.old map.old pool.old) h b }
 {
-    let c = judge(nums, reals, map, pool, h, b);
-    let a = c.answer;
-    if a != 0 {
-        return a;
+    match judge(nums, reals, map, pool, h, b) {
+        Err(why) => why.number(),
+        Ok(c) => {
+            place(reals, map, pool, h.slot as usize, b, c.old, c.new);
+            0
+        }
     }
-    let p = c.old;
-    let q = c.new;
-    place(reals, map, pool, basics::wide(h.slot), b, p, q);
-    0
 }

@@ -15,10 +15,7 @@ pub fn rate_of(size: u64) -> f32
     ensures { T (in_domain result) }
 {
     let r = 1.00000095367431640625 / ((size as i64) as f32);
-    if geometry::in_domain(r) {
-        return r;
-    }
-    0.0
+    if geometry::in_domain(r) { r } else { 0.0 }
 }
 
 // The whole number that a pattern says when 12,582,912 was added to it: there the last digit is worth 1.
@@ -31,7 +28,7 @@ pub fn guess(rate: f32, x: f32) -> i32
     requires { T (in_domain rate) × T (in_domain x) }
 {
     let t = x * rate - 0.5 + 12582912.0;
-    digits(f32::to_bits(t))
+    digits(t.to_bits())
 }
 
 // The cell number of a coordinate: the guess if it stands there, since that takes no division; else by the cell rule.
@@ -41,9 +38,10 @@ pub fn near_cell(size: u64, rate: f32, x: f32) -> i32
 {
     let c = guess(rate, x);
     if cells::stands(size, x, c) {
-        return c;
+        c
+    } else {
+        cells::cell_id(size as i32, x)
     }
-    cells::cell_id(size as i32, x)
 }
 
 // Whether both corners of a box stand in cell c; the upper one is asked first, since it tells soonest that they do not.
@@ -51,16 +49,8 @@ pub fn one_cell(size: u64, b: Aabb, c: Cell) -> bool
     requires { SizeInDomain size × T (aabb_in_domain b) }
     ensures { result ≡ true → (low_cell size b ≡ c) × (high_cell size b ≡ c) }
 {
-    let ll = b.ll;
-    let ur = b.ur;
-    if !cells::stands(size, ur.x, c.x) {
-        return false;
-    }
-    if !cells::stands(size, ll.x, c.x) {
-        return false;
-    }
-    if !cells::stands(size, ur.y, c.y) {
-        return false;
-    }
-    cells::stands(size, ll.y, c.y)
+    cells::stands(size, b.ur.x, c.x)
+        && cells::stands(size, b.ll.x, c.x)
+        && cells::stands(size, b.ur.y, c.y)
+        && cells::stands(size, b.ll.y, c.y)
 }

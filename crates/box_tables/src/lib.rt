@@ -16,7 +16,7 @@ use cells::Cell;
 use lengths::counts_ok;
 pub use lengths::lengths_ok;
 use pass::pool_ok;
-use slot_ways::slots_ok;
+use slot_ways::{Ways, slots_ok};
 use slots::Row;
 pub use spans::{covers, item_of, load_box, span_of};
 
@@ -38,18 +38,16 @@ pub fn check(nums: &[Row], reals: &[[f32; 4]], map: &[u64], pool: &[[u64; 2]]) -
     if !lengths_ok(nums.len(), reals.len(), map.len(), pool.len()) {
         return false;
     }
-    let used = basics::index_of(map[1]);
+    let used = map[1] as usize;
     if !counts_ok(map[0], used, pool.len()) {
         return false;
     }
-    let mut nexts = [0u64; ITEMS];
-    let mut stops = [0u32; ITEMS];
-    let mut jumps = [1u64; ITEMS];
-    let mut ends = [0u64; ITEMS];
-    if !slots_ok(
-        nums, reals, map, &mut nexts, &mut stops, &mut jumps, &mut ends,
-    ) {
-        return false;
-    }
-    pool_ok(pool, used, &mut nexts, &stops, &jumps, &ends)
+    let mut ways = Ways {
+        nexts: [0; ITEMS],
+        stops: [0; ITEMS],
+        jumps: [0; ITEMS],
+        ends: [0; ITEMS],
+    };
+    ways.jumps.fill(1);
+    slots_ok(nums, reals, map, &mut ways) && pool_ok(pool, used, &mut ways)
 }

@@ -17,25 +17,20 @@ pub fn load_box(reals: &[[f32; 4]], s: usize) -> Aabb
     ensures { result ≡ aabb_at reals.now s }
 {
     let q = reals[s];
-    let ll = Position { x: q[0], y: q[1] };
-    let ur = Position { x: q[2], y: q[3] };
-    Aabb { ll: ll, ur: ur }
+    Aabb {
+        ll: Position { x: q[0], y: q[1] },
+        ur: Position { x: q[2], y: q[3] },
+    }
 }
 
 pub fn span_of(size: u64, b: Aabb) -> Span
     requires { SizeInDomain size × T (aabb_in_domain b) }
     ensures { result ≡ span_of size b }
 {
-    let ll = b.ll;
-    let ur = b.ur;
-    let low = cells::cell_at(size, ll);
-    let high = cells::cell_at(size, ur);
+    let low = cells::cell_at(size, b.ll);
+    let high = cells::cell_at(size, b.ur);
     let cells = cells::cells_in(low, high);
-    Span {
-        low: low,
-        high: high,
-        cells: cells,
-    }
+    Span { low, high, cells }
 }
 
 // How many cells a box covers.
@@ -43,8 +38,7 @@ pub fn covers(size: u64, b: Aabb) -> u64
     requires { SizeInDomain size × T (aabb_in_domain b) }
     ensures { result ≡ Tables.covers size b }
 {
-    let p = span_of(size, b);
-    p.cells
+    span_of(size, b).cells
 }
 
 // The item of slot s: its mark says whether the box covers one cell only.
@@ -52,9 +46,5 @@ pub fn item_of(s: usize, single: bool) -> u64
     requires { s < most_boxes }
     ensures { result ≡ item_of s single }
 {
-    let i = basics::word_of(s) * 2;
-    if single {
-        return i + 1;
-    }
-    i
+    s as u64 * 2 + u64::from(single)
 }

@@ -16,8 +16,17 @@ use cells::Cell;
 use geometry::Aabb;
 use slots::Row;
 
-// The way of a box through its cells: its first key, its last, the step from the end of a row to the next, and the item. The step is 0 if they are too many.
-fn way_of(s: usize, a: Cell, b: Cell) -> [u64; 4]
+// A way: its first key, its last, the step from the end of a row to the next, and the item.
+#[derive(Clone, Copy)]
+pub struct Way {
+    pub first: u64,
+    pub last: u64,
+    pub jump: u64,
+    pub item: u64,
+}
+
+// The way of a box through its cells; none if they are too many.
+fn way_of(s: usize, a: Cell, b: Cell) -> Option<Way>
     requires { (s < most_boxes) × Upright a b }
     ensures { Given (cells_in a b ≤ most_cells) (way_of s (span_by a b)) result }
 {
@@ -27,51 +36,58 @@ fn way_of(s: usize, a: Cell, b: Cell) -> [u64; 4]
     let tall = cells::row_of(high) - cells::row_of(low);
     let cells = (wide + 1) * (tall + 1);
     if basics::MOST_CELLS < cells {
-        return [0, 0, 0, 0];
+        return None;
     }
-    let item = item_of(s, cells == 1);
-    [low, high, 4294967296 - wide, item]
+    Some(Way {
+        first: low,
+        last: high,
+        jump: 4294967296 - wide,
+        item: item_of(s, cells == 1),
+    })
 }
 
 // The way of a box of the domain.
-fn wide_way(size: u64, rate: f32, s: usize, b: Aabb) -> [u64; 4]
+fn wide_way(size: u64, rate: f32, s: usize, b: Aabb) -> Option<Way>
     requires { (s < most_boxes) × SizeInDomain size × T (aabb_in_domain b) × T (in_domain rate) }
     ensures { Given (Tables.covers size b ≤ most_cells) (way_of s (span_of size b)) result }
 {
-    let ll = b.ll;
-    let ur = b.ur;
-    let lx = near_cell(size, rate, ll.x);
-    let ly = near_cell(size, rate, ll.y);
-    let hx = near_cell(size, rate, ur.x);
-    let hy = near_cell(size, rate, ur.y);
-    let low = Cell { x: lx, y: ly };
-    let high = Cell { x: hx, y: hy };
+    let low = Cell {
+        x: near_cell(size, rate, b.ll.x),
+        y: near_cell(size, rate, b.ll.y),
+    };
+    let high = Cell {
+        x: near_cell(size, rate, b.ur.x),
+        y: near_cell(size, rate, b.ur.y),
+    };
     way_of(s, low, high)
 }
 
-// The way of an occupied slot; its step is 0 if the box is not one of a grid. A box of one cell needs no count.
-fn live_way(reals: &[[f32; 4]], size: u64, rate: f32, s: usize) -> [u64; 4]
+// The way of an occupied slot; none if the box is not one of a grid. A box of one cell needs no count.
+fn live_way(reals: &[[f32; 4]], size: u64, rate: f32, s: usize) -> Option<Way>
     requires { (s < length reals.now) × (s < most_boxes) × SizeInDomain size × T (in_domain rate) }
     ensures { Given (BoxOk size (aabb_at reals.now s)) (way_of s (span_of size (aabb_at reals.now s))) result }
 {
     let b = load_box(reals, s);
     if !geometry::aabb_in_domain(b) {
-        return [0, 0, 0, 0];
+        return None;
     }
-    let ll = b.ll;
     let c = Cell {
-        x: guess(rate, ll.x),
-        y: guess(rate, ll.y),
+        x: guess(rate, b.ll.x),
+        y: guess(rate, b.ll.y),
     };
     if one_cell(size, b, c) {
-        let k = cells::key_of(c);
-        let item = item_of(s, true);
-        return [k, k, 4294967296, item];
+        let key = cells::key_of(c);
+        return Some(Way {
+            first: key,
+            last: key,
+            jump: 4294967296,
+            item: item_of(s, true),
+        });
     }
     wide_way(size, rate, s, b)
 }
 
-// The way of slot s, on which no key comes if it is not occupied; its step is 0 if the slot does not hold.
+// The way of slot s, on which no key comes if it is not occupied; none if the slot does not hold.
 pub fn slot_way(
     nums: &[Row],
     reals: &[[f32; 4]],
@@ -79,18 +95,22 @@ pub fn slot_way(
     size: u64,
     rate: f32,
     s: usize,
-) -> [u64; 4]
+) -> Option<Way>
     requires { Readable nums.now reals.now map.now s × SizeInDomain size × T (in_domain rate) }
     ensures { Given (SlotOk nums.now reals.now map.now size s) (way_at nums.now reals.now size s) result }
 {
     let n = nums[s];
     let mapped = slots::is_usable(map, s);
     if !slots::slot_ok(n[0], n[1], mapped) {
-        return [0, 0, 0, 0];
+        return None;
     }
-    if n[1] != slots::LIVE {
-        let item = item_of(s, false);
-        return [1, 0, 1, item];
+    if n[1] == slots::LIVE {
+        return live_way(reals, size, rate, s);
     }
-    live_way(reals, size, rate, s)
+    Some(Way {
+        first: 1,
+        last: 0,
+        jump: 1,
+        item: item_of(s, false),
+    })
 }

@@ -21,7 +21,7 @@ ghost use Rattle.cells.specs.Inner.Key.{downward, column_of, line_of, cell_of_ke
 
 use geometry::Position;
 
-#[derive(Clone, Copy)]
+#[derive(Clone, Copy, Debug, PartialEq, Eq)]
 pub struct Cell {
     pub x: i32,
     pub y: i32,
@@ -64,12 +64,14 @@ pub fn whole(x: f32) -> i32
     if x != x {
         return 0;
     }
-    let b: u32 = f32::to_bits(x);
-    let n: u32 = cut(b);
+    let b = x.to_bits();
+    let n = cut(b);
     if b < 2147483648 {
-        if n < 2147483648 { n as i32 } else { 2147483647 }
+        if n < 2147483648 { n as i32 } else { i32::MAX }
+    } else if n == 0 {
+        0
     } else {
-        if n == 0 { 0 } else { -1 - ((n - 1) as i32) }
+        -1 - ((n - 1) as i32)
     }
 }
 
@@ -85,13 +87,7 @@ pub fn cell_id(size: i32, x: f32) -> i32
 pub fn size_in_domain(size: u64) -> bool
     ensures { Says result (SizeInDomain size) }
 {
-    if size < 1 {
-        return false;
-    }
-    if size > 1048576 {
-        return false;
-    }
-    true
+    1 <= size && size <= 1048576
 }
 
 // The edges between a cell and zero: as many below cell 0 + k as above cell -1 - k.
@@ -149,7 +145,7 @@ fn last_below(n: u64) -> f32
         return 1048576.0;
     }
     let v = exactly(n);
-    f32::from_bits(f32::to_bits(v) - 1)
+    f32::from_bits(v.to_bits() - 1)
 }
 
 // The least binary32 number above zero that is not below n.
@@ -199,27 +195,10 @@ pub fn cell_at(size: u64, p: Position) -> Cell
     ensures { result ≡ cell_at size p }
 {
     let s = size as i32;
-    let x = cell_id(s, p.x);
-    let y = cell_id(s, p.y);
-    Cell { x, y }
-}
-
-fn same_number(a: i32, b: i32) -> bool
-    ensures { Says result (a ≡ b) }
-{
-    if a == b {
-        return true;
+    Cell {
+        x: cell_id(s, p.x),
+        y: cell_id(s, p.y),
     }
-    false
-}
-
-pub fn same_cell(a: Cell, b: Cell) -> bool
-    ensures { Says result (a ≡ b) }
-{
-    if same_number(a.x, b.x) {
-        return same_number(a.y, b.y);
-    }
-    false
 }
 
 // A cell number counted from the least.
@@ -235,28 +214,23 @@ fn count_from(a: i32, b: i32) -> u64
 {
     let low = up_from_least(a);
     let high = up_from_least(b);
-    if high < low {
-        return 0;
-    }
-    high - low + 1
+    if high < low { 0 } else { high - low + 1 }
 }
 
 // The number of cells of the range from a to b; the product fits, since what a call asks for is Near.
+#[tactic(auto, unfolding(crate::specs::Meaning::Range::cells_in))]
 pub fn cells_in(a: Cell, b: Cell) -> u64
     requires { Near a × Near b }
     ensures { result ≡ cells_in a b }
 {
-    let columns = count_from(a.x, b.x);
-    let rows = count_from(a.y, b.y);
-    columns * rows
+    count_from(a.x, b.x) * count_from(a.y, b.y)
 }
 
+#[tactic(auto, unfolding(crate::specs::Meaning::Key::key_of))]
 pub fn key_of(c: Cell) -> u64
     ensures { result ≡ key_of c }
 {
-    let y = up_from_least(c.y);
-    let x = up_from_least(c.x);
-    y * 4294967296 + x
+    up_from_least(c.y) * 4294967296 + up_from_least(c.x)
 }
 
 pub fn column_of(key: u64) -> u64
@@ -278,10 +252,12 @@ fn down_from_least(n: u64) -> i32
     ((n as i64) - 2147483648) as i32
 }
 
+#[tactic(auto, unfolding(crate::specs::Inner::Key::cell_of_key))]
 pub fn cell_of_key(key: u64) -> Cell
     ensures { result ≡ cell_of_key key }
 {
-    let x = down_from_least(column_of(key));
-    let y = down_from_least(row_of(key));
-    Cell { x, y }
+    Cell {
+        x: down_from_least(column_of(key)),
+        y: down_from_least(row_of(key)),
+    }
 }

@@ -151,10 +151,8 @@ fn draw(
     requires { Drawable (PointTables.tables nums.now reals.now ints.now map.now pool.now spots.now cells.now) (BoxTables.tables boxnums.now boxreals.now boxmap.now boxpool.now) circles.now × (length bytes.old ≡ blocks) }
     ensures { bytes.new ≡ map_of (PointTables.tables nums.now reals.now ints.now map.now pool.now spots.now cells.now) (BoxTables.tables boxnums.now boxreals.now boxmap.now boxpool.now) circles.now }
 {
-    let used = basics::index_of(map[1]);
-    encoder_points::mark_points(pool, spots, used, circles, bytes);
-    let box_used = basics::index_of(boxmap[1]);
-    encoder_boxes::mark_boxes(boxreals, boxpool, box_used, bytes);
+    encoder_points::mark_points(pool, spots, map[1] as usize, circles, bytes);
+    encoder_boxes::mark_boxes(boxreals, boxpool, boxmap[1] as usize, bytes);
 }
 
 // Fills the map of 3,600 bytes: byte j * 80 + i is the block from (16 i, 16 j) to (16 i + 16, 16 j + 16). 3 where a point that some circle finds lies in the

@@ -1,9 +1,9 @@
 // The blocks of the frame: which block a cell is, the key of a block's cell, and the box from corner to corner.
 #![tactic(auto)]
 
-ghost use Rattle.std.specs.Prelude.{◌≤◌, ◌<◌, ◌≡◌};
+ghost use Rattle.std.specs.Prelude.{◌≤◌, ◌<◌, ◌≡◌, MatchOption};
 ghost use Rattle.cells.specs.Meaning.Key.{key_of};
-ghost use Rattle.encoder_blocks.specs.Meaning.Blocks.{columns, lines, block_box};
+ghost use Rattle.encoder_blocks.specs.Meaning.Blocks.{columns, lines, blocks, block_box};
 ghost use Rattle.encoder_blocks.specs.Meaning.Blocks;
 ghost use Rattle.encoder_blocks.specs.Inner.Places;
 ghost use Rattle.encoder_blocks.specs.Inner.Places.{block_of};
@@ -25,27 +25,29 @@ fn among(n: u64, x: u64) -> bool
     requires { n ≤ columns }
     ensures { result ≡ Places.among n x }
 {
-    (NOUGHT <= x) & (x < NOUGHT + n)
+    NOUGHT <= x && x < NOUGHT + n
 }
 
-// The place in the map of the block whose cell has this key; BLOCKS if the frame has no such block.
-pub fn block_of(key: u64) -> usize
-    ensures { result ≡ block_of key }
+// The place in the map of the block whose cell has this key, if the frame has such a block.
+#[tactic(auto, unfolding(crate::specs::Inner::Places::block_of))]
+pub fn block_of(key: u64) -> Option<usize>
+    ensures { MatchOption result (block_of key ≡ blocks) (λ k. (k ≡ block_of key) × (k < blocks)) }
 {
     let x = cells::column_of(key);
     let y = cells::row_of(key);
-    if among(80, x) & among(45, y) {
-        return basics::index_of((y - NOUGHT) * 80 + (x - NOUGHT));
+    if among(80, x) && among(45, y) {
+        return Some(((y - NOUGHT) * 80 + (x - NOUGHT)) as usize);
     }
-    BLOCKS
+    None
 }
 
 // The key of cell (i, j).
+#[tactic(auto, unfolding(cells::specs::Meaning::Key::key_of))]
 pub fn cell_key(i: usize, j: usize) -> u64
     requires { (i ≤ columns) × (j ≤ lines) }
     ensures { result ≡ key_of (Places.cell i j) }
 {
-    (basics::word_of(j) + NOUGHT) * 4294967296 + (basics::word_of(i) + NOUGHT)
+    (j as u64 + NOUGHT) * 4294967296 + (i as u64 + NOUGHT)
 }
 
 // Where column or row n begins.

@@ -13,7 +13,7 @@ ghost use Rattle.encoder_blocks.specs.Inner.Places.{cell};
 ghost use Rattle.encoder_boxes.specs.Inner.Windows;
 ghost use Rattle.encoder_boxes.specs.Inner.Windows.{Stocked, met_from, Overlaid};
 
-use encoder_blocks::{BLOCKS, COLUMNS, block_box, cell_key};
+use encoder_blocks::{COLUMNS, block_box, cell_key};
 use geometry::Aabb;
 use storage::key_at;
 
@@ -25,14 +25,12 @@ fn onward(pool: &[[u64; 2]], used: usize, p: usize, key: u64) -> usize
     requires { (used ≤ length pool.now) × Sorted row_key (take used pool.now) × (p ≤ length (below row_key key (take used pool.now))) }
     ensures { result ≡ length (below row_key key (take used pool.now)) }
 {
-    let mut j = p;
-    while j < used {
+    for j in p..used {
         if key <= key_at(pool, j) {
             return j;
         }
-        j += 1;
     }
-    j
+    used
 }
 
 // Whether q intersects the box of an entry from place p on whose key is at most `last`.
@@ -47,18 +45,15 @@ fn met_from(
     requires { Stocked reals.now pool.now used }
     ensures { result ≡ met_from reals.now pool.now used p last q }
 {
-    let mut j = p;
-    while j < used {
-        let row = pool[j];
-        if last < row[0] {
+    for j in p..used {
+        let [key, item] = pool[j];
+        if last < key {
             return false;
         }
-        let s = basics::index_of(row[1] / 2);
-        let b = box_tables::load_box(reals, s);
+        let b = box_tables::load_box(reals, (item / 2) as usize);
         if geometry::intersects(q, b) {
             return true;
         }
-        j += 1;
     }
     false
 }
@@ -78,10 +73,8 @@ fn met(
     ensures { result ≡ Windows.met reals.now (take used pool.now) i j }
 {
     let b = block_box(i, j);
-    if met_from(reals, pool, used, here, cell_key(i + 1, j), b) {
-        return true;
-    }
-    met_from(reals, pool, used, next, cell_key(i + 1, j + 1), b)
+    met_from(reals, pool, used, here, cell_key(i + 1, j), b)
+        || met_from(reals, pool, used, next, cell_key(i + 1, j + 1), b)
 }
 
 // The map with the boxes over the points.
@@ -91,17 +84,13 @@ pub fn mark_boxes(reals: &[[f32; 4]], pool: &[[u64; 2]], used: usize, bytes: &mu
 {
     let mut here = 0;
     let mut next = 0;
-    let mut k = 0;
-    while k < BLOCKS {
+    for (k, byte) in bytes.iter_mut().enumerate() {
         let i = k % COLUMNS;
         let j = k / COLUMNS;
         here = onward(pool, used, here, cell_key(i, j));
         next = onward(pool, used, next, cell_key(i, j + 1));
-        if bytes[k] != CIRCLED {
-            if met(reals, pool, used, here, next, i, j) {
-                bytes[k] = 2;
-            }
+        if *byte != CIRCLED && met(reals, pool, used, here, next, i, j) {
+            *byte = 2;
         }
-        k += 1;
     }
 }

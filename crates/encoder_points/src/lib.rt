@@ -2,8 +2,8 @@
 // of cells by row of cells, and of the circles only those are asked that reach the row.
 #![tactic(auto)]
 
-ghost use Rattle.std.specs.Prelude.{◌≤◌, ◌<◌, ◌≡◌};
-ghost use Rattle.basics.specs.Words.{ℕ, length, get_or, take};
+ghost use Rattle.std.specs.Prelude.{◌≤◌, ◌≡◌};
+ghost use Rattle.basics.specs.Words.{length};
 ghost use Rattle.storage.specs.Meaning.Keyed.{All};
 ghost use Rattle.encoder_blocks.specs.Meaning.Blocks.{blocks};
 ghost use Rattle.encoder_points.specs.Meaning.Points.{most_circles};
@@ -11,7 +11,7 @@ ghost use Rattle.encoder_points.specs.Inner.Marks.{in_some, raised_by, Marked};
 ghost use Rattle.encoder_points.specs.Inner.Near;
 ghost use Rattle.encoder_points.specs.Inner.Near.{Fine, Chosen, Placed};
 
-use encoder_blocks::{BLOCKS, block_of};
+use encoder_blocks::block_of;
 use geometry::Position;
 
 pub const MOST_CIRCLES: usize = 16;
@@ -23,7 +23,7 @@ fn reaches(line: u64, circle: [f32; 3]) -> bool
 {
     let low = cells::cell_id(16, circle[1] - circle[2]);
     let high = cells::cell_id(16, circle[1] + circle[2]);
-    (cells::up_from_least(low) <= line) & (line <= cells::up_from_least(high))
+    cells::up_from_least(low) <= line && line <= cells::up_from_least(high)
 }
 
 // The circles that reach the row go to the first places of `near`. Returns how many they are.
@@ -32,14 +32,11 @@ fn choose(line: u64, circles: &[[f32; 3]], near: &mut [[f32; 3]; MOST_CIRCLES]) 
     ensures { Chosen circles.now line near.new result }
 {
     let mut n = 0;
-    let mut k = 0;
-    while k < circles.len() {
-        let c = circles[k];
-        if reaches(line, c) {
-            near[n] = c;
+    for circle in circles {
+        if reaches(line, *circle) {
+            near[n] = *circle;
             n += 1;
         }
-        k += 1;
     }
     n
 }
@@ -56,48 +53,37 @@ fn choose_anew(
     ensures { Chosen circles.now line near.new result }
 {
     if old == line {
-        return n;
+        n
+    } else {
+        choose(line, circles, near)
     }
-    choose(line, circles, near)
 }
 
-// Whether one of the first n circles holds a position.
-fn in_some(circles: &[[f32; 3]; MOST_CIRCLES], n: usize, p: Position) -> bool
-    requires { (n ≤ most_circles) × (length circles.now ≡ most_circles) }
-    ensures { result ≡ in_some (take n circles.now) p }
+// Whether some circle holds a position.
+fn in_some(circles: &[[f32; 3]], p: Position) -> bool
+    ensures { result ≡ in_some circles.now p }
 {
-    let mut k = 0;
-    while k < n {
-        let c = circles[k];
-        let centre = Position { x: c[0], y: c[1] };
-        if geometry::in_circle(p, centre, c[2]) {
+    for circle in circles {
+        let centre = Position {
+            x: circle[0],
+            y: circle[1],
+        };
+        if geometry::in_circle(p, centre, circle[2]) {
             return true;
         }
-        k += 1;
     }
     false
 }
 
-// Every byte becomes 0.
-fn wipe(bytes: &mut [u8])
-    ensures { (length bytes.new ≡ length bytes.old) × ((k : ℕ) → k < length bytes.old → get_or bytes.new k 0 ≡ 0) }
-{
-    let mut k = 0;
-    while k < bytes.len() {
-        bytes[k] = 0;
-        k += 1;
-    }
-}
-
 // What a block's byte becomes for a point in it: a byte that is 3 stays, and then no circle is asked.
-fn raised(byte: u8, circles: &[[f32; 3]; MOST_CIRCLES], n: usize, p: Position) -> u8
-    requires { (n ≤ most_circles) × (length circles.now ≡ most_circles) }
-    ensures { result ≡ raised_by (in_some (take n circles.now) p) byte }
+fn raised(byte: u8, circles: &[[f32; 3]], p: Position) -> u8
+    ensures { result ≡ raised_by (in_some circles.now p) byte }
 {
-    if byte == 3 {
-        return 3;
+    if byte == 3 || in_some(circles, p) {
+        3
+    } else {
+        1
     }
-    if in_some(circles, n, p) { 3 } else { 1 }
 }
 
 // The map of the points alone: 3, 1 or 0 for each block.
@@ -111,21 +97,18 @@ pub fn mark_points(
     requires { Placed pool.now spots.now used × (length circles.now ≤ most_circles) × All Fine circles.now × (length bytes.old ≡ blocks) }
     ensures { Marked pool.now spots.now circles.now used bytes.new }
 {
-    wipe(bytes);
-    let mut near: [[f32; 3]; MOST_CIRCLES] = [[0.0; 3]; MOST_CIRCLES];
+    bytes.fill(0);
+    let mut near = [[0.0; 3]; MOST_CIRCLES];
     let mut line = 0;
     let mut few = choose(line, circles, &mut near);
-    let mut n = 0;
-    while n < used {
+    for n in 0..used {
         let key = storage::key_at(pool, n);
-        let k = block_of(key);
-        if k < BLOCKS {
+        if let Some(k) = block_of(key) {
             let row = cells::row_of(key);
             few = choose_anew(line, row, circles, few, &mut near);
             line = row;
             let p = point_records::spot_at(spots, n);
-            bytes[k] = raised(bytes[k], &near, few, p);
+            bytes[k] = raised(bytes[k], &near[..few], p);
         }
-        n += 1;
     }
 }

@@ -47,7 +47,7 @@ pub extern "C" fn chavrupas_boxes_insert(
 ) -> Inserted
     ensures { outcome (told_inserted result) (tables nums.new reals.new map.new pool.new) ≡ insert_of (tables nums.old reals.old map.old pool.old) (aabb left low right high) obj }
 {
-    let r = boxes::insert(
+    boxes::insert(
         nums,
         reals,
         map,
@@ -57,12 +57,8 @@ pub extern "C" fn chavrupas_boxes_insert(
             ur: Position { x: right, y: high },
         },
         obj,
-    );
-    Inserted {
-        answer: r.answer,
-        slot: r.handle.slot,
-        version: r.handle.version,
-    }
+    )
+    .into()
 }
 
 // `set_aabb`. 3, 6, 11, 12, 7, 8.
@@ -106,11 +102,7 @@ pub extern "C" fn chavrupas_boxes_remove(
 ) -> Reply
     ensures { outcome (told_reply result) (tables nums.new reals.now map.new pool.new) ≡ remove_of (tables nums.old reals.now map.old pool.old) (handle slot version) }
 {
-    let r = boxes::remove(nums, reals, map, pool, Handle { slot, version });
-    Reply {
-        answer: r.answer,
-        obj: r.obj,
-    }
+    boxes::remove(nums, reals, map, pool, Handle { slot, version }).into()
 }
 
 // `clear`. 3, 9 with the number of objects.
@@ -125,11 +117,7 @@ pub extern "C" fn chavrupas_boxes_clear(
 ) -> Count
     ensures { outcome (told_written result boxes.new objs.new) (tables nums.new reals.now map.new pool.now) ≡ clear_of (tables nums.old reals.now map.old pool.now) boxes.old objs.old }
 {
-    let r = boxes::clear(nums, reals, map, pool, boxes, objs);
-    Count {
-        answer: r.answer,
-        count: r.count,
-    }
+    boxes::clear(nums, reals, map, pool, boxes, objs).into()
 }
 
 // `get`. 3, 11, 12.
@@ -165,11 +153,7 @@ pub extern "C" fn chavrupas_boxes_len(
 ) -> Count
     ensures { told_count result ≡ len_of (tables nums.now reals.now map.now pool.now) }
 {
-    let r = boxes::len(nums, reals, map, pool);
-    Count {
-        answer: r.answer,
-        count: r.count,
-    }
+    boxes::len(nums, reals, map, pool).into()
 }
 
 // `handles`. 3, 9 with the number of objects.
@@ -183,11 +167,7 @@ pub extern "C" fn chavrupas_boxes_handles(
 ) -> Count
     ensures { listing (told_count result) out.new ≡ handles_of (tables nums.now reals.now map.now pool.now) out.old }
 {
-    let r = boxes::handles(nums, reals, map, pool, out);
-    Count {
-        answer: r.answer,
-        count: r.count,
-    }
+    boxes::handles(nums, reals, map, pool, out).into()
 }
 
 // `query_broad`. 3, 6, 7, 9 with the number found.
@@ -205,7 +185,7 @@ pub extern "C" fn chavrupas_boxes_query_broad(
 ) -> Count
     ensures { Queries.handles_of (told_count result) found.new ≡ broad_of (tables nums.now reals.now map.now pool.now) (aabb left low right high) found.old }
 {
-    let r = boxes::query_broad(
+    boxes::query_broad(
         nums,
         reals,
         map,
@@ -215,11 +195,8 @@ pub extern "C" fn chavrupas_boxes_query_broad(
             ur: Position { x: right, y: high },
         },
         found,
-    );
-    Count {
-        answer: r.answer,
-        count: r.count,
-    }
+    )
+    .into()
 }
 
 // `query`. 3, 6, 7, 9 with the number found.
@@ -239,7 +216,7 @@ pub extern "C" fn chavrupas_boxes_query(
 ) -> Count
     ensures { told_findings result found.new boxes.new objs.new ≡ query_of (tables nums.now reals.now map.now pool.now) (aabb left low right high) found.old boxes.old objs.old }
 {
-    let r = boxes::query(
+    boxes::query(
         nums,
         reals,
         map,
@@ -251,9 +228,6 @@ pub extern "C" fn chavrupas_boxes_query(
         found,
         boxes,
         objs,
-    );
-    Count {
-        answer: r.answer,
-        count: r.count,
-    }
+    )
+    .into()
 }

@@ -2,6 +2,9 @@
 // length in elements; what is returned is a struct of numbers. No call has a `requires`, since nothing checks a foreign caller's: each refuses by number.
 #![tactic(auto)]
 
+ghost use Rattle.std.specs.Prelude.{◌≡◌};
+ghost use Rattle.exports.specs.Meaning.Told.{told_inserted, told_reply, told_count};
+
 mod box_calls;
 mod encoder_calls;
 mod point_calls;
@@ -77,4 +80,38 @@ pub struct BoxGot {
     pub right: f32,
     pub high: f32,
     pub obj: u32,
+}
+
+impl From<replies::Inserted> for Inserted {
+    ghost from_gives = { λ r given. told_inserted given ≡ r };
+
+    fn from(r: replies::Inserted) -> Inserted {
+        Inserted {
+            answer: r.answer,
+            slot: r.handle.slot,
+            version: r.handle.version,
+        }
+    }
+}
+
+impl From<replies::Reply> for Reply {
+    ghost from_gives = { λ r given. told_reply given ≡ r };
+
+    fn from(r: replies::Reply) -> Reply {
+        Reply {
+            answer: r.answer,
+            obj: r.obj,
+        }
+    }
+}
+
+impl From<replies::Count> for Count {
+    ghost from_gives = { λ r given. told_count given ≡ r };
+
+    fn from(r: replies::Count) -> Count {
+        Count {
+            answer: r.answer,
+            count: r.count,
+        }
+    }
 }

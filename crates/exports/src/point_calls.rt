@@ -57,7 +57,7 @@ pub extern "C" fn chavrupas_points_insert(
 ) -> Inserted
     ensures { Gives (λ t. insert_of t (position x y) obj tracker) (told_inserted result) (tables nums.old reals.old ints.old map.old pool.old spots.old cells.old) (tables nums.new reals.new ints.new map.new pool.new spots.new cells.new) }
 {
-    let r = points::insert(
+    points::insert(
         nums,
         reals,
         ints,
@@ -68,12 +68,8 @@ pub extern "C" fn chavrupas_points_insert(
         Position { x, y },
         obj,
         tracker,
-    );
-    Inserted {
-        answer: r.answer,
-        slot: r.handle.slot,
-        version: r.handle.version,
-    }
+    )
+    .into()
 }
 
 // `set_position`. 3, 6, 13, 11, 12, 14, 1.
@@ -124,7 +120,7 @@ pub extern "C" fn chavrupas_points_remove(
 ) -> Reply
     ensures { Gives (λ t. remove_of t (handle slot version) tracker) (told_reply result) (tables nums.old reals.old ints.old map.now pool.now spots.now cells.old) (tables nums.new reals.new ints.new map.now pool.now spots.now cells.new) }
 {
-    let r = points::remove(
+    points::remove(
         nums,
         reals,
         ints,
@@ -134,11 +130,8 @@ pub extern "C" fn chavrupas_points_remove(
         cells,
         Handle { slot, version },
         tracker,
-    );
-    Reply {
-        answer: r.answer,
-        obj: r.obj,
-    }
+    )
+    .into()
 }
 
 // `batch`. 3, 9 with the number of calls.
@@ -204,7 +197,7 @@ pub extern "C" fn chavrupas_points_remove_maintain(
 ) -> Reply
     ensures { Gives (λ t. remove_maintain_of t (handle slot version) tracker) (told_reply result) (tables nums.old reals.now ints.now map.old pool.old spots.old cells.old) (tables nums.new reals.now ints.now map.new pool.new spots.new cells.new) }
 {
-    let r = points::remove_maintain(
+    points::remove_maintain(
         nums,
         reals,
         ints,
@@ -214,11 +207,8 @@ pub extern "C" fn chavrupas_points_remove_maintain(
         cells,
         Handle { slot, version },
         tracker,
-    );
-    Reply {
-        answer: r.answer,
-        obj: r.obj,
-    }
+    )
+    .into()
 }
 
 // `clear`. 3, 9 with the number of objects.
@@ -236,11 +226,7 @@ pub extern "C" fn chavrupas_points_clear(
 ) -> Count
     ensures { Gives (λ t. clear_of t places.old objs.old) (told_written result places.new objs.new) (tables nums.old reals.now ints.now map.old pool.now spots.now cells.now) (tables nums.new reals.now ints.now map.new pool.now spots.now cells.now) }
 {
-    let r = points::clear(nums, reals, ints, map, pool, spots, cells, places, objs);
-    Count {
-        answer: r.answer,
-        count: r.count,
-    }
+    points::clear(nums, reals, ints, map, pool, spots, cells, places, objs).into()
 }
 
 // `get`. 3, 11, 12.
@@ -290,11 +276,7 @@ pub extern "C" fn chavrupas_points_len(
 ) -> Count
     ensures { told_count result ≡ len_of (tables nums.now reals.now ints.now map.now pool.now spots.now cells.now) }
 {
-    let r = points::len(nums, reals, ints, map, pool, spots, cells);
-    Count {
-        answer: r.answer,
-        count: r.count,
-    }
+    points::len(nums, reals, ints, map, pool, spots, cells).into()
 }
 
 // `handles`. 3, 9 with the number of objects.
@@ -311,11 +293,7 @@ pub extern "C" fn chavrupas_points_handles(
 ) -> Count
     ensures { listing (told_count result) out.new ≡ handles_of (tables nums.now reals.now ints.now map.now pool.now spots.now cells.now) out.old }
 {
-    let r = points::handles(nums, reals, ints, map, pool, spots, cells, out);
-    Count {
-        answer: r.answer,
-        count: r.count,
-    }
+    points::handles(nums, reals, ints, map, pool, spots, cells, out).into()
 }
 
 // `query`. 3, 6, 7, 9 with the number found.
@@ -338,7 +316,7 @@ pub extern "C" fn chavrupas_points_query(
 ) -> Count
     ensures { Finds (λ t. query_of t (position left low) (position right high)) (told_count result) (tables nums.now reals.now ints.now map.now pool.now spots.now cells.now) (outputs found.old places.old objs.old) (outputs found.new places.new objs.new) }
 {
-    let r = points::query(
+    points::query(
         nums,
         reals,
         ints,
@@ -351,11 +329,8 @@ pub extern "C" fn chavrupas_points_query(
         found,
         places,
         objs,
-    );
-    Count {
-        answer: r.answer,
-        count: r.count,
-    }
+    )
+    .into()
 }
 
 // `query_around`. 3, 6, 7, 9 with the number found.
@@ -377,7 +352,7 @@ pub extern "C" fn chavrupas_points_query_around(
 ) -> Count
     ensures { Finds (λ t. around_of t (position x y) radius) (told_count result) (tables nums.now reals.now ints.now map.now pool.now spots.now cells.now) (outputs found.old places.old objs.old) (outputs found.new places.new objs.new) }
 {
-    let r = points::query_around(
+    points::query_around(
         nums,
         reals,
         ints,
@@ -390,11 +365,8 @@ pub extern "C" fn chavrupas_points_query_around(
         found,
         places,
         objs,
-    );
-    Count {
-        answer: r.answer,
-        count: r.count,
-    }
+    )
+    .into()
 }
 
 // `query_aabb`: the corners may come in any order. 3, 6, 7, 9 with the number found.
@@ -417,7 +389,7 @@ pub extern "C" fn chavrupas_points_query_aabb(
 ) -> Count
     ensures { Finds (λ t. aabb_of t (position left low) (position right high)) (told_count result) (tables nums.now reals.now ints.now map.now pool.now spots.now cells.now) (outputs found.old places.old objs.old) (outputs found.new places.new objs.new) }
 {
-    let r = points::query_aabb(
+    points::query_aabb(
         nums,
         reals,
         ints,
@@ -430,11 +402,8 @@ pub extern "C" fn chavrupas_points_query_aabb(
         found,
         places,
         objs,
-    );
-    Count {
-        answer: r.answer,
-        count: r.count,
-    }
+    )
+    .into()
 }
 
 // `nearest`: of the objects that `query_around` finds. 3, 6, 7.

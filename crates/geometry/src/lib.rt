@@ -11,14 +11,14 @@ ghost use Rattle.geometry.specs.Meaning.Rectangle;
 ghost use Rattle.geometry.specs.Meaning.Rectangle.{lower_corner, upper_corner, in_rectangle};
 ghost use Rattle.geometry.specs.Meaning.Intersects;
 
-#[derive(Clone, Copy)]
+#[derive(Clone, Copy, Debug)]
 pub struct Position {
     pub x: f32,
     pub y: f32,
 }
 
 // Lower left and upper right.
-#[derive(Clone, Copy)]
+#[derive(Clone, Copy, Debug)]
 pub struct Aabb {
     pub ll: Position,
     pub ur: Position,
@@ -48,10 +48,8 @@ pub fn radius_in_domain(radius: f32) -> bool
 pub fn aabb_in_domain(b: Aabb) -> bool
     ensures { result ≡ aabb_in_domain b }
 {
-    let ll = b.ll;
-    let ur = b.ur;
-    let corners = position_in_domain(ll) & position_in_domain(ur);
-    corners & ((ll.x <= ur.x) & (ll.y <= ur.y))
+    let corners = position_in_domain(b.ll) & position_in_domain(b.ur);
+    corners & ((b.ll.x <= b.ur.x) & (b.ll.y <= b.ur.y))
 }
 
 pub fn distance_squared(p: Position, centre: Position) -> f32
@@ -88,6 +86,7 @@ pub fn corner_above(centre: Position, radius: f32) -> Position
     }
 }
 
+// Written out, and no `f32::min`: of two zeros it is the first that counts, as in the Rust.
 pub fn lesser(a: f32, b: f32) -> f32
     ensures { result ≡ Rectangle.lesser a b }
 {
@@ -104,17 +103,19 @@ fn greater(a: f32, b: f32) -> f32
 pub fn lower_corner(a: Position, b: Position) -> Position
     ensures { result ≡ lower_corner a b }
 {
-    let x = lesser(a.x, b.x);
-    let y = lesser(a.y, b.y);
-    Position { x: x, y: y }
+    Position {
+        x: lesser(a.x, b.x),
+        y: lesser(a.y, b.y),
+    }
 }
 
 pub fn upper_corner(a: Position, b: Position) -> Position
     ensures { result ≡ upper_corner a b }
 {
-    let x = greater(a.x, b.x);
-    let y = greater(a.y, b.y);
-    Position { x: x, y: y }
+    Position {
+        x: greater(a.x, b.x),
+        y: greater(a.y, b.y),
+    }
 }
 
 // Whether p lies between the corners, edges included.
@@ -142,15 +143,12 @@ fn overlaps(lo: f32, hi: f32, blo: f32, bhi: f32) -> bool
 }
 
 // The box test of the Rust, a the query box: it is what binary32 makes of it, and not exact.
+#[tactic(auto, unfolding(crate::specs::Meaning::Intersects::intersects))]
 pub fn intersects(a: Aabb, b: Aabb) -> bool
     ensures { result ≡ Intersects.intersects a b }
 {
-    let ll = a.ll;
-    let ur = a.ur;
-    let bll = b.ll;
-    let bur = b.ur;
-    let x = overlaps(ll.x, ur.x, bll.x, bur.x);
-    let y = overlaps(ll.y, ur.y, bll.y, bur.y);
+    let x = overlaps(a.ll.x, a.ur.x, b.ll.x, b.ur.x);
+    let y = overlaps(a.ll.y, a.ur.y, b.ll.y, b.ur.y);
     x & y
 }
 
@@ -158,15 +156,8 @@ pub fn intersects(a: Aabb, b: Aabb) -> bool
 pub fn same_bits(a: f32, b: f32) -> bool
     ensures { Says result ((a ≡ b) × (is_nan a ≡ false)) }
 {
-    if a != a {
-        return false;
-    }
-    if b != b {
-        return false;
-    }
-    let x = f32::to_bits(a);
-    let y = f32::to_bits(b);
-    x == y
+    // a NaN is not equal to itself
+    a == a && b == b && a.to_bits() == b.to_bits()
 }
 
 pub fn same_position(p: Position, q: Position) -> bool

@@ -3,6 +3,7 @@
 
 ghost use Rattle.std.specs.Prelude.{◌≤◌, ◌≡◌, ◌&&◌, ◌∷◌};
 ghost use Rattle.basics.specs.Words.{[], length, eqb, leb};
+ghost use Rattle.basics.specs.Meaning.Answers.{number_of, answer_of};
 ghost use Rattle.basics.specs.Meaning.Refusals.{unless, first_of, pick};
 ghost use Rattle.storage.specs.Meaning.Keyed.{written};
 ghost use Rattle.point_records.specs.Meaning.Columns.{position_in};
@@ -15,9 +16,10 @@ ghost use Rattle.point_tables.specs.Meaning.Tables.{tables};
 
 mod marks;
 
+use basics::Refusal;
 use geometry::Position;
 use marks::mark_all;
-use point_deferred::{deferred, unmarked};
+use point_deferred::{Ask, deferred, unmarked};
 use replies::Reply;
 use slots::{Handle, Row};
 
@@ -31,19 +33,15 @@ pub struct BatchReply {
 fn handle_of(row: [u32; 3]) -> Handle
     ensures { result ≡ handle_of row }
 {
-    Handle {
-        slot: row[0],
-        version: row[1],
-    }
+    let [slot, version, _] = row;
+    Handle { slot, version }
 }
 
 fn position_of(row: [f32; 2]) -> Position
     ensures { result ≡ position_in row }
 {
-    Position {
-        x: row[0],
-        y: row[1],
-    }
+    let [x, y] = row;
+    Position { x, y }
 }
 
 fn reply_row(r: Reply) -> [u32; 2]
@@ -52,22 +50,23 @@ fn reply_row(r: Reply) -> [u32; 2]
     [r.answer, r.obj]
 }
 
-fn batch_answer(held: bool, kinds: usize, handles: usize, positions: usize, out: usize) -> u32
-    ensures { result ≡ first_of (unless ((eqb handles kinds && eqb positions kinds) && held) 3 ∷ unless (leb kinds out) 9 ∷ []) }
+// Whether the lists can be a batch: of one length, on tables that hold a grid, and with a place of the output for each call.
+fn check_lists(
+    held: bool,
+    kinds: usize,
+    handles: usize,
+    positions: usize,
+    out: usize,
+) -> Result<(), Refusal>
+    ensures { answer_of result ≡ first_of (unless ((eqb handles kinds && eqb positions kinds) && held) 3 ∷ unless (leb kinds out) 9 ∷ []) }
 {
-    if handles != kinds {
-        return 3;
-    }
-    if positions != kinds {
-        return 3;
-    }
-    if !held {
-        return 3;
+    if handles != kinds || positions != kinds || !held {
+        return Err(Refusal::Tables);
     }
     if kinds > out {
-        return 9;
+        return Err(Refusal::OutputTooShort);
     }
-    0
+    Ok(())
 }
 
 // The calls one after the other.
@@ -87,14 +86,11 @@ fn run(
     ensures after { poolless nums.new reals.new ints.new map.now cells.new ≡ held_after (poolless nums.old reals.old ints.old map.now cells.old) (calls_of kinds.now handles.now positions.now) }
     ensures out { out.new ≡ written (reply_rows (held_replies (poolless nums.old reals.old ints.old map.now cells.old) (calls_of kinds.now handles.now positions.now))) out.old }
 {
-    let mut i = 0;
-    while i < kinds.len() {
+    for i in 0..kinds.len() {
         let row = handles[i];
-        let h = handle_of(row);
-        let p = position_of(positions[i]);
-        let r = deferred(nums, reals, ints, map, cells, kinds[i], h, p, row[2]);
-        out[i] = reply_row(r);
-        i += 1;
+        let ask = Ask::of_kind(kinds[i], position_of(positions[i]));
+        let r = deferred(nums, reals, ints, map, cells, ask, handle_of(row), row[2]);
+        out[i] = reply_row(r.into());
     }
 }
 
@@ -118,18 +114,13 @@ fn run_many(
     ensures out { out.new ≡ written (reply_rows (held_replies (poolless nums.old reals.old ints.old map.now cells.old) (calls_of kinds.now handles.now positions.now))) out.old }
 {
     let size = map[0];
-    let mut i = 0;
-    while i < kinds.len() {
+    for i in 0..kinds.len() {
         let row = handles[i];
-        let h = handle_of(row);
-        let p = position_of(positions[i]);
-        let r = unmarked(nums, reals, ints, size, kinds[i], h, p, row[2]);
-        out[i] = reply_row(r);
-        i += 1;
+        let ask = Ask::of_kind(kinds[i], position_of(positions[i]));
+        let r = unmarked(nums, reals, ints, size, ask, handle_of(row), row[2]);
+        out[i] = reply_row(r.into());
     }
-    let used = basics::index_of(map[1]);
-    let rows = basics::index_of(map[2]);
-    mark_all(nums, pool, used, cells, rows);
+    mark_all(nums, pool, map[1] as usize, cells, map[2] as usize);
 }
 
 // The calls: many leave their marks to one walk, few mark one by one.
@@ -151,7 +142,7 @@ fn run_all(
     ensures after { poolless nums.new reals.new ints.new map.now cells.new ≡ held_after (poolless nums.old reals.old ints.old map.now cells.old) (calls_of kinds.now handles.now positions.now) }
     ensures out { out.new ≡ written (reply_rows (held_replies (poolless nums.old reals.old ints.old map.now cells.old) (calls_of kinds.now handles.now positions.now))) out.old }
 {
-    let used = basics::index_of(map[1]);
+    let used = map[1] as usize;
     if used / 8 < kinds.len() {
         run_many(
             nums, reals, ints, map, pool, spots, cells, kinds, handles, positions, out,
@@ -163,15 +154,18 @@ fn run_all(
     }
 }
 
-// A batch of n calls that is refused: 9 tells their number.
-fn refused_batch(a: u32, n: usize) -> BatchReply
-    ensures { (result.answer ≡ a) × (result.count ≡ pick (eqb a 9) n 0) }
+// A batch of n calls that is refused: a short output is told their number.
+fn refused_batch(why: Refusal, n: usize) -> BatchReply
+    ensures { (result.answer ≡ number_of why) × (result.count ≡ pick (eqb (number_of why) 9) n 0) }
 {
-    let mut count = 0;
-    if a == 9 {
-        count = basics::word_of(n);
+    let count = match why {
+        Refusal::OutputTooShort => n as u64,
+        _ => 0,
+    };
+    BatchReply {
+        answer: why.number(),
+        count,
     }
-    BatchReply { answer: a, count }
 }
 
 // As `set_position` and `remove` one after the other, but with one check for all.
@@ -192,15 +186,16 @@ pub fn batch(
 {
     let held = point_tables::check(nums, reals, ints, map, pool, spots, cells);
     let n = kinds.len();
-    let a = batch_answer(held, n, handles.len(), positions.len(), out.len());
-    if a != 0 {
-        return refused_batch(a, n);
-    }
-    run_all(
-        nums, reals, ints, map, pool, spots, cells, kinds, handles, positions, out,
-    );
-    BatchReply {
-        answer: 0,
-        count: basics::word_of(n),
+    match check_lists(held, n, handles.len(), positions.len(), out.len()) {
+        Err(why) => refused_batch(why, n),
+        Ok(()) => {
+            run_all(
+                nums, reals, ints, map, pool, spots, cells, kinds, handles, positions, out,
+            );
+            BatchReply {
+                answer: 0,
+                count: n as u64,
+            }
+        }
     }
 }

@@ -19,14 +19,13 @@ pub fn mark_all(nums: &[Row], pool: &[[u64; 2]], used: usize, cells: &mut [[u64;
 {
     let mut c = 0;
     let mut j = 0;
+    // a `while`: in a turn either the entry is done or the row of its cell is sought one further on
     while j < used {
         let e = pool[j];
         let row = cells[c];
         if row[0] == e[0] {
-            let s = basics::index_of(e[1]);
-            let n = nums[s];
-            let tag = point_records::tag_in(n);
-            if tag != 0 {
+            let n = nums[e[1] as usize];
+            if point_records::tag_in(n) != 0 {
                 cells[c] = set_mark(row);
             }
             j += 1;

@@ -1,4 +1,3 @@
 -- What the proofs of `clear` share.
-pub mod Answers
 pub mod Cleared
 pub mod laws

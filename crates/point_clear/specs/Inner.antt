@@ -1,20 +1,10 @@
 -- What the steps of the code are asked for and give. Assumes nothing.
 use Rattle.std.specs.Prelude.{◌≤◌, ◌≡◌, ◌∷◌, Float}
-use Rattle.basics.specs.Words.{ℕ, min, Bool, List, [], map, length, get_or, leb}
+use Rattle.basics.specs.Words.{ℕ, List, [], map, length, get_or}
 use Rattle.std.specs.Float.{nan}
 use Rattle.basics.specs.Meaning.Limits.{most_slots}
-use Rattle.basics.specs.Meaning.Refusals.{pick}
-use Rattle.replies.specs.declared.Count.{Count}
-use Rattle.replies.specs.Meaning.Replies.{count}
 use Rattle.point_records.specs.Meaning.Word.{tracker_at}
 use Rattle.slot_walks.specs.Meaning.Live.{live_from, obj_at}
-
--- the answer of `clear` for n objects
-abbrev pub room_answer : ℕ → ℕ → ℕ → ℕ
-room_answer n places objs = pick (leb n (min places objs)) 0 9
-
-abbrev pub count_by : Bool → ℕ → ℕ → ℕ → Count
-count_by held n places objs = pick held (count (room_answer n places objs) n) (count 3 0)
 
 -- what the live slots have in the columns
 abbrev pub place_at : List (List Float) → ℕ → List Float

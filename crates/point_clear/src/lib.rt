@@ -1,52 +1,20 @@
 // `clear`: writes recorded position, data and tracker, ascending by slot, then empties the grid. Versions rise as with any emptying.
 #![tactic(auto)]
 
-ghost use Rattle.std.specs.Prelude.{◌+◌, ◌≤◌, ◌<◌, ◌≡◌};
-ghost use Rattle.basics.specs.Words.{true, length, get_or};
-ghost use Rattle.basics.specs.Meaning.Limits.{most_slots};
+ghost use Rattle.std.specs.Prelude.{◌+◌, ◌≡◌};
+ghost use Rattle.basics.specs.Words.{length};
 ghost use Rattle.slots.specs.Meaning.Map.{words_for};
 ghost use Rattle.storage.specs.Meaning.Keyed.{written};
 ghost use Rattle.point_tables.specs.Meaning.Tables.{counting, tables};
 ghost use Rattle.slot_walks.specs.Meaning.Live.{live_from};
 ghost use Rattle.slot_walks.specs.Meaning.Cleared.{cleared_rows, cleared_map};
-ghost use Rattle.point_clear.specs.Inner.{room_answer, count_by, places_of, objs_of, Room};
+ghost use Rattle.point_clear.specs.Inner.{places_of, objs_of, Room};
 ghost use Rattle.point_clear.specs.Meaning.Clear.{clear_of, wrote};
 ghost use Rattle.point_tables.specs.Meaning.Outcome.{outcome};
 
+use basics::Refusal;
 use replies::Count;
 use slots::Row;
-
-// 9 if one of the outputs has fewer than n places, else 0.
-fn short_of(n: usize, places: usize, objs: usize) -> u32
-    ensures { result ≡ room_answer n places objs }
-{
-    if places < n {
-        return 9;
-    }
-    if objs < n {
-        return 9;
-    }
-    0
-}
-
-// The answer, with the number of objects: each has one entry, so the entries in use are as many.
-fn answer(map: &[u64], held: bool, places: usize, objs: usize) -> Count
-    requires { held ≡ true → (1 < length map.now) × (get_or map.now 1 0 ≤ most_slots) }
-    ensures { result ≡ count_by held (get_or map.now 1 0) places objs }
-{
-    if !held {
-        return Count {
-            answer: 3,
-            count: 0,
-        };
-    }
-    let n = map[1];
-    let a = short_of(basics::index_of(n), places, objs);
-    Count {
-        answer: a,
-        count: n as u32,
-    }
-}
 
 // The recorded position, and the data and the tracker, of each live slot, from place 0 of the outputs on.
 fn put_objects(nums: &[Row], reals: &[[f32; 4]], places: &mut [[f32; 2]], objs: &mut [[u32; 2]])
@@ -55,16 +23,13 @@ fn put_objects(nums: &[Row], reals: &[[f32; 4]], places: &mut [[f32; 2]], objs: 
     ensures objs { objs.new ≡ written (objs_of nums.now (live_from 0 nums.now)) objs.old }
 {
     let mut k = 0;
-    let mut i = 0;
-    while i < nums.len() {
-        let row = nums[i];
+    for (i, &row) in nums.iter().enumerate() {
         if slot_walks::is_live(row) {
             let q = reals[i];
             places[k] = [q[0], q[1]];
             objs[k] = [row[2], point_records::tracker_in(row)];
             k += 1;
         }
-        i += 1;
     }
 }
 
@@ -79,6 +44,7 @@ fn empty_all(nums: &mut [Row], map: &mut [u64])
     map[2] = 0;
 }
 
+#[tactic(auto, using(crate::proofs::Cleared::clearing))]
 pub fn clear(
     nums: &mut [Row],
     reals: &[[f32; 4]],
@@ -92,12 +58,15 @@ pub fn clear(
 ) -> Count
     ensures { outcome (wrote result places.new objs.new) (tables nums.new reals.now ints.now map.new pool.now spots.now cells.now) ≡ clear_of (tables nums.old reals.now ints.now map.old pool.now spots.now cells.now) places.old objs.old }
 {
-    let held = point_tables::check(nums, reals, ints, map, pool, spots, cells);
-    let c = answer(map, held, places.len(), objs.len());
-    if c.answer != 0 {
-        return c;
+    if !point_tables::check(nums, reals, ints, map, pool, spots, cells) {
+        return Count::from(Err(Refusal::Tables));
+    }
+    // each object has one entry, so the entries in use are as many
+    let n = map[1] as u32;
+    if places.len().min(objs.len()) < n as usize {
+        return Count::short(n);
     }
     put_objects(nums, reals, places, objs);
     empty_all(nums, map);
-    c
+    Count::from(Ok(n))
 }

@@ -8,3 +8,4 @@ pub mod HeldLaws
 pub mod PendedLaws
 pub mod TrackerLaws
 pub mod Held
+pub mod AskLaws

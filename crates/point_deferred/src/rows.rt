@@ -2,21 +2,15 @@
 ghost use Rattle.std.specs.Prelude.{◌≡◌};
 ghost use Rattle.cells.specs.Meaning.Size.{SizeInDomain};
 ghost use Rattle.point_records.specs.Meaning.Columns.{position_in};
-ghost use Rattle.point_records.specs.Meaning.Occupied.{InDomain};
-ghost use Rattle.point_deferred.specs.Inner.Held.{tag_to};
-ghost use Rattle.point_deferred.specs.Inner.Rows.{cell_in, with_pending, with_target, PendingFor, returned_in};
+ghost use Rattle.point_deferred.specs.Inner.Ask.{kind_of, place_of, Allowed};
+ghost use Rattle.point_deferred.specs.Inner.Held.{state_for};
+ghost use Rattle.point_deferred.specs.Inner.Rows.{cell_in, with_pending, with_target, returned_in};
 
+use crate::Ask;
 use cells::Cell;
 use geometry::Position;
+use point_records::State;
 use slots::Row;
-
-// What becomes pending for an object: the tag of its state, where it shall stand, and in which cell.
-#[derive(Clone, Copy)]
-pub struct Pending {
-    pub tag: u32,
-    pub at: Position,
-    pub to: Cell,
-}
 
 // The recorded cell.
 pub fn cell_in(z: [i32; 4]) -> Cell
@@ -26,39 +20,30 @@ pub fn cell_in(z: [i32; 4]) -> Cell
 }
 
 // The recorded position.
-fn position_in(q: [f32; 4]) -> Position
+pub fn position_in(q: [f32; 4]) -> Position
     ensures { result ≡ position_in q }
 {
     Position { x: q[0], y: q[1] }
 }
 
-// The tag of what becomes pending for an object of cell c that moves to cell d.
-fn tag_to(d: Cell, c: Cell) -> u32
-    ensures { result ≡ tag_to d c }
+// What becomes pending for an object of cell c: a new position leads to its own cell or to another, and a removal nowhere.
+// Inlined, as `pend` is.
+#[inline(always)]
+pub fn state_for(size: u64, c: Cell, ask: Ask) -> State
+    requires { SizeInDomain size × Allowed ask }
+    ensures { result ≡ state_for size c (kind_of ask) (place_of ask) }
 {
-    if cells::same_cell(d, c) {
-        return 1;
+    match ask {
+        Ask::SetPosition(at) => {
+            let to = cells::cell_at(size, at);
+            if to == c {
+                State::NewPos(at)
+            } else {
+                State::Relocate(at, to)
+            }
+        }
+        Ask::Remove => State::Removed,
     }
-    2
-}
-
-// Where a new position leads, and a removal nowhere.
-pub fn pending_for(size: u64, q: [f32; 4], z: [i32; 4], kind: u32, at: Position) -> Pending
-    requires { SizeInDomain size × (kind ≡ 0 → InDomain at) }
-    ensures { PendingFor size q z kind at result }
-{
-    let c = cell_in(z);
-    if kind != 0 {
-        let p = position_in(q);
-        return Pending {
-            tag: 3,
-            at: p,
-            to: c,
-        };
-    }
-    let to = cells::cell_at(size, at);
-    let tag = tag_to(to, c);
-    Pending { tag, at, to }
 }
 
 pub fn with_pending(q: [f32; 4], at: Position) -> [f32; 4]
@@ -74,11 +59,11 @@ pub fn with_target(z: [i32; 4], to: Cell) -> [i32; 4]
 }
 
 // A removal returns the data, a new position nothing.
-pub fn returned_in(n: Row, kind: u32) -> u32
-    ensures { result ≡ returned_in n kind }
+pub fn returned_in(n: Row, ask: Ask) -> u32
+    ensures { result ≡ returned_in n (kind_of ask) }
 {
-    if kind != 0 {
-        return n[2];
+    match ask {
+        Ask::SetPosition(_) => 0,
+        Ask::Remove => n[2],
     }
-    0
 }

@@ -1,2 +1,3 @@
 -- Laws, and what the proofs share.
+pub mod Reading
 pub mod laws

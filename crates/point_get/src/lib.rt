@@ -2,9 +2,12 @@
 #![tactic(auto)]
 
 ghost use Rattle.std.specs.Prelude.{◌≡◌};
-ghost use Rattle.point_get.specs.Meaning.{get_of, len_of, handles_of, listing};
+ghost use Rattle.basics.specs.Meaning.Answers.{number_of};
+ghost use Rattle.geometry.specs.Meaning.Zero.{zero-position};
+ghost use Rattle.point_get.specs.Meaning.{got, get_of, len_of, handles_of, listing};
 ghost use Rattle.point_tables.specs.Meaning.Tables.{tables};
 
+use basics::Refusal;
 use geometry::Position;
 use replies::Count;
 use slots::{Handle, Row};
@@ -18,6 +21,21 @@ pub struct Got {
     pub tracker: u32,
 }
 
+impl Got {
+    // A refusal: zeros.
+    pub fn refused(why: Refusal) -> Got
+        ensures { result ≡ got (number_of why) zero-position 0 0 }
+    {
+        Got {
+            answer: why.number(),
+            position: Position { x: 0.0, y: 0.0 },
+            obj: 0,
+            tracker: 0,
+        }
+    }
+}
+
+#[tactic(auto, using(crate::proofs::Reading::getting))]
 pub fn get(
     nums: &[Row],
     reals: &[[f32; 4]],
@@ -31,25 +49,13 @@ pub fn get(
     ensures { result ≡ get_of (tables nums.now reals.now ints.now map.now pool.now spots.now cells.now) h }
 {
     if !point_tables::check(nums, reals, ints, map, pool, spots, cells) {
-        return Got {
-            answer: 3,
-            position: Position { x: 0.0, y: 0.0 },
-            obj: 0,
-            tracker: 0,
-        };
+        return Got::refused(Refusal::Tables);
     }
-    let why = slots::refusal_of(nums, h);
-    if why != 0 {
-        return Got {
-            answer: why,
-            position: Position { x: 0.0, y: 0.0 },
-            obj: 0,
-            tracker: 0,
-        };
+    if let Err(why) = slots::check_handle(nums, h) {
+        return Got::refused(why);
     }
-    let s = basics::wide(h.slot);
-    let n = nums[s];
-    let q = reals[s];
+    let n = nums[h.slot as usize];
+    let q = reals[h.slot as usize];
     Got {
         answer: 0,
         position: Position { x: q[0], y: q[1] },
@@ -59,6 +65,7 @@ pub fn get(
 }
 
 // The number of objects: each has one entry, so the entries in use are as many.
+#[tactic(auto, using(crate::proofs::Reading::counting))]
 pub fn len(
     nums: &[Row],
     reals: &[[f32; 4]],
@@ -71,19 +78,13 @@ pub fn len(
     ensures { result ≡ len_of (tables nums.now reals.now ints.now map.now pool.now spots.now cells.now) }
 {
     if !point_tables::check(nums, reals, ints, map, pool, spots, cells) {
-        return Count {
-            answer: 3,
-            count: 0,
-        };
+        return Count::from(Err(Refusal::Tables));
     }
-    let used = map[1];
-    Count {
-        answer: 0,
-        count: used as u32,
-    }
+    Count::from(Ok(map[1] as u32))
 }
 
 // The handles of the objects, ascending by slot.
+#[tactic(auto, using(crate::proofs::Reading::naming))]
 pub fn handles(
     nums: &[Row],
     reals: &[[f32; 4]],
@@ -96,16 +97,13 @@ pub fn handles(
 ) -> Count
     ensures { listing result out.new ≡ handles_of (tables nums.now reals.now ints.now map.now pool.now spots.now cells.now) out.old }
 {
-    let found = len(nums, reals, ints, map, pool, spots, cells);
-    if found.answer != 0 {
-        return found;
+    if !point_tables::check(nums, reals, ints, map, pool, spots, cells) {
+        return Count::from(Err(Refusal::Tables));
     }
-    if out.len() < basics::wide(found.count) {
-        return Count {
-            answer: 9,
-            count: found.count,
-        };
+    let n = map[1] as u32;
+    if out.len() < n as usize {
+        return Count::short(n);
     }
     slot_walks::put_handles(nums, out);
-    found
+    Count::from(Ok(n))
 }

@@ -1,4 +1,4 @@
 -- What the proofs of inserts share.
 mod Placed
-mod Chosen
+pub mod Chosen
 pub mod laws

@@ -28,9 +28,8 @@ pub fn new(
         spots.len(),
         cells.len(),
     );
-    let a = blank::answer(sized, size);
-    if a != 0 {
-        return a;
+    if let Err(why) = blank::check(sized, size) {
+        return why.number();
     }
     blank::new_map(map, nums.len(), size);
     blank::free_slots(nums);

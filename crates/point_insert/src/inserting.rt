@@ -1,6 +1,6 @@
 // `insert`: the lowest usable slot takes the object, and (handle, position) goes to the end of its cell's list.
 ghost use Rattle.std.specs.Prelude.{◌+◌, ◌/◌, ◌≤◌, ◌<◌, ◌≡◌};
-ghost use Rattle.basics.specs.Words.{true, length};
+ghost use Rattle.basics.specs.Words.{length};
 ghost use Rattle.basics.specs.Meaning.Limits.{most_slots};
 ghost use Rattle.slots.specs.Meaning.Map.{words_for, taken};
 ghost use Rattle.slots.specs.Inner.Map.{NonePast};
@@ -10,66 +10,33 @@ ghost use Rattle.point_tables.specs.Meaning.Outcome.{outcome};
 ghost use Rattle.point_insert.specs.Meaning.Insert;
 ghost use Rattle.point_insert.specs.Meaning.Insert.{insert_of};
 ghost use Rattle.point_insert.specs.Inner.Fresh.{Fresh, Chosen, fresh_record, Stored};
-ghost use Rattle.replies.specs.Meaning.Replies.{inserted};
+ghost use Rattle.replies.specs.Inner.Results.{inserted_of};
 
+use basics::Refusal;
 use cells::Cell;
 use geometry::Position;
 use point_records::{Entry, Record, State};
 use replies::Inserted;
-use slots::{Handle, Row, Usable};
+use slots::{Handle, Row};
 
-// The answer, and where it is 0 the slot.
-#[derive(Clone, Copy)]
-struct Choice {
-    answer: u32,
-    slot: usize,
-}
-
-// The first refusal that applies, or the lowest usable slot.
-fn choose(nums: &[Row], map: &[u64], held: bool, at: Position, tracker: u32) -> Choice
-    requires { held ≡ true → (length map.now ≡ 3 + words_for (length nums.now)) × (length nums.now ≤ most_slots) × NonePast map.now (length nums.now) }
-    ensures { Chosen held at tracker map.now (length nums.now) result.answer result.slot }
+// The lowest usable slot, or the first refusal that applies, in tables that hold a grid.
+fn choose(nums: &[Row], map: &[u64], at: Position, tracker: u32) -> Result<usize, Refusal>
+    requires { (length map.now ≡ 3 + words_for (length nums.now)) × (length nums.now ≤ most_slots) × NonePast map.now (length nums.now) }
+    ensures { Chosen at tracker map.now (length nums.now) result }
 {
-    if !held {
-        return Choice { answer: 3, slot: 0 };
-    }
     if !geometry::position_in_domain(at) {
-        return Choice { answer: 6, slot: 0 };
+        return Err(Refusal::OutsideDomain);
     }
     if tracker > point_records::LAST_TRACKER {
-        return Choice {
-            answer: 13,
-            slot: 0,
-        };
+        return Err(Refusal::NoTracker);
     }
-    let u = slots::lowest(map, nums.len());
-    match u {
-        Usable::At(s) => Choice { answer: 0, slot: s },
-        Usable::Nothing => Choice { answer: 4, slot: 0 },
-    }
-}
-
-// The object is in slot s, at the version that the slot has.
-fn accepted(nums: &[Row], s: usize) -> Inserted
-    requires { (s < length nums.now) × (length nums.now ≤ most_slots) }
-    ensures { result ≡ inserted 0 s (version_at nums.now s) }
-{
-    let row = nums[s];
-    let version = row[0];
-    Inserted {
-        answer: 0,
-        handle: Handle {
-            slot: s as u32,
-            version,
-        },
-    }
+    slots::lowest(map, nums.len()).ok_or(Refusal::NoUsableSlot)
 }
 
 // The record of a new object: nothing is pending.
 fn fresh_record(version: u32, at: Position, cell: Cell, obj: u32, tracker: u32) -> Record
     ensures { result ≡ fresh_record version at cell obj tracker }
 {
-    let tracker = point_records::tracker_of(tracker);
     Record {
         version,
         phase: slots::LIVE,
@@ -77,7 +44,7 @@ fn fresh_record(version: u32, at: Position, cell: Cell, obj: u32, tracker: u32) 
         position: at,
         cell,
         state: State::Unchanged,
-        tracker,
+        tracker: point_records::tracker_of(tracker),
     }
 }
 
@@ -95,8 +62,7 @@ fn occupy(
     requires { (s < length nums.old) × (s < length reals.old) × (s < length ints.old) }
     ensures { Stored nums.old reals.old ints.old s (fresh_record (version_at nums.old s) at cell obj tracker) nums.new reals.new ints.new }
 {
-    let row = nums[s];
-    let r = fresh_record(row[0], at, cell, obj, tracker);
+    let r = fresh_record(nums[s][0], at, cell, obj, tracker);
     point_records::store(nums, reals, ints, s, r);
 }
 
@@ -106,8 +72,8 @@ fn count(map: &mut [u64], s: usize, used: usize, rows: usize)
     ensures { map.new ≡ counting (taken map.old s) used rows }
 {
     slots::take(map, s);
-    map[1] = basics::word_of(used);
-    map[2] = basics::word_of(rows);
+    map[1] = used as u64;
+    map[2] = rows as u64;
 }
 
 // Slot s, which is free, takes the object, and its cell's list the entry.
@@ -127,8 +93,8 @@ fn put(
     requires { Fresh (tables nums.old reals.old ints.old map.old pool.old spots.old cells.old) s at }
     ensures { tables nums.new reals.new ints.new map.new pool.new spots.new cells.new ≡ Insert.put (tables nums.old reals.old ints.old map.old pool.old spots.old cells.old) s at obj tracker }
 {
-    let used = basics::index_of(map[1]);
-    let rows = basics::index_of(map[2]);
+    let used = map[1] as usize;
+    let rows = map[2] as usize;
     let cell = cells::cell_at(map[0], at);
     let key = cells::key_of(cell);
     let e = Entry {
@@ -139,8 +105,35 @@ fn put(
     let spot = point_records::entry_spot(e);
     occupy(nums, reals, ints, s, at, cell, obj, tracker);
     storage::append_entry(pool, spots, used, row, spot);
-    let more = storage::enter_cell(cells, rows, key);
-    count(map, s, used + 1, more);
+    let rows = storage::enter_cell(cells, rows, key);
+    count(map, s, used + 1, rows);
+}
+
+// The handle of the new object, or why there is none.
+#[tactic(auto, using(crate::proofs::Chosen::entering))]
+fn enter(
+    nums: &mut [Row],
+    reals: &mut [[f32; 4]],
+    ints: &mut [[i32; 4]],
+    map: &mut [u64],
+    pool: &mut [[u64; 2]],
+    spots: &mut [[f32; 2]],
+    cells: &mut [[u64; 2]],
+    at: Position,
+    obj: u32,
+    tracker: u32,
+) -> Result<Handle, Refusal>
+    ensures { outcome (inserted_of result) (tables nums.new reals.new ints.new map.new pool.new spots.new cells.new) ≡ insert_of (tables nums.old reals.old ints.old map.old pool.old spots.old cells.old) at obj tracker }
+{
+    if !point_tables::check(nums, reals, ints, map, pool, spots, cells) {
+        return Err(Refusal::Tables);
+    }
+    let s = choose(nums, map, at, tracker)?;
+    let handle = slots::handle_at(nums, s);
+    put(
+        nums, reals, ints, map, pool, spots, cells, s, at, obj, tracker,
+    );
+    Ok(handle)
 }
 
 pub fn insert(
@@ -157,16 +150,5 @@ pub fn insert(
 ) -> Inserted
     ensures { outcome result (tables nums.new reals.new ints.new map.new pool.new spots.new cells.new) ≡ insert_of (tables nums.old reals.old ints.old map.old pool.old spots.old cells.old) at obj tracker }
 {
-    let held = point_tables::check(nums, reals, ints, map, pool, spots, cells);
-    let c = choose(nums, map, held, at, tracker);
-    let a = c.answer;
-    if a != 0 {
-        return replies::refused_insert(a);
-    }
-    let s = c.slot;
-    let r = accepted(nums, s);
-    put(
-        nums, reals, ints, map, pool, spots, cells, s, at, obj, tracker,
-    );
-    r
+    enter(nums, reals, ints, map, pool, spots, cells, at, obj, tracker).into()
 }

@@ -22,9 +22,9 @@ fn lay_spot(reals: &[[f32; 4]], spots: &mut [[f32; 2]], tag: u32, s: usize, at: 
     if tag == 1 {
         let q = reals[s];
         spots[w] = [q[2], q[3]];
-        return;
+    } else {
+        spots[w] = spots[at];
     }
-    spots[w] = spots[at];
 }
 
 // Walks the list at the places from..to and lays what it keeps from place `start` on; returns the place behind that.
@@ -45,11 +45,11 @@ pub fn walk_run(
     let mut i = from;
     let mut end = to;
     let mut w = start;
+    // a `while`, since one entry looked at is one less in front or one less at the end
     while i < end {
         let row = pool[at];
-        let s = basics::index_of(row[1]);
-        let n = nums[s];
-        let tag = point_records::tag_in(n);
+        let s = row[1] as usize;
+        let tag = point_records::tag_in(nums[s]);
         if tag < 2 {
             lay_spot(reals, spots, tag, s, at, w);
             pool[w] = row;
@@ -75,13 +75,11 @@ fn move_run(
     requires { Room pool.old spots.old from to start }
     ensures { Laid (list_at pool.old spots.old from to) pool.old spots.old start to result pool.new spots.new }
 {
-    let mut i = from;
     let mut w = start;
-    while i < to {
+    for i in from..to {
         pool[w] = pool[i];
         spots[w] = spots[i];
         w += 1;
-        i += 1;
     }
     w
 }
@@ -101,12 +99,12 @@ fn sweep_run(
     ensures { Laid (kept_if dirty nums.now reals.now (list_at pool.old spots.old from to)) pool.old spots.old start to result pool.new spots.new }
 {
     if dirty {
-        return walk_run(nums, reals, pool, spots, from, to, start);
+        walk_run(nums, reals, pool, spots, from, to, start)
+    } else if start == from {
+        to
+    } else {
+        move_run(pool, spots, from, to, start)
     }
-    if start == from {
-        return to;
-    }
-    move_run(pool, spots, from, to, start)
 }
 
 // The lists in the order of the cell table: what they keep is laid from place 0 on. Returns how many entries that is.
@@ -122,17 +120,14 @@ pub fn sweep_lists(
     requires { Holds (tables nums.now reals.now ints.now map.now pool.old spots.old cells.now) }
     ensures { InUse (kept_entries (tables nums.now reals.now ints.now map.now pool.old spots.old cells.now)) pool.old spots.old pool.new spots.new result }
 {
-    let used = basics::index_of(map[1]);
-    let rows = basics::index_of(map[2]);
-    let mut r = 0;
+    let used = map[1] as usize;
+    let rows = map[2] as usize;
     let mut from = 0;
     let mut w = 0;
-    while r < rows {
-        let cell = cells[r];
+    for cell in &cells[..rows] {
         let to = storage::list_end(pool, from, used, cell[0]);
         w = sweep_run(nums, reals, pool, spots, from, to, w, cell[1] == 1);
         from = to;
-        r += 1;
     }
     w
 }

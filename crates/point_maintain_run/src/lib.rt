@@ -10,6 +10,7 @@ ghost use Rattle.point_maintain.specs.Inner.Closed.{settled_tables};
 ghost use Rattle.point_maintain.specs.Meaning.Maintain.{maintain_of};
 ghost use Rattle.point_tables.specs.Meaning.Tables.{tables};
 
+use basics::Refusal;
 use point_maintain::Maintained;
 use slots::Row;
 
@@ -18,8 +19,8 @@ fn count(map: &mut [u64], used: usize, rows: usize)
     requires { 2 < length map.old }
     ensures { map.new ≡ set (set map.old 1 used) 2 rows }
 {
-    map[1] = basics::word_of(used);
-    map[2] = basics::word_of(rows);
+    map[1] = used as u64;
+    map[2] = rows as u64;
 }
 
 // What is pending is done.
@@ -56,7 +57,7 @@ pub fn maintain(
 {
     if !point_tables::check(nums, reals, ints, map, pool, spots, cells) {
         return Maintained {
-            answer: 3,
+            answer: Refusal::Tables.number(),
             moved: 0,
             removed: 0,
         };

@@ -1,11 +1,11 @@
 // The pass of `maintain` over the slots: what is pending for each object is done to its record, and the rows of relocated objects are listed.
 #![tactic(auto)]
 
-ghost use Rattle.std.specs.Prelude.{◌+◌, ◌≤◌, ◌<◌, ◌≡◌, ◌∷◌};
-ghost use Rattle.basics.specs.Words.{[], length, set};
+ghost use Rattle.std.specs.Prelude.{◌≤◌, ◌<◌, ◌≡◌};
+ghost use Rattle.std.specs.Int.{from_bool};
+ghost use Rattle.basics.specs.Words.{length};
 ghost use Rattle.basics.specs.Meaning.Limits.{most_slots};
-ghost use Rattle.cells.specs.Meaning.Key.{key_of};
-ghost use Rattle.point_maintain_slots.specs.Inner.Pass.{Slotted, Ready, Room, Placed, turned, turned_rows, Put, record_tables};
+ghost use Rattle.point_maintain_slots.specs.Inner.Pass.{Slotted, Ready, Room, Placed, turned, turned_rows, rows_given, record_tables};
 ghost use Rattle.point_maintain_slots.specs.Inner.Pass.{Passed};
 ghost use Rattle.point_maintain_slots.specs.Inner.Counts.{counts, columns, moved_in, removed_in, differs_in, one_moved, one_removed};
 
@@ -24,58 +24,46 @@ fn place(nums: &mut [Row], reals: &mut [[f32; 4]], ints: &mut [[i32; 4]], s: usi
     requires { (s < length nums.old) × (s < length reals.old) × (s < length ints.old) }
     ensures { Placed nums.old reals.old ints.old s c nums.new reals.new ints.new }
 {
-    let n = nums[s];
     let q = reals[s];
-    nums[s] = point_records::with_tag(n, 0);
+    nums[s] = point_records::with_tag(nums[s], 0);
     reals[s] = [q[2], q[3], q[2], q[3]];
     ints[s] = [c.x, c.y, c.x, c.y];
 }
 
-// The row of slot s under the key of cell c, at a place of the pool. Returns 1, the rows put.
-fn put_row(pool: &mut [[u64; 2]], at: usize, c: Cell, s: usize) -> usize
-    requires { at < length pool.old }
-    ensures { (result ≡ 1) × (pool.new ≡ set pool.old at (key_of c ∷ s ∷ [])) }
-{
-    let key = cells::key_of(c);
-    let item = basics::word_of(s);
-    pool[at] = [key, item];
-    1
-}
-
-// Slot s, if it is live, is settled by its tag, and the row of a relocated object is put at a place of the pool. Returns the rows put.
+// Slot s, if it is live, is settled by its tag. Returns the row of a relocated object: the key of its new cell, and its slot.
+#[tactic(auto, unfolding(point_maintain::specs::Meaning::Walk::settled))]
 fn turn(
     nums: &mut [Row],
     reals: &mut [[f32; 4]],
     ints: &mut [[i32; 4]],
     map: &mut [u64],
-    pool: &mut [[u64; 2]],
-    at: usize,
     s: usize,
-) -> usize
-    requires { Slotted (record_tables nums.old reals.old ints.old map.old) s × (at + length (turned_rows (record_tables nums.old reals.old ints.old map.old) s) ≤ length pool.old) }
+) -> Option<[u64; 2]>
+    requires { Slotted (record_tables nums.old reals.old ints.old map.old) s }
     ensures records { record_tables nums.new reals.new ints.new map.new ≡ turned (record_tables nums.old reals.old ints.old map.old) s }
-    ensures rows { Put (turned_rows (record_tables nums.old reals.old ints.old map.old) s) at pool.old pool.new result }
+    ensures row { rows_given result ≡ turned_rows (record_tables nums.old reals.old ints.old map.old) s }
 {
     let n = nums[s];
     if n[1] != slots::LIVE {
-        return 0;
+        return None;
     }
-    let tag = point_records::tag_in(n);
     let z = ints[s];
-    if tag == 1 {
-        place(nums, reals, ints, s, Cell { x: z[0], y: z[1] });
-        return 0;
+    match point_records::tag_in(n) {
+        0 => None,
+        1 => {
+            place(nums, reals, ints, s, Cell { x: z[0], y: z[1] });
+            None
+        }
+        2 => {
+            let c = Cell { x: z[2], y: z[3] };
+            place(nums, reals, ints, s, c);
+            Some([cells::key_of(c), s as u64])
+        }
+        _ => {
+            slots::empty(nums, map, s);
+            None
+        }
     }
-    if tag == 2 {
-        let c = Cell { x: z[2], y: z[3] };
-        place(nums, reals, ints, s, c);
-        return put_row(pool, at, c, s);
-    }
-    if tag == 0 {
-        return 0;
-    }
-    slots::empty(nums, map, s);
-    0
 }
 
 // Every live slot is settled, in ascending order, and the rows of relocated objects are put into the pool from place w on.
@@ -92,11 +80,11 @@ pub fn settle_slots(
     ensures { Passed (record_tables nums.old reals.old ints.old map.old) (record_tables nums.new reals.new ints.new map.new) w pool.old pool.new result }
 {
     let mut k = 0;
-    let mut i = 0;
-    while i < nums.len() {
-        let n = turn(nums, reals, ints, map, pool, w + k, i);
-        k += n;
-        i += 1;
+    for i in 0..nums.len() {
+        if let Some(row) = turn(nums, reals, ints, map, i) {
+            pool[w + k] = row;
+            k += 1;
+        }
     }
     k
 }
@@ -105,33 +93,21 @@ pub fn settle_slots(
 fn differs(q: [f32; 4]) -> bool
     ensures { result ≡ differs_in q }
 {
-    (q[2] != q[0]) | (q[3] != q[1])
+    q[2] != q[0] || q[3] != q[1]
 }
 
-// 1 for a live slot whose object has moved, else 0.
-fn one_moved(phase: u32, tag: u32, q: [f32; 4]) -> u32
-    ensures { result ≡ one_moved phase tag q }
+// Whether the object of a live slot has moved.
+fn has_moved(phase: u32, tag: u32, q: [f32; 4]) -> bool
+    ensures { from_bool result ≡ one_moved phase tag q }
 {
-    if phase != slots::LIVE {
-        return 0;
-    }
-    if (tag != 1) & (tag != 2) {
-        return 0;
-    }
-    if differs(q) { 1 } else { 0 }
+    phase == slots::LIVE && (tag == 1 || tag == 2) && differs(q)
 }
 
-// 1 for a live slot whose object is removed, else 0.
-fn one_removed(phase: u32, tag: u32) -> u32
-    ensures { result ≡ one_removed phase tag }
+// Whether the object of a live slot is removed.
+fn is_removed(phase: u32, tag: u32) -> bool
+    ensures { from_bool result ≡ one_removed phase tag }
 {
-    if phase != slots::LIVE {
-        return 0;
-    }
-    if tag < 3 {
-        return 0;
-    }
-    1
+    phase == slots::LIVE && tag >= 3
 }
 
 // The two counts of `maintain`, from states and positions before it.
@@ -139,17 +115,14 @@ pub fn count_moves(nums: &[Row], reals: &[[f32; 4]]) -> Counts
     requires { (length nums.now ≤ most_slots) × (length reals.now ≡ length nums.now) }
     ensures { result ≡ counts (moved_in (columns nums.now reals.now) (length nums.now)) (removed_in (columns nums.now reals.now) (length nums.now)) }
 {
-    let mut moved: u32 = 0;
-    let mut removed: u32 = 0;
-    let mut i = 0;
-    while i < nums.len() {
+    let mut moved = 0;
+    let mut removed = 0;
+    for (n, q) in nums.iter().zip(reals) {
         // read apart, so that of the row no more than these two numbers is loaded
-        let phase = nums[i][1];
-        let row = nums[i];
-        let tag = point_records::tag_in(row);
-        moved += one_moved(phase, tag, reals[i]);
-        removed += one_removed(phase, tag);
-        i += 1;
+        let phase = n[1];
+        let tag = point_records::tag_in(*n);
+        moved += u32::from(has_moved(phase, tag, *q));
+        removed += u32::from(is_removed(phase, tag));
     }
     Counts { moved, removed }
 }

@@ -6,7 +6,7 @@ ghost use Rattle.point_nearest.specs.Meaning.Nearest.{nearest_reply, no_finding,
 ghost use Rattle.point_nearest.specs.Inner.Told.{told_of, Tellable, RingedBy};
 ghost use Rattle.point_tables.specs.Meaning.Tables.{tables};
 
-use geometry::{Position, corner_above, corner_below, position_in_domain, radius_in_domain};
+use geometry::{Position, corner_above, corner_below};
 use point_rings::Best;
 use replies::Nearest;
 use slots::{Handle, Row};
@@ -39,18 +39,16 @@ fn told(nums: &[Row], pool: &[[u64; 2]], spots: &[[f32; 2]], b: Best) -> Nearest
     requires { Tellable nums.now pool.now spots.now b }
     ensures { result ≡ told_of nums.now pool.now spots.now b }
 {
-    if b.count == 0 {
+    let Some(place) = b.place else {
         return none(0);
-    }
-    let e = point_records::entry_at(pool, spots, b.place);
+    };
+    let e = point_records::entry_at(pool, spots, place);
     let f = point_search::finding_of(nums, e);
-    let handle = f.handle;
-    let position = f.position;
     Nearest {
         answer: 0,
         count: 1,
-        handle,
-        position,
+        handle: f.handle,
+        position: f.position,
         obj: f.obj,
         tracker: f.tracker,
     }
@@ -70,24 +68,22 @@ pub fn nearest_by_rings(
 ) -> Ringed
     ensures { RingedBy (tables nums.now reals.now ints.now map.now pool.now spots.now cells.now) centre radius result }
 {
-    let ok = position_in_domain(centre) & radius_in_domain(radius);
+    let ok = point_query::circle_in_domain(centre, radius);
     let ll = corner_below(centre, radius);
     let ur = corner_above(centre, radius);
-    let range = point_search::range_of(nums, reals, ints, map, pool, spots, cells, ok, ll, ur);
-    if range.answer != 0 {
-        return Ringed {
-            nearest: none(range.answer),
+    match point_search::range_of(nums, reals, ints, map, pool, spots, cells, ok, ll, ur) {
+        Ok(range) => {
+            let used = map[1] as usize;
+            let w = point_rings::walk(pool, spots, used, map[0], range.a, range.b, centre, radius);
+            Ringed {
+                nearest: told(nums, pool, spots, w.best),
+                rings: w.rings,
+            }
+        }
+        Err(why) => Ringed {
+            nearest: none(why.number()),
             rings: 0,
-        };
-    }
-    let used = basics::index_of(map[1]);
-    let a = range.a;
-    let b = range.b;
-    let w = point_rings::walk(pool, spots, used, map[0], a, b, centre, radius);
-    let best = w.best;
-    Ringed {
-        nearest: told(nums, pool, spots, best),
-        rings: w.rings,
+        },
     }
 }
 
@@ -105,6 +101,5 @@ pub fn nearest(
 ) -> Nearest
     ensures { result ≡ nearest_of (tables nums.now reals.now ints.now map.now pool.now spots.now cells.now) centre radius }
 {
-    let r = nearest_by_rings(nums, reals, ints, map, pool, spots, cells, centre, radius);
-    r.nearest
+    nearest_by_rings(nums, reals, ints, map, pool, spots, cells, centre, radius).nearest
 }

@@ -1,6 +1,8 @@
 // The queries of a point grid: `query`, `query_around`, `query_aabb`. Each is a `search`, which checks the tables first.
 #![tactic(auto)]
 
+ghost use Rattle.std.specs.Prelude.{◌≡◌, ◌&&◌};
+ghost use Rattle.geometry.specs.Meaning.Domain.{position_in_domain, radius_in_domain};
 ghost use Rattle.point_search.specs.Meaning.Lent.{Finds};
 ghost use Rattle.point_query.specs.Meaning.Queries.{query_of, around_of, aabb_of};
 ghost use Rattle.point_search.specs.Meaning.Searches.{outputs};
@@ -13,6 +15,19 @@ use geometry::{
 use point_search::{Test, search};
 use replies::Count;
 use slots::Row;
+
+// Whether the numbers of a query are in the domain. Both are asked in any case: `&&` would take twenty instructions more a call.
+fn corners_in_domain(p: Position, q: Position) -> bool
+    ensures { result ≡ (position_in_domain p && position_in_domain q) }
+{
+    position_in_domain(p) & position_in_domain(q)
+}
+
+pub fn circle_in_domain(centre: Position, radius: f32) -> bool
+    ensures { result ≡ (position_in_domain centre && radius_in_domain radius) }
+{
+    position_in_domain(centre) & radius_in_domain(radius)
+}
 
 // All entries of the range. The corners are not swapped: a reversed range is empty.
 pub fn query(
@@ -31,7 +46,7 @@ pub fn query(
 ) -> Count
     ensures { Finds (λ t. query_of t ll ur) result (tables nums.now reals.now ints.now map.now pool.now spots.now cells.now) (outputs found.old places.old objs.old) (outputs found.new places.new objs.new) }
 {
-    let ok = position_in_domain(ll) & position_in_domain(ur);
+    let ok = corners_in_domain(ll, ur);
     search(
         nums,
         reals,
@@ -67,7 +82,7 @@ pub fn query_around(
 ) -> Count
     ensures { Finds (λ t. around_of t centre radius) result (tables nums.now reals.now ints.now map.now pool.now spots.now cells.now) (outputs found.old places.old objs.old) (outputs found.new places.new objs.new) }
 {
-    let ok = position_in_domain(centre) & radius_in_domain(radius);
+    let ok = circle_in_domain(centre, radius);
     let ll = corner_below(centre, radius);
     let ur = corner_above(centre, radius);
     search(
@@ -105,7 +120,7 @@ pub fn query_aabb(
 ) -> Count
     ensures { Finds (λ t. aabb_of t a b) result (tables nums.now reals.now ints.now map.now pool.now spots.now cells.now) (outputs found.old places.old objs.old) (outputs found.new places.new objs.new) }
 {
-    let ok = position_in_domain(a) & position_in_domain(b);
+    let ok = corners_in_domain(a, b);
     let ll = lower_corner(a, b);
     let ur = upper_corner(a, b);
     search(

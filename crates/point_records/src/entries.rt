@@ -22,24 +22,22 @@ pub fn entry_at(pool: &[[u64; 2]], spots: &[[f32; 2]], j: usize) -> Entry
     requires { (j < length pool.now) × (j < length spots.now) }
     ensures { result ≡ listed_at pool.now spots.now j }
 {
-    let row = pool[j];
-    let slot = basics::index_of(row[1]);
-    let position = spot_at(spots, j);
-    Entry { slot, position }
+    Entry {
+        slot: pool[j][1] as usize,
+        position: spot_at(spots, j),
+    }
 }
 
 // The row of an entry in the list of this key.
 pub fn entry_row(key: u64, e: Entry) -> [u64; 2]
     ensures { result ≡ entry_row key e }
 {
-    let item = basics::word_of(e.slot);
-    [key, item]
+    [key, e.slot as u64]
 }
 
 // The position of an entry, as a row of spots.
 pub fn entry_spot(e: Entry) -> [f32; 2]
     ensures { result ≡ entry_spot e }
 {
-    let p = e.position;
-    [p.x, p.y]
+    [e.position.x, e.position.y]
 }

@@ -4,14 +4,12 @@
 ghost use Rattle.std.specs.Prelude.{◌<◌, ◌≡◌};
 ghost use Rattle.basics.specs.Words.{[], length, set};
 ghost use Rattle.basics.specs.Meaning.Says.{Says};
-ghost use Rattle.cells.specs.Meaning.Size.{SizeInDomain};
 ghost use Rattle.cells.specs.Meaning.CellRule.{cell_at};
 ghost use Rattle.cells.specs.Inner.Span.{Spans};
 ghost use Rattle.cells.specs.Meaning.Key.{key_of};
 ghost use Rattle.point_records.specs.Meaning.Occupied.{InDomain, Agrees};
 ghost use Rattle.point_records.specs.Inner.Occupied.{InCell};
 ghost use Rattle.point_records.specs.Meaning.Columns.{tag_of, pending_of, target_of, state_of, record_at, nums_of, reals_of, ints_of, record_of, pending_in};
-ghost use Rattle.point_records.specs.Inner.Kept.{Kept};
 
 mod entries;
 mod spans;
@@ -21,8 +19,8 @@ use cells::{Cell, Span};
 pub use entries::{entry_at, entry_row, entry_spot, spot_at};
 use geometry::Position;
 use slots::Row;
-pub use spans::span_at;
-pub use trackers::{LAST_TRACKER, own_refusal, parts_in, tag_in, tracker_in, tracker_of, with_tag};
+pub use spans::KeptSpans;
+pub use trackers::{LAST_TRACKER, check_own, parts_in, tag_in, tracker_in, tracker_of, with_tag};
 
 // What maintain has still to do to an object.
 #[derive(Clone, Copy)]
@@ -34,7 +32,7 @@ pub enum State {
 }
 
 // A table of records is lent by the caller, with whatever it holds: so a record has one of eight, and no number that could be above 7.
-#[derive(Clone, Copy)]
+#[derive(Clone, Copy, PartialEq, Eq, Debug)]
 pub enum Tracker {
     T0,
     T1,
@@ -47,6 +45,7 @@ pub enum Tracker {
 }
 
 // What the fourth number of a slot's row says, and whether it may be that of an occupied slot.
+// No Option: tracker and tag are read of rows too where nobody asks whether they fit.
 #[derive(Clone, Copy)]
 pub struct Parts {
     pub fits: bool,
@@ -76,16 +75,12 @@ pub struct Entry {
 fn state_of(tag: u32, p: Position, c: Cell) -> State
     ensures { result ≡ state_of tag p c }
 {
-    if tag == 0 {
-        return State::Unchanged;
+    match tag {
+        0 => State::Unchanged,
+        1 => State::NewPos(p),
+        2 => State::Relocate(p, c),
+        _ => State::Removed,
     }
-    if tag == 1 {
-        return State::NewPos(p);
-    }
-    if tag == 2 {
-        return State::Relocate(p, c);
-    }
-    State::Removed
 }
 
 pub fn tag_of(s: State) -> u32
@@ -103,10 +98,8 @@ pub fn pending_of(s: State, p: Position) -> Position
     ensures { result ≡ pending_of s p }
 {
     match s {
-        State::Unchanged => p,
-        State::NewPos(q) => q,
-        State::Relocate(q, _) => q,
-        State::Removed => p,
+        State::NewPos(q) | State::Relocate(q, _) => q,
+        State::Unchanged | State::Removed => p,
     }
 }
 
@@ -114,10 +107,8 @@ pub fn target_of(s: State, c: Cell) -> Cell
     ensures { result ≡ target_of s c }
 {
     match s {
-        State::Unchanged => c,
-        State::NewPos(_) => c,
         State::Relocate(_, d) => d,
-        State::Removed => c,
+        State::Unchanged | State::NewPos(_) | State::Removed => c,
     }
 }
 
@@ -129,20 +120,18 @@ pub fn load(nums: &[Row], reals: &[[f32; 4]], ints: &[[i32; 4]], i: usize) -> Re
     let q = reals[i];
     let z = ints[i];
     let word = parts_in(n);
-    let tracker = trackers::tracker_of(word.tracker);
-    let state = state_of(
-        word.tag,
-        Position { x: q[2], y: q[3] },
-        Cell { x: z[2], y: z[3] },
-    );
     Record {
         version: n[0],
         phase: n[1],
         obj: n[2],
         position: Position { x: q[0], y: q[1] },
         cell: Cell { x: z[0], y: z[1] },
-        state,
-        tracker,
+        state: state_of(
+            word.tag,
+            Position { x: q[2], y: q[3] },
+            Cell { x: z[2], y: z[3] },
+        ),
+        tracker: tracker_of(word.tracker),
     }
 }
 
@@ -150,9 +139,7 @@ pub fn load(nums: &[Row], reals: &[[f32; 4]], ints: &[[i32; 4]], i: usize) -> Re
 pub fn nums_of(r: Record) -> Row
     ensures { result ≡ nums_of r }
 {
-    let s = r.state;
-    let t = r.tracker;
-    let word = trackers::word_of(trackers::number_of(t), tag_of(s));
+    let word = trackers::word_of(u32::from(r.tracker), tag_of(r.state));
     [r.version, r.phase, r.obj, word]
 }
 
@@ -160,14 +147,11 @@ pub fn store(nums: &mut [Row], reals: &mut [[f32; 4]], ints: &mut [[i32; 4]], i:
     requires { (i < length nums.old) × (i < length reals.old) × (i < length ints.old) }
     ensures { (nums.new ≡ set nums.old i (nums_of r)) × (reals.new ≡ set reals.old i (reals_of r)) × (ints.new ≡ set ints.old i (ints_of r)) }
 {
-    let p = r.position;
-    let c = r.cell;
-    let s = r.state;
-    let q = pending_of(s, p);
-    let d = target_of(s, c);
+    let q = pending_of(r.state, r.position);
+    let d = target_of(r.state, r.cell);
     nums[i] = nums_of(r);
-    reals[i] = [p.x, p.y, q.x, q.y];
-    ints[i] = [c.x, c.y, d.x, d.y];
+    reals[i] = [r.position.x, r.position.y, q.x, q.y];
+    ints[i] = [r.cell.x, r.cell.y, d.x, d.y];
 }
 
 // Whether a position lies in a cell that has these spans.
@@ -175,28 +159,20 @@ fn inside(size: u64, c: Cell, x: Span, y: Span, p: Position) -> bool
     requires { Spans size c.x x.lo x.hi × Spans size c.y y.lo y.hi }
     ensures { Says result (InDomain p × (cell_at size p ≡ c)) }
 {
-    cells::in_span(x, p.x) & cells::in_span(y, p.y)
+    cells::in_span(x, p.x) && cells::in_span(y, p.y)
 }
 
 // Whether a position of the domain lies in a cell that is not c.
-fn relocated(
-    size: u64,
-    p: Position,
-    to: Cell,
-    c: Cell,
-    known: &mut [u64; 128],
-    ends: &mut [[f32; 2]; 128],
-) -> bool
-    requires { SizeInDomain size × Kept size known.old ends.old }
-    ensures says { Says result (InDomain p × (cell_at size p ≡ to) × (to ≡ c → ⊥)) }
-    ensures kept { Kept size known.new ends.new }
+fn relocated(spans: &mut KeptSpans, p: Position, to: Cell, c: Cell) -> bool
+    ensures says { Says result (InDomain p × (cell_at spans.old.size p ≡ to) × (to ≡ c → ⊥)) }
+    ensures same_size { spans.new.size ≡ spans.old.size }
 {
-    if cells::same_cell(to, c) {
+    if to == c {
         return false;
     }
-    let x = span_at(size, cells::up_from_least(to.x), known, ends);
-    let y = span_at(size, cells::up_from_least(to.y), known, ends);
-    inside(size, to, x, y, p)
+    let x = spans.at(cells::up_from_least(to.x));
+    let y = spans.at(cells::up_from_least(to.y));
+    inside(spans.size, to, x, y, p)
 }
 
 // Whether rows are those of an object of cell c, which has these spans, at a position of the cell.
@@ -204,62 +180,43 @@ pub fn in_cell(size: u64, c: Cell, x: Span, y: Span, q: [f32; 4], z: [i32; 4]) -
     requires { Spans size c.x x.lo x.hi × Spans size c.y y.lo y.hi }
     ensures { Says result (InCell size c q z) }
 {
-    if !cells::same_cell(Cell { x: z[0], y: z[1] }, c) {
-        return false;
-    }
-    inside(size, c, x, y, Position { x: q[0], y: q[1] })
+    Cell { x: z[0], y: z[1] } == c && inside(size, c, x, y, Position { x: q[0], y: q[1] })
 }
 
 // Whether what is pending, by a tag that is not 0, agrees with the cell rule for an object of cell c.
-fn agrees(
-    size: u64,
-    c: Cell,
-    x: Span,
-    y: Span,
-    tag: u32,
-    p: Position,
-    to: Cell,
-    known: &mut [u64; 128],
-    ends: &mut [[f32; 2]; 128],
-) -> bool
-    requires { SizeInDomain size × Spans size c.x x.lo x.hi × Spans size c.y y.lo y.hi × (tag ≡ 0 → ⊥) × Kept size known.old ends.old }
-    ensures says { Says result (Agrees size c (state_of tag p to)) }
-    ensures kept { Kept size known.new ends.new }
+fn agrees(c: Cell, x: Span, y: Span, tag: u32, p: Position, to: Cell, spans: &mut KeptSpans) -> bool
+    requires { Spans spans.old.size c.x x.lo x.hi × Spans spans.old.size c.y y.lo y.hi × (tag ≡ 0 → ⊥) }
+    ensures says { Says result (Agrees spans.old.size c (state_of tag p to)) }
+    ensures same_size { spans.new.size ≡ spans.old.size }
 {
-    if tag == 1 {
-        return inside(size, c, x, y, p);
+    match tag {
+        1 => inside(spans.size, c, x, y, p),
+        2 => relocated(spans, p, to, c),
+        _ => true,
     }
-    if tag == 2 {
-        return relocated(size, p, to, c, known, ends);
-    }
-    true
 }
 
 // Whether what is pending agrees, for an object whose cell, that of row z, has these spans.
 pub fn pending_ok(
-    size: u64,
     x: Span,
     y: Span,
     tag: u32,
     q: [f32; 4],
     z: [i32; 4],
-    known: &mut [u64; 128],
-    ends: &mut [[f32; 2]; 128],
+    spans: &mut KeptSpans,
 ) -> bool
-    requires { SizeInDomain size × Spans size (record_of [] q z).cell.x x.lo x.hi × Spans size (record_of [] q z).cell.y y.lo y.hi × (tag ≡ 0 → ⊥) × Kept size known.old ends.old }
-    ensures says { Says result (Agrees size (record_of [] q z).cell (pending_in tag q z)) }
-    ensures kept { Kept size known.new ends.new }
+    requires { Spans spans.old.size (record_of [] q z).cell.x x.lo x.hi × Spans spans.old.size (record_of [] q z).cell.y y.lo y.hi × (tag ≡ 0 → ⊥) }
+    ensures says { Says result (Agrees spans.old.size (record_of [] q z).cell (pending_in tag q z)) }
+    ensures same_size { spans.new.size ≡ spans.old.size }
 {
     agrees(
-        size,
         Cell { x: z[0], y: z[1] },
         x,
         y,
         tag,
         Position { x: q[2], y: q[3] },
         Cell { x: z[2], y: z[3] },
-        known,
-        ends,
+        spans,
     )
 }
 
@@ -267,6 +224,5 @@ pub fn pending_ok(
 pub fn key_of(r: Record) -> u64
     ensures { result ≡ key_of r.cell }
 {
-    let c = r.cell;
-    cells::key_of(c)
+    cells::key_of(r.cell)
 }

@@ -1,43 +1,45 @@
--- The answers that the code gives, from its tests. Assumes nothing.
-use Rattle.basics.specs.Words.{ℕ, ◌≡◌, sym, ap, ◌∙◌, Bool, true, false, ◌∷◌, arith, ne_eqb}
-use Rattle.basics.specs.Meaning.Refusals.{unless, first_of}
+-- `remove_maintain` by its tests, in the words of the code's goals: whose object it is, and its outcome either way. Assumes nothing.
+use Rattle.basics.specs.Words.{ℕ, ◌≡◌, ◌∙◌, sym, true, false, List, ℤ}
+use lib.Ieee.{Float}
+use Rattle.basics.proofs.laws.AnswerLaws.{one_refuses}
+use Rattle.basics.specs.declared.Refusal.{Refusal}
+use Rattle.basics.specs.declared.Refusal.TheVariants.{Tables as NoGrid}
+use Rattle.basics.specs.Meaning.Answers.{number_of}
+use Rattle.basics.specs.Meaning.Refusals.{first_of}
 use Rattle.slots.specs.declared.Handle.{Handle}
 use Rattle.slots.proofs.laws.HandleLaws.{good_says}
 use Rattle.point_records.specs.Meaning.Trackers.{own_tests}
-use Rattle.point_records.proofs.laws.OwnLaws.{Own, own-passed}
-use Rattle.point_tables.specs.Meaning.Tables.{Tables, record_on}
+use Rattle.point_records.proofs.laws.OwnLaws.{own-passed}
+use Rattle.point_tables.specs.Meaning.Tables.{Tables, tables}
 use Rattle.point_tables.specs.Meaning.Decide.{holds, holds_says}
-use Rattle.point_tables.specs.Meaning.Outcome.{Outcome, outcome}
-use Rattle.point_remove.specs.Meaning.RemoveMaintain.{taken_out, remove_maintain_tests, remove_maintain_of}
+use Rattle.point_tables.specs.Meaning.Outcome.{outcome}
+use Rattle.point_remove.specs.Meaning.RemoveMaintain.{remove_maintain_tests, remove_maintain_of}
 use Rattle.point_remove.proofs.laws.RemoveLaws.{remove-done}
-use Rattle.point_remove.specs.Inner.{Object}
+use Rattle.point_remove.specs.Inner.{Object, taken_from}
 use Rattle.replies.specs.Meaning.Replies.{reply}
 
--- ---- `remove_maintain`: the answer a of its tests, with the verdict that was handed down
-module _ (t : Tables) (h : Handle) (k a : ℕ) (held : Bool) (e : held ≡ holds t) (q : a ≡ first_of (unless held 3 ∷ own_tests t.nums h k)) where
-  answer_is : a ≡ first_of (remove_maintain_tests t h k)
-  answer_is = q ∙ ap (λ (b : Bool). first_of (unless b 3 ∷ own_tests t.nums h k)) e
+module _ (ns : List (List ℕ)) (qs : List (List Float)) (zs : List (List ℤ)) (m : List ℕ) (pool : List (List ℕ)) (spots : List (List Float)) (cells : List (List ℕ)) (h : Handle) (k : ℕ) where
+  abbrev t : Tables
+  t = tables ns qs zs m pool spots cells
 
-  pub refused : (a ≡ 0 → ⊥) → outcome (reply a 0) t ≡ remove_maintain_of t h k
+  refused : (why : Refusal) → number_of why ≡ first_of (remove_maintain_tests t h k) → outcome (reply (number_of why) 0) t ≡ remove_maintain_of t h k
   unfolding remove_maintain_of
-  refused n = rw (← answer_is, ne_eqb a 0 n)
+  refused why e = one_refuses (remove_maintain_tests t h k) _ (λ a. outcome (reply a 0) t) why e
 
-  passed : a ≡ 0 → (holds t ≡ true) × Own t.nums h k
-  passed z = go held e (sym z ∙ q)
-    where
-      go : (b : Bool) → b ≡ holds t → 0 ≡ first_of (unless b 3 ∷ own_tests t.nums h k) → (holds t ≡ true) × Own t.nums h k
-      go false f w = absurd (omega arith)
-      go true f w = (sym f, own-passed t.nums h k (sym w))
+  pub no_grid : holds t ≡ false → outcome (reply 3 0) t ≡ remove_maintain_of t h k
+  no_grid e = refused NoGrid (rw e)
 
-  -- the slot as an index
-  module _ (s : ℕ) (es : s ≡ h.slot) (z : a ≡ 0) where
-    pub object : Object t s
+  pub not_own : (why : Refusal) → holds t ≡ true → number_of why ≡ first_of (own_tests ns h k) → outcome (reply (number_of why) 0) t ≡ remove_maintain_of t h k
+  not_own why e q = refused why (rw e q)
+
+  module _ (e : holds t ≡ true) (z : 0 ≡ first_of (own_tests ns h k)) where
+    pub object : Object t h.slot
     object =
-        let p = passed z in
-        let g = (good_says t.nums h.slot h.version).yes p.1.is_good_lem in
-        rw es (record { held = (holds_says t).yes p.0; inside = g.0; occupied = g.1 })
+        let g = (good_says ns h.slot h.version).yes (own-passed ns h k (sym z)).is_good_lem in
+        record { held = (holds_says t).yes e; inside = g.0; occupied = g.1 }
 
-    pub done : (d : ℕ) (u : Tables) → outcome d u ≡ outcome (record_on t s).obj (taken_out t s) → outcome (reply 0 d) u ≡ remove_maintain_of t h k
-    done d u w =
-        let p = passed z in
-        ap (λ (o : Outcome ℕ). outcome (reply 0 o.result) o.after) (w ∙ ap (λ (i : ℕ). outcome (record_on t i).obj (taken_out t i)) es) ∙ sym (remove-done t h k p.0 p.1)
+    pub done : (d : ℕ) (w : Tables) → outcome d w ≡ taken_from t h.slot → outcome (reply 0 d) w ≡ remove_maintain_of t h k
+    done d w q = (λ i. outcome (reply 0 (q i).result) (q i).after) ∙ sym (remove-done t h k e (own-passed ns h k (sym z)))
+
+-- the refusals of `take`
+pub ruleset removing = (no_grid, not_own)

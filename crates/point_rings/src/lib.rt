@@ -16,12 +16,11 @@ use geometry::Position;
 use look::look_window;
 use rings::{last_ring, stops};
 
-// The best entry so far: its place in the pool, its slot and its squared distance. With none the count and the slot are 0, and the distance is the square
-// of the radius: an entry is better than none exactly if the circle has it.
+// The best entry so far: its place in the pool, its slot and its squared distance. With no place the slot is 0 and the distance is the square of the radius:
+// so an entry is better than none exactly if the circle has it, by the one comparison that is made of every entry.
 #[derive(Clone, Copy)]
 pub struct Best {
-    pub count: u32,
-    pub place: usize,
+    pub place: Option<usize>,
     pub slot: usize,
     pub distance: f32,
 }
@@ -40,8 +39,7 @@ fn none(radius: f32) -> Best
     ensures { result ≡ no_best radius }
 {
     Best {
-        count: 0,
-        place: 0,
+        place: None,
         slot: 0,
         distance: radius * radius,
     }
@@ -153,16 +151,17 @@ pub fn walk(
     let y = up_from_least(mid.y);
     let last = last_ring(mid, a, b);
     let mut best = look_cells(pool, spots, used, x, y, x, y, centre, none(radius));
-    let mut d = 1;
-    while d < MOST_RINGS {
+    for d in 1..MOST_RINGS {
         if stops(size, mid, centre, last, d, best) {
             return Walked { best, rings: d };
         }
         best = look_ring(pool, spots, used, x, y, d as u64, centre, best);
-        d += 1;
     }
     let best = rest(
         pool, spots, used, size, mid, a, b, last, centre, radius, best,
     );
-    Walked { best, rings: d }
+    Walked {
+        best,
+        rings: MOST_RINGS,
+    }
 }

@@ -12,7 +12,7 @@ use geometry::Position;
 fn closer(d: f32, s: usize, b: Best) -> bool
     ensures { result ≡ Look.closer d s b }
 {
-    (d < b.distance) | ((d == b.distance) & (s < b.slot))
+    d < b.distance || (d == b.distance && s < b.slot)
 }
 
 // The better of the best so far and the entry at place j.
@@ -21,14 +21,12 @@ fn better(pool: &[[u64; 2]], spots: &[[f32; 2]], centre: Position, b: Best, j: u
     ensures { result ≡ Look.better centre pool.now spots.now b j }
 {
     let e = point_records::entry_at(pool, spots, j);
-    let p = e.position;
-    let d = geometry::distance_squared(p, centre);
-    if closer(d, e.slot, b) {
+    let distance = geometry::distance_squared(e.position, centre);
+    if closer(distance, e.slot, b) {
         return Best {
-            count: 1,
-            place: j,
+            place: Some(j),
             slot: e.slot,
-            distance: d,
+            distance,
         };
     }
     b
@@ -41,18 +39,15 @@ pub fn look_run(
     from: usize,
     to: usize,
     centre: Position,
-    best: Best,
+    mut best: Best,
 ) -> Best
     requires { (from ≤ to) × (to ≤ length pool.now) × (to ≤ length spots.now) }
     ensures { result ≡ looked centre pool.now spots.now (places_in every from (to - from)) best }
 {
-    let mut b = best;
-    let mut j = from;
-    while j < to {
-        b = better(pool, spots, centre, b, j);
-        j += 1;
+    for j in from..to {
+        best = better(pool, spots, centre, best, j);
     }
-    b
+    best
 }
 
 // The entries of the window from the key `low` of its lower left cell to the key `high` of its upper right one.
@@ -63,17 +58,17 @@ pub fn look_window(
     low: u64,
     high: u64,
     centre: Position,
-    best: Best,
+    mut best: Best,
 ) -> Best
     requires { Stocked pool.now spots.now used }
     ensures { result ≡ looked centre pool.now spots.now (window_places low high pool.now used) best }
 {
-    let mut b = best;
     let mut i = 0;
+    // No `for`: the walk goes on where a run ended.
     while i < used {
         let run = storage::next_run(pool, used, i, low, high);
-        b = look_run(pool, spots, run.from, run.to, centre, b);
+        best = look_run(pool, spots, run.from, run.to, centre, best);
         i = run.to;
     }
-    b
+    best
 }

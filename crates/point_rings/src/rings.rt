@@ -1,6 +1,6 @@
 // The rings of cells round the cell of a centre: how near their points can be, and whether to look at the next.
 ghost use Rattle.std.specs.Prelude.{◌≤◌, ◌*◌, ◌≡◌};
-ghost use Rattle.basics.specs.Words.{max, T};
+ghost use Rattle.basics.specs.Words.{T};
 ghost use Rattle.std.specs.Int.Signed.{mag};
 ghost use Rattle.geometry.specs.Meaning.Domain.{position_in_domain};
 ghost use Rattle.cells.specs.Meaning.Size.{SizeInDomain};
@@ -12,31 +12,19 @@ use crate::Best;
 use cells::{Cell, edge, up_from_least};
 use geometry::{Position, lesser};
 
-fn apart(m: u64, n: u64) -> u64
-    ensures { result ≡ Rings.apart m n }
-{
-    if m < n { n - m } else { m - n }
-}
-
-fn larger(m: u64, n: u64) -> u64
-    ensures { result ≡ max m n }
-{
-    if m < n { n } else { m }
-}
-
 fn ring_of(mid: Cell, c: Cell) -> u64
     ensures { result ≡ ring_of mid c }
 {
-    let x = apart(up_from_least(mid.x), up_from_least(c.x));
-    let y = apart(up_from_least(mid.y), up_from_least(c.y));
-    larger(x, y)
+    let x = up_from_least(mid.x).abs_diff(up_from_least(c.x));
+    let y = up_from_least(mid.y).abs_diff(up_from_least(c.y));
+    x.max(y)
 }
 
 // The last ring of the range from a to b.
 pub fn last_ring(mid: Cell, a: Cell, b: Cell) -> u64
     ensures { result ≡ last_ring mid a b }
 {
-    larger(ring_of(mid, a), ring_of(mid, b))
+    ring_of(mid, a).max(ring_of(mid, b))
 }
 
 // The gap before ring d on one axis: k is the cell of x.
@@ -62,10 +50,10 @@ fn gap(size: u64, mid: Cell, centre: Position, d: u32) -> f32
 fn settled(b: Best, far: f32) -> bool
     ensures { result ≡ Rings.settled b far }
 {
-    if b.count == 0 {
-        return b.distance <= far;
+    match b.place {
+        Some(_) => b.distance < far,
+        None => b.distance <= far,
     }
-    b.distance < far
 }
 
 // Whether nothing from ring d on can be better: at equality a lower slot may stand there.

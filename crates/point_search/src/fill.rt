@@ -2,14 +2,14 @@
 ghost use Rattle.std.specs.Prelude.{◌≤◌, ◌<◌, ◌≡◌};
 ghost use Rattle.basics.specs.Words.{min, length, set, take};
 ghost use Rattle.basics.specs.Meaning.Limits.{most_slots};
-ghost use Rattle.storage.specs.Meaning.Keyed.{written};
 ghost use Rattle.point_search.specs.Meaning.Searches.{handle_row, place_row, obj_row, findings, outputs};
 ghost use Rattle.point_search.specs.Inner.Fill.{finding_of, filled};
 ghost use Rattle.point_search.specs.Inner.Asked.{Searchable, search_fills, BegunBy, Reportable, Reported, RoomFor, SearchReported};
 ghost use Rattle.point_search.specs.Inner.Asked.{StretchReportable, StretchReported};
 
-use crate::gather::{gather, lesser, passes};
+use crate::gather::{gather, passes};
 use crate::{Finding, Part, Test};
+use basics::Refusal;
 use cells::Cell;
 use point_records::Entry;
 use replies::Count;
@@ -20,17 +20,15 @@ pub fn finding_of(nums: &[Row], e: Entry) -> Finding
     requires { (e.slot < length nums.now) × (length nums.now ≤ most_slots) }
     ensures { result ≡ finding_of nums.now e }
 {
-    let s = e.slot;
-    let n = nums[s];
-    let position = e.position;
+    let row = nums[e.slot];
     Finding {
         handle: Handle {
-            slot: s as u32,
-            version: n[0],
+            slot: e.slot as u32,
+            version: row[0],
         },
-        position,
-        obj: n[2],
-        tracker: point_records::tracker_in(n),
+        position: e.position,
+        obj: row[2],
+        tracker: point_records::tracker_in(row),
     }
 }
 
@@ -38,7 +36,7 @@ pub fn finding_of(nums: &[Row], e: Entry) -> Finding
 fn room(handles: usize, places: usize, objs: usize) -> usize
     ensures { result ≡ min handles (min places objs) }
 {
-    lesser(handles, lesser(places, objs))
+    handles.min(places.min(objs))
 }
 
 // A finding goes to place k of the outputs.
@@ -54,10 +52,8 @@ fn put_finding(
     ensures places { places.new ≡ set places.old k (place_row f) }
     ensures objs { objs.new ≡ set objs.old k (obj_row f) }
 {
-    let h = f.handle;
-    let p = f.position;
-    handles[k] = [h.slot, h.version];
-    places[k] = [p.x, p.y];
+    handles[k] = [f.handle.slot, f.handle.version];
+    places[k] = [f.position.x, f.position.y];
     objs[k] = [f.obj, f.tracker];
 }
 
@@ -75,13 +71,9 @@ fn put_findings(
     requires { Reportable nums.now pool.now spots.now found.now r × RoomFor r (outputs handles.old places.old objs.old) }
     ensures { Reported nums.now pool.now spots.now (take r found.now) (outputs handles.old places.old objs.old) (outputs handles.new places.new objs.new) }
 {
-    let mut k = 0;
-    while k < r {
-        let j = basics::wide(found[k]);
-        let e = point_records::entry_at(pool, spots, j);
-        let f = finding_of(nums, e);
-        put_finding(handles, places, objs, k, f);
-        k += 1;
+    for k in 0..r {
+        let e = point_records::entry_at(pool, spots, found[k] as usize);
+        put_finding(handles, places, objs, k, finding_of(nums, e));
     }
 }
 
@@ -99,33 +91,19 @@ fn report(
     requires { Reportable nums.now pool.now spots.now found.now r × (r ≤ most_slots) }
     ensures { findings result (outputs handles.new places.new objs.new) ≡ filled nums.now pool.now spots.now (take r found.now) (outputs handles.old places.old objs.old) }
 {
-    let number = r as u32;
+    let count = r as u32;
     if room(handles.len(), places.len(), objs.len()) < r {
+        // No `Result`: this refusal has the number found beside it.
         return Count {
-            answer: 9,
-            count: number,
+            answer: Refusal::OutputTooShort.number(),
+            count,
         };
     }
     put_findings(nums, pool, spots, found, r, handles, places, objs);
-    Count {
-        answer: 0,
-        count: number,
-    }
+    Count { answer: 0, count }
 }
 
-// The first n places of the small array go to the large one, so that none is looked for twice.
-fn copy(few: &[u32], n: usize, all: &mut [u32])
-    requires { (n ≤ length few.now) × (n ≤ length all.old) × (length all.old ≤ most_slots) }
-    ensures { (all.new ≡ written (take n few.now) all.old) × (length all.new ≡ length all.old) }
-{
-    let mut k = 0;
-    while k < n {
-        all[k] = few[k];
-        k += 1;
-    }
-}
-
-// More places than `few` has room for: the collecting goes on in an array that holds them all.
+// More places than `few` has room for: the collecting goes on in an array that holds them all. Its places go there, so that none is looked for twice.
 fn fill_many(
     nums: &[Row],
     pool: &[[u64; 2]],
@@ -144,7 +122,10 @@ fn fill_many(
     ensures { findings result (outputs handles.new places.new objs.new) ≡ search_fills a b test nums.now pool.now spots.now used (outputs handles.old places.old objs.old) }
 {
     let mut all: [u32; basics::MOST_SLOTS] = [0; basics::MOST_SLOTS];
-    copy(few, part.number, &mut all);
+    // No `copy_from_slice`: with it the other loops of a search are compiled otherwise, and one that has room for all takes 3 % more instructions.
+    for k in 0..part.number {
+        all[k] = few[k];
+    }
     let whole = gather(pool, spots, used, a, b, test, part, &mut all);
     report(nums, pool, spots, &all, whole.number, handles, places, objs)
 }
@@ -196,16 +177,12 @@ fn put_run(
     ensures { StretchReported test nums.now pool.now spots.now from to n (outputs handles.old places.old objs.old) result (outputs handles.new places.new objs.new) }
 {
     let mut k = n;
-    let mut j = from;
-    while j < to {
+    for j in from..to {
         let e = point_records::entry_at(pool, spots, j);
-        let p = e.position;
-        if passes(test, p) {
-            let f = finding_of(nums, e);
-            put_finding(handles, places, objs, k, f);
+        if passes(test, e.position) {
+            put_finding(handles, places, objs, k, finding_of(nums, e));
             k += 1;
         }
-        j += 1;
     }
     k
 }
@@ -230,6 +207,7 @@ fn put_range(
     let high = cells::key_of(b);
     let mut n = 0;
     let mut i = 0;
+    // No `for`: the walk goes on where a run ended.
     while i < used {
         let run = storage::next_run(pool, used, i, low, high);
         n = put_run(
@@ -259,9 +237,6 @@ pub fn fill(
     if room(handles.len(), places.len(), objs.len()) < used {
         return fill_few(nums, pool, spots, used, a, b, test, handles, places, objs);
     }
-    let r = put_range(nums, pool, spots, used, a, b, test, handles, places, objs);
-    Count {
-        answer: 0,
-        count: r as u32,
-    }
+    let count = put_range(nums, pool, spots, used, a, b, test, handles, places, objs) as u32;
+    Count { answer: 0, count }
 }

@@ -1,6 +1,6 @@
 // Collecting the places of the entries that a search is for.
 ghost use Rattle.std.specs.Prelude.{◌+◌, ◌-◌, ◌≤◌, ◌≡◌};
-ghost use Rattle.basics.specs.Words.{min, length};
+ghost use Rattle.basics.specs.Words.{length};
 ghost use Rattle.basics.specs.Meaning.Limits.{most_slots};
 ghost use Rattle.point_search.specs.Meaning.Searches;
 ghost use Rattle.point_search.specs.Inner.Places.{spot_passes};
@@ -34,25 +34,13 @@ fn gather_run(
     ensures { StretchGathered test spots.now from to n places.old result places.new }
 {
     let mut k = n;
-    let mut j = from;
-    while j < to {
-        let p = point_records::spot_at(spots, j);
-        if passes(test, p) {
+    for j in from..to {
+        if passes(test, point_records::spot_at(spots, j)) {
             places[k] = j as u32;
             k += 1;
         }
-        j += 1;
     }
     k
-}
-
-pub fn lesser(a: usize, b: usize) -> usize
-    ensures { result ≡ min a b }
-{
-    if a < b {
-        return a;
-    }
-    b
 }
 
 // The same as far as `places` has room: no more entries are tested at once than it could hold. Ends early only where it is full.
@@ -69,15 +57,9 @@ fn gather_part(
 {
     let mut k = n;
     let mut j = from;
-    while j < to {
-        let room = places.len() - k;
-        if room == 0 {
-            return Part {
-                number: k,
-                place: j,
-            };
-        }
-        let end = lesser(to, j + room);
+    // No `for`: as many entries are taken at once as there is room for.
+    while j < to && k < places.len() {
+        let end = to.min(j + (places.len() - k));
         k = gather_run(spots, j, end, test, k, places);
         j = end;
     }
@@ -103,22 +85,11 @@ pub fn gather(
 {
     let low = cells::key_of(a);
     let high = cells::key_of(b);
-    let mut n = start.number;
-    let mut i = start.place;
-    while i < used {
-        if places.len() == n {
-            return Part {
-                number: n,
-                place: i,
-            };
-        }
-        let run = storage::next_run(pool, used, i, low, high);
-        let part = gather_part(spots, run.from, run.to, test, n, places);
-        n = part.number;
-        i = part.place;
+    let mut part = start;
+    // No `for`: the walk goes on where a run ended.
+    while part.place < used && part.number < places.len() {
+        let run = storage::next_run(pool, used, part.place, low, high);
+        part = gather_part(spots, run.from, run.to, test, part.number, places);
     }
-    Part {
-        number: n,
-        place: i,
-    }
+    part
 }

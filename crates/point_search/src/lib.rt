@@ -13,6 +13,7 @@ ghost use Rattle.point_tables.specs.Meaning.Tables.{tables};
 mod fill;
 mod gather;
 
+use basics::Refusal;
 use cells::{Cell, cell_at, cells_in};
 use fill::fill;
 pub use fill::finding_of;
@@ -20,7 +21,8 @@ use geometry::Position;
 use replies::Count;
 use slots::{Handle, Row};
 
-// What a found position must pass, besides standing in the range: nothing, a circle of a centre and a radius, or a rectangle of two corners.
+// What a found position must pass, besides standing in the range: nothing, a circle of a centre and a radius, or a rectangle of two corners. An enum and no
+// closure, since the theorems of the queries speak of the test as a value (`search_of`, `circle_scan`, `rectangle_scan`).
 #[derive(Clone, Copy)]
 pub enum Test {
     Any,
@@ -37,10 +39,9 @@ pub struct Finding {
     pub tracker: u32,
 }
 
-// The cells of the corners of a range, beside the answer to it; zeros where it is refused.
+// The cells of the corners of a range.
 #[derive(Clone, Copy)]
 pub struct Range {
-    pub answer: u32,
     pub a: Cell,
     pub b: Cell,
 }
@@ -52,18 +53,8 @@ pub struct Part {
     pub place: usize,
 }
 
-fn refused(answer: u32) -> Range
-    ensures { result.answer ≡ answer }
-{
-    Range {
-        answer,
-        a: Cell { x: 0, y: 0 },
-        b: Cell { x: 0, y: 0 },
-    }
-}
-
-// What is asked of the range from the cell of `ll` to that of `ur` before anything is looked for in it: 3, 6 or 7. `ok` says whether the numbers that were
-// given are in the domain.
+// What is asked of the range from the cell of `ll` to that of `ur` before anything is looked for in it. `ok` says whether the numbers that were given are in
+// the domain.
 pub fn range_of(
     nums: &[Row],
     reals: &[[f32; 4]],
@@ -75,23 +66,23 @@ pub fn range_of(
     ok: bool,
     ll: Position,
     ur: Position,
-) -> Range
+) -> Result<Range, Refusal>
     requires { ok ≡ true → Reached ll × Reached ur }
     ensures { Ranged (tables nums.now reals.now ints.now map.now pool.now spots.now cells.now) ok ll ur result }
 {
     if !point_tables::check(nums, reals, ints, map, pool, spots, cells) {
-        return refused(3);
+        return Err(Refusal::Tables);
     }
     if !ok {
-        return refused(6);
+        return Err(Refusal::OutsideDomain);
     }
     let size = map[0];
     let a = cell_at(size, ll);
     let b = cell_at(size, ur);
     if basics::MOST_CELLS < cells_in(a, b) {
-        return refused(7);
+        return Err(Refusal::TooManyCells);
     }
-    Range { answer: 0, a, b }
+    Ok(Range { a, b })
 }
 
 // What the three queries are: a range, and a test. `ok` says whether the numbers that were given are in the domain.
@@ -114,12 +105,11 @@ pub fn search(
     requires { ok ≡ true → Reached ll × Reached ur }
     ensures { Finds (λ t. search_of t ok ll ur test) result (tables nums.now reals.now ints.now map.now pool.now spots.now cells.now) (outputs handles.old places.old objs.old) (outputs handles.new places.new objs.new) }
 {
-    let range = range_of(nums, reals, ints, map, pool, spots, cells, ok, ll, ur);
-    if range.answer != 0 {
-        return replies::refused(range.answer);
+    match range_of(nums, reals, ints, map, pool, spots, cells, ok, ll, ur) {
+        Ok(Range { a, b }) => {
+            let used = map[1] as usize;
+            fill(nums, pool, spots, used, a, b, test, handles, places, objs)
+        }
+        Err(why) => Count::from(Err(why)),
     }
-    let used = basics::index_of(map[1]);
-    let a = range.a;
-    let b = range.b;
-    fill(nums, pool, spots, used, a, b, test, handles, places, objs)
 }

@@ -24,41 +24,21 @@ pub fn lengths_ok(
 ) -> bool
     ensures { Says result (Lengths n reals ints map pool spots cells) }
 {
-    if n < 1 {
-        return false;
-    }
-    if basics::MOST_SLOTS < n {
-        return false;
-    }
-    if reals != n {
-        return false;
-    }
-    if ints != n {
-        return false;
-    }
-    if map != 3 + (n + 63) / 64 {
-        return false;
-    }
-    if pool != n {
-        return false;
-    }
-    if spots != n {
-        return false;
-    }
-    cells == n
+    1 <= n
+        && n <= basics::MOST_SLOTS
+        && reals == n
+        && ints == n
+        && map == 3 + (n + 63) / 64
+        && pool == n
+        && spots == n
+        && cells == n
 }
 
 // Whether the cell size is in its limits and the counts are within n.
 fn counts_ok(n: usize, size: u64, used: usize, rows: usize) -> bool
     ensures { Says result (Counts n size used rows) }
 {
-    if !cells::size_in_domain(size) {
-        return false;
-    }
-    if n < used {
-        return false;
-    }
-    rows <= n
+    cells::size_in_domain(size) && used <= n && rows <= n
 }
 
 // Whether a slot holds, which an entry names if it is listed; and an occupied one is listed.
@@ -66,15 +46,8 @@ fn slot_ok(nums: &[Row], map: &[u64], s: usize, listed: bool) -> bool
     requires { (s < length nums.now) × (3 + s / 64 < length map.now) }
     ensures { Says result (SlotOk nums.now map.now s listed) }
 {
-    let n = nums[s];
-    let mapped = slots::is_usable(map, s);
-    if !slots::slot_ok(n[0], n[1], mapped) {
-        return false;
-    }
-    if n[1] != slots::LIVE {
-        return true;
-    }
-    listed
+    let [version, phase, _, _] = nums[s];
+    slots::slot_ok(version, phase, slots::is_usable(map, s)) && (phase != slots::LIVE || listed)
 }
 
 // Whether each slot holds, and each occupied one is marked as named by an entry.
@@ -82,15 +55,7 @@ fn each_ok(nums: &[Row], map: &[u64], marks: &[bool; basics::MOST_SLOTS]) -> boo
     requires { Room nums.now map.now }
     ensures { Says result (EachOk nums.now map.now marks.now) }
 {
-    let mut i = 0;
-    while i < nums.len() {
-        let listed = marks[i];
-        if !slot_ok(nums, map, i, listed) {
-            return false;
-        }
-        i += 1;
-    }
-    true
+    (0..nums.len()).all(|i| slot_ok(nums, map, i, marks[i]))
 }
 
 // Whether slot s is free, if the map has it.
@@ -98,14 +63,7 @@ fn free_at(nums: &[Row], map: &[u64], s: usize) -> bool
     requires { (s < length nums.now) × (3 + s / 64 < length map.now) }
     ensures { Says result (FreeAt nums.now map.now s) }
 {
-    if !slots::is_usable(map, s) {
-        return true;
-    }
-    let n = nums[s];
-    if n[0] == 0 {
-        return false;
-    }
-    n[1] == slots::FREE
+    !slots::is_usable(map, s) || (nums[s][0] != 0 && nums[s][1] == slots::FREE)
 }
 
 // The next slot that the map may have: a word with no bit is passed at once.
@@ -114,9 +72,10 @@ fn next_after(map: &[u64], s: usize) -> usize
     ensures { (s < result) × ((k : ℕ) → s < k → k < result → usable map.now k ≡ 0) }
 {
     if map[3 + s / 64] == 0 {
-        return s + 64 - s % 64;
+        s + 64 - s % 64
+    } else {
+        s + 1
     }
-    s + 1
 }
 
 // Whether each slot that the map has is free.
@@ -125,6 +84,7 @@ fn free_ok(nums: &[Row], map: &[u64]) -> bool
     ensures { Says result ((s : ℕ) → s < length nums.now → FreeAt nums.now map.now s) }
 {
     let mut i = 0;
+    // no `for`: i goes on by a whole word where no bit of the word is set
     while i < nums.len() {
         if !free_at(nums, map, i) {
             return false;
@@ -139,14 +99,13 @@ fn slots_ok(nums: &[Row], map: &[u64], used: usize, marks: &[bool; basics::MOST_
     requires { Room nums.now map.now × Listed nums.now marks.now used }
     ensures { Says result (SlotsOk nums.now map.now marks.now) }
 {
-    if !slots::past_ok(map, nums.len()) {
-        return false;
-    }
-    let free = slots::count_usable(map, nums.len());
-    if used + free == nums.len() {
-        return free_ok(nums, map);
-    }
-    each_ok(nums, map, marks)
+    let n = nums.len();
+    slots::past_ok(map, n)
+        && if used + slots::count_usable(map, n) == n {
+            free_ok(nums, map)
+        } else {
+            each_ok(nums, map, marks)
+        }
 }
 
 // Whether the tables hold a grid.
@@ -173,16 +132,13 @@ pub fn check(
         return false;
     }
     let size = map[0];
-    let used = basics::index_of(map[1]);
-    let rows = basics::index_of(map[2]);
+    let used = map[1] as usize;
+    let rows = map[2] as usize;
     if !counts_ok(nums.len(), size, used, rows) {
         return false;
     }
     let mut marks = [false; basics::MOST_SLOTS];
-    if !point_pool::pool_ok(
+    point_pool::pool_ok(
         nums, reals, ints, pool, spots, cells, used, rows, size, &mut marks,
-    ) {
-        return false;
-    }
-    slots_ok(nums, map, used, &marks)
+    ) && slots_ok(nums, map, used, &marks)
 }

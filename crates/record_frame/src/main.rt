@@ -50,50 +50,6 @@ fn get_in2(
     record_get::get(&u, nums, reals, ints, map, pool, spots, cells, h)
 }
 
-// ---- what is said of it
-fn say(rt: &impl Print, what: &str) -> io::Result<()> {
-    print!(rt; "{what}")
-}
-
-fn number(rt: &impl Print, n: u32) -> io::Result<()> {
-    print!(rt; "{n}")
-}
-
-fn tell(rt: &impl Print, what: &str, g: Got, t: [Record; 2]) -> io::Result<()> {
-    let r = t[0];
-    say(rt, what)?;
-    number(rt, g.answer)?;
-    say(rt, ",")?;
-    number(rt, g.obj)?;
-    say(rt, ",")?;
-    number(rt, g.tracker)?;
-    say(rt, ",")?;
-    let s = r.state;
-    let k = point_records::tag_of(s);
-    number(rt, k)?;
-    say(rt, "\n")
-}
-
-fn ask(
-    rt: &impl Print,
-    what: &str,
-    t: [Record; 2],
-    nums: &mut [[u32; 4]; 2],
-    reals: &mut [[f32; 4]; 2],
-    ints: &mut [[i32; 4]; 2],
-    map: &mut [u64; 4],
-    pool: &mut [[u64; 2]; 2],
-    spots: &mut [[f32; 2]; 2],
-    cells: &mut [[u64; 2]; 2],
-) -> io::Result<()> {
-    let one = Handle {
-        slot: 0,
-        version: 1,
-    };
-    let g = get_in2(t, nums, reals, ints, map, pool, spots, cells, one);
-    tell(rt, what, g, t)
-}
-
 // The object of slot 0, a tracker's, at the origin, of a version, on its way to (16, 0), which is of cell (1, 0); slot 1 is free.
 fn table(version: u32, target: Cell, tracker: Tracker) -> [Record; 2] {
     let home = Cell { x: 0, y: 0 };
@@ -120,127 +76,124 @@ fn table(version: u32, target: Cell, tracker: Tracker) -> [Record; 2] {
     [moving, nothing]
 }
 
-fn history(
-    rt: &impl Print,
-    nums: &mut [[u32; 4]; 2],
-    reals: &mut [[f32; 4]; 2],
-    ints: &mut [[i32; 4]; 2],
-    map: &mut [u64; 4],
-    pool: &mut [[u64; 2]; 2],
-    spots: &mut [[f32; 2]; 2],
-    cells: &mut [[u64; 2]; 2],
-) -> io::Result<()> {
-    let t = table(1, Cell { x: 1, y: 0 }, Tracker::T1);
-    ask(rt, "moving ", t, nums, reals, ints, map, pool, spots, cells)?;
-    ask(
-        rt,
-        "of tracker 2 ",
-        table(1, Cell { x: 1, y: 0 }, Tracker::T2),
-        nums,
-        reals,
-        ints,
-        map,
-        pool,
-        spots,
-        cells,
-    )?;
-    let wrong = table(1, Cell { x: 5, y: 0 }, Tracker::T1);
-    ask(
-        rt,
-        "wrong target ",
-        wrong,
-        nums,
-        reals,
-        ints,
-        map,
-        pool,
-        spots,
-        cells,
-    )?;
-    let same = maintain_in2(wrong, nums, reals, ints, map, pool, spots, cells);
-    ask(
-        rt,
-        "not maintained ",
-        same,
-        nums,
-        reals,
-        ints,
-        map,
-        pool,
-        spots,
-        cells,
-    )?;
-    ask(
-        rt,
-        "version 0 ",
-        table(0, Cell { x: 1, y: 0 }, Tracker::T1),
-        nums,
-        reals,
-        ints,
-        map,
-        pool,
-        spots,
-        cells,
-    )?;
-    let u = maintain_in2(t, nums, reals, ints, map, pool, spots, cells);
-    ask(
-        rt,
-        "maintained ",
-        u,
-        nums,
-        reals,
-        ints,
-        map,
-        pool,
-        spots,
-        cells,
-    )
+// The columns of two slots: scratch for the calls on a table of records.
+#[derive(Drop)]
+struct Columns {
+    nums: [Row; 2],
+    reals: [[f32; 4]; 2],
+    ints: [[i32; 4]; 2],
+    map: [u64; 4],
+    pool: [[u64; 2]; 2],
+    spots: [[f32; 2]; 2],
+    cells: [[u64; 2]; 2],
 }
 
-// A tracker sends the object to (16, 0): its number and the answer.
-fn send(
-    rt: &impl Print,
-    nums: &mut [[u32; 4]; 2],
-    reals: &mut [[f32; 4]; 2],
-    ints: &mut [[i32; 4]; 2],
-    map: &[u64; 4],
-    pool: &[[u64; 2]; 2],
-    spots: &[[f32; 2]; 2],
-    cells: &mut [[u64; 2]; 2],
-    h: Handle,
-    tracker: u32,
-) -> io::Result<()> {
-    let away = Position { x: 16.0, y: 0.0 };
-    let answer = points::set_position(nums, reals, ints, map, pool, spots, cells, h, away, tracker);
-    say(rt, "sent by ")?;
-    number(rt, tracker)?;
-    say(rt, " ")?;
-    number(rt, answer)?;
-    say(rt, "\n")
+impl Columns {
+    fn ask(&mut self, rt: &impl Print, what: &str, t: [Record; 2]) -> io::Result<()> {
+        let one = Handle {
+            slot: 0,
+            version: 1,
+        };
+        let g = get_in2(
+            t,
+            &mut self.nums,
+            &mut self.reals,
+            &mut self.ints,
+            &mut self.map,
+            &mut self.pool,
+            &mut self.spots,
+            &mut self.cells,
+            one,
+        );
+        let tag = point_records::tag_of(t[0].state);
+        println!(rt; "{what} {},{},{},{tag}", g.answer, g.obj, g.tracker)
+    }
+
+    fn maintain(&mut self, t: [Record; 2]) -> [Record; 2] {
+        maintain_in2(
+            t,
+            &mut self.nums,
+            &mut self.reals,
+            &mut self.ints,
+            &mut self.map,
+            &mut self.pool,
+            &mut self.spots,
+            &mut self.cells,
+        )
+    }
+
+    // A tracker sends the object to (16, 0): its number and the answer.
+    fn send(&mut self, rt: &impl Print, h: Handle, tracker: u32) -> io::Result<()> {
+        let away = Position { x: 16.0, y: 0.0 };
+        let answer = points::set_position(
+            &mut self.nums,
+            &mut self.reals,
+            &mut self.ints,
+            &self.map,
+            &self.pool,
+            &self.spots,
+            &mut self.cells,
+            h,
+            away,
+            tracker,
+        );
+        println!(rt; "sent by {tracker} {answer}")
+    }
+
+    // A grid of cells of 10 with the object at the origin, which is tracker 1's; tracker 2 asks first.
+    fn sent(&mut self, rt: &impl Print) -> io::Result<()> {
+        let origin = Position { x: 0.0, y: 0.0 };
+        points::new(
+            &mut self.nums,
+            &self.reals,
+            &self.ints,
+            &mut self.map,
+            &self.pool,
+            &self.spots,
+            &self.cells,
+            10,
+        );
+        let r = points::insert(
+            &mut self.nums,
+            &mut self.reals,
+            &mut self.ints,
+            &mut self.map,
+            &mut self.pool,
+            &mut self.spots,
+            &mut self.cells,
+            origin,
+            7,
+            1,
+        );
+        self.send(rt, r.handle, 2)?;
+        self.send(rt, r.handle, 1)
+    }
+}
+
+fn history(rt: &impl Print, columns: &mut Columns) -> io::Result<()> {
+    let next = Cell { x: 1, y: 0 };
+    let moving = table(1, next, Tracker::T1);
+    columns.ask(rt, "moving", moving)?;
+    columns.ask(rt, "of tracker 2", table(1, next, Tracker::T2))?;
+    let wrong = table(1, Cell { x: 5, y: 0 }, Tracker::T1);
+    columns.ask(rt, "wrong target", wrong)?;
+    let same = columns.maintain(wrong);
+    columns.ask(rt, "not maintained", same)?;
+    columns.ask(rt, "version 0", table(0, next, Tracker::T1))?;
+    let settled = columns.maintain(moving);
+    columns.ask(rt, "maintained", settled)
 }
 
 fn main(rt: HostRuntime) -> io::Result<()> {
-    let mut nums = [[0u32; 4]; 2];
-    let mut reals = [[0.0f32; 4]; 2];
-    let mut ints = [[0i32; 4]; 2];
-    let mut map = [0u64; 4];
-    let mut pool = [[0u64; 2]; 2];
-    let mut spots = [[0.0f32; 2]; 2];
-    let mut cells = [[0u64; 2]; 2];
-    let origin = Position { x: 0.0, y: 0.0 };
-    points::new(
-        &mut nums, &reals, &ints, &mut map, &pool, &spots, &cells, 10,
-    );
-    let r = points::insert(
-        &mut nums, &mut reals, &mut ints, &mut map, &mut pool, &mut spots, &mut cells, origin, 7, 1,
-    );
-    send(
-        &rt, &mut nums, &mut reals, &mut ints, &map, &pool, &spots, &mut cells, r.handle, 2,
-    )?;
-    send(
-        &rt, &mut nums, &mut reals, &mut ints, &map, &pool, &spots, &mut cells, r.handle, 1,
-    )?;
-    history(
-        &rt, &mut nums, &mut reals, &mut ints, &mut map, &mut pool, &mut spots, &mut cells,
-    )
+    let mut columns = Columns {
+        nums: [[0; 4]; 2],
+        reals: [[0.0; 4]; 2],
+        ints: [[0; 4]; 2],
+        map: [0; 4],
+        pool: [[0; 2]; 2],
+        spots: [[0.0; 2]; 2],
+        cells: [[0; 2]; 2],
+    };
+    columns.sent(&rt)?;
+    history(&rt, &mut columns)
 }

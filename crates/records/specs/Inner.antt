@@ -1,3 +1,2 @@
 -- What only inner contracts cite.
 pub mod Alike
-pub mod Spread

@@ -1,2 +1,3 @@
 -- What calls return, made of its numbers.
 pub mod Meaning
+pub mod Inner

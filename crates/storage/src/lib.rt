@@ -12,7 +12,7 @@ pub use pool::{append_entry, append_row, find_item, take_entry};
 pub use table::{drop_cell, enter_cell, has_key, mark_cell, rebuild};
 pub use walk::{list_end, next_run};
 
-// Places of a table, from one up to another that is not counted.
+// Places of a table, from one up to another that is not counted. No `Range`: nothing goes over it, and both ends are asked for by name.
 #[derive(Clone, Copy)]
 pub struct Run {
     pub from: usize,

@@ -12,17 +12,14 @@ ghost use Rattle.storage.specs.Meaning.CellTable.{entered, dropped, marked, fres
 ghost use Rattle.storage.specs.Inner.Checked.{Begins};
 
 use crate::find::{key_at, lower_bound};
-use crate::gap::{close_row, open_row};
+use crate::gap::{close, open};
 
 // Whether the row at a place is there and has the key.
 fn is_key(rows: &[[u64; 2]], k: usize, at: usize, key: u64) -> bool
     requires { k ≤ length rows.now }
     ensures { Says result ((at < k) × (first rows.now at ≡ key)) }
 {
-    if k <= at {
-        return false;
-    }
-    key_at(rows, at) == key
+    at < k && key_at(rows, at) == key
 }
 
 // Whether some row has the key.
@@ -30,8 +27,7 @@ pub fn has_key(rows: &[[u64; 2]], k: usize, key: u64) -> bool
     requires { (k ≤ length rows.now) × Sorted row_key (take k rows.now) }
     ensures { Says result (Filled (under row_key key (take k rows.now))) }
 {
-    let at = lower_bound(rows, k, key);
-    is_key(rows, k, at, key)
+    is_key(rows, k, lower_bound(rows, k, key), key)
 }
 
 // The cell has a row: a new one has no mark. Returns how many rows there are.
@@ -43,7 +39,7 @@ pub fn enter_cell(cells: &mut [[u64; 2]], rows: usize, key: u64) -> usize
     if is_key(cells, rows, at, key) {
         return rows;
     }
-    open_row(cells, at, rows, [key, 0]);
+    open(cells, at, rows, [key, 0]);
     rows + 1
 }
 
@@ -54,7 +50,7 @@ pub fn drop_cell(cells: &mut [[u64; 2]], rows: usize, key: u64) -> usize
 {
     let at = lower_bound(cells, rows, key);
     if is_key(cells, rows, at, key) {
-        close_row(cells, at, rows);
+        close(cells, at, rows);
         return rows - 1;
     }
     rows
@@ -76,10 +72,7 @@ fn begins(pool: &[[u64; 2]], j: usize) -> bool
     requires { j < length pool.now }
     ensures { Says result (Begins pool.now j) }
 {
-    if j == 0 {
-        return true;
-    }
-    key_at(pool, j - 1) != key_at(pool, j)
+    j == 0 || key_at(pool, j - 1) != key_at(pool, j)
 }
 
 // The table of the pool, with no mark set. Returns how many rows there are.
@@ -88,13 +81,11 @@ pub fn rebuild(cells: &mut [[u64; 2]], pool: &[[u64; 2]], used: usize) -> usize
     ensures { (result ≡ length (fresh (take used pool.now))) × (cells.new ≡ written (fresh (take used pool.now)) cells.old) }
 {
     let mut rows = 0;
-    let mut j = 0;
-    while j < used {
+    for j in 0..used {
         if begins(pool, j) {
             cells[rows] = [key_at(pool, j), 0];
             rows += 1;
         }
-        j += 1;
     }
     rows
 }

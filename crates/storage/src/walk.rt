@@ -58,14 +58,12 @@ fn run_end(pool: &[[u64; 2]], used: usize, from: usize, low: u64, high: u64) -> 
     ensures { RunEnd pool.now used from (column_of low) (line_of low) (column_of high) (line_of high) result }
 {
     let last = key_at(pool, from) / 4294967296 * 4294967296 + high % 4294967296;
-    let mut to = from + 1;
-    while to < used {
+    for to in from + 1..used {
         if last < key_at(pool, to) {
             return to;
         }
-        to += 1;
     }
-    to
+    used
 }
 
 // The next entries of the range from place `i` on: a stretch of the pool within one row of cells.
@@ -75,13 +73,12 @@ pub fn next_run(pool: &[[u64; 2]], used: usize, i: usize, low: u64, high: u64) -
 {
     let from = first_in(pool, used, i, low, high);
     if from == used {
-        return Run {
-            from: used,
-            to: used,
-        };
+        return Run { from, to: used };
     }
-    let to = run_end(pool, used, from, low, high);
-    Run { from: from, to: to }
+    Run {
+        from,
+        to: run_end(pool, used, from, low, high),
+    }
 }
 
 // The end of the entries of the key that stand from `from` on.
@@ -89,12 +86,10 @@ pub fn list_end(pool: &[[u64; 2]], from: usize, used: usize, key: u64) -> usize
     requires { (from ≤ used) × (used ≤ length pool.now) }
     ensures { ListEnd pool.now from used key result }
 {
-    let mut to = from;
-    while to < used {
+    for to in from..used {
         if key_at(pool, to) != key {
             return to;
         }
-        to += 1;
     }
-    to
+    used
 }

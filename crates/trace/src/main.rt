@@ -2,43 +2,12 @@
 // and the next one is read. It ends with its input, or when nobody takes its answers.
 #![tactic(auto)]
 
-ghost use Rattle.trace_blocks.specs.Inner.Ready.{Fits, Ready};
-
 use slots::Row;
-use std::io::{Stdin, Stdout};
-use trace_blocks::Progress;
-
-// The record has its answer in the output.
-fn answer(
-    nums: &mut [Row],
-    reals: &mut [[f32; 4]],
-    ints: &mut [[i32; 4]],
-    map: &mut [u64],
-    pool: &mut [[u64; 2]],
-    spots: &mut [[f32; 2]],
-    cells: &mut [[u64; 2]],
-    bnums: &mut [[u32; 4]],
-    breals: &mut [[f32; 4]],
-    bmap: &mut [u64],
-    bpool: &mut [[u64; 2]],
-    line: &[u8; 130],
-    out: &mut [u8; 65536],
-    p: Progress,
-) -> Progress
-    requires { Ready p }
-    ensures { Fits result }
-{
-    let put = trace_replay::answer_record(
-        nums, reals, ints, map, pool, spots, cells, bnums, breals, bmap, bpool, line, p.len, out,
-        p.put,
-    );
-    trace_blocks::answered(p, put)
-}
+use trace_blocks::Blocks;
 
 // Both grids are built; then each record has its answer.
 fn serve(
-    stdin: Stdin,
-    stdout: Stdout,
+    blocks: &mut Blocks,
     nums: &mut [Row],
     reals: &mut [[f32; 4]],
     ints: &mut [[i32; 4]],
@@ -54,29 +23,22 @@ fn serve(
     trace_replay::start(
         nums, reals, ints, map, pool, spots, cells, bnums, breals, bmap, bpool,
     );
-    let mut line = [0u8; 130];
-    let mut block = [0u8; 65536];
-    let mut out = [0u8; 65536];
-    let mut p = trace_blocks::advance(
-        stdin,
-        stdout,
-        &mut line,
-        &mut block,
-        &out,
-        trace_blocks::begin(),
-    );
-    let mut turns = u64::MAX;
-    while trace_blocks::is_next(turns, p.ended) {
-        let q = answer(
-            nums, reals, ints, map, pool, spots, cells, bnums, breals, bmap, bpool, &line,
-            &mut out, p,
+    // A proved loop has to end, and nothing says that an input does: it takes at most so many turns as no run uses up.
+    for _ in 0..u64::MAX {
+        let Some(len) = blocks.next_record() else {
+            break;
+        };
+        let Blocks { line, out, put, .. } = blocks;
+        let put = trace_replay::answer_record(
+            nums, reals, ints, map, pool, spots, cells, bnums, breals, bmap, bpool, line, len, out,
+            *put,
         );
-        p = trace_blocks::advance(stdin, stdout, &mut line, &mut block, &out, q);
-        turns -= 1;
+        blocks.answered(put);
     }
 }
 
 fn main(rt: HostRuntime) {
+    let mut blocks = Blocks::new(rt.stdin(), rt.stdout());
     let mut nums = [[0u32; 4]; 256];
     let mut reals = [[0.0f32; 4]; 256];
     let mut ints = [[0i32; 4]; 256];
@@ -89,8 +51,7 @@ fn main(rt: HostRuntime) {
     let mut bmap = [0u64; 4];
     let mut bpool = [[0u64; 2]; 512];
     serve(
-        rt.stdin(),
-        rt.stdout(),
+        &mut blocks,
         &mut nums,
         &mut reals,
         &mut ints,

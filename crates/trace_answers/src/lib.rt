@@ -1,9 +1,7 @@
 // The two grids of the trace answer a request: a call of one of them, or for `cell` of both.
 #![tactic(auto)]
 
-ghost use Rattle.std.specs.Prelude.{◌≡◌};
 ghost use Rattle.trace_telling.specs.Inner.InRange.{InRange};
-ghost use Rattle.trace_telling.specs.Meaning.Tells.{tells, done_or};
 ghost use Rattle.trace_answers.specs.Meaning.Cell.{Builds};
 ghost use Rattle.trace_answers.specs.Inner.Answer.{Answers};
 ghost use Rattle.trace_answers.specs.Meaning.State.{state};
@@ -16,17 +14,8 @@ use trace_lines::{Line, Request};
 use trace_points::{change_points, search_points};
 use trace_printing::Said;
 
-// The first refusal of two, if there is one.
-fn done_both(a: u32, b: u32) -> Said
-    ensures { result ≡ tells a (done_or b) }
-{
-    if a == 0 {
-        return trace_telling::done(b);
-    }
-    Said::Refused(a)
-}
-
-// Both grids built anew.
+// Both grids built anew. The first refusal is told, if there is one.
+#[tactic(auto, unfolding(crate::specs::Meaning::Cell::build_both))]
 pub fn cell(
     nums: &mut [Row],
     reals: &[[f32; 4]],
@@ -45,10 +34,11 @@ pub fn cell(
 {
     let a = points::new(nums, reals, ints, map, pool, spots, cells, size);
     let b = boxes::new(bnums, breals, bmap, bpool, size);
-    done_both(a, b)
+    trace_telling::told(a, trace_telling::told(b, Said::Done))
 }
 
 // One request. The findings of a query are in its outputs; data and tracker of the points found in `objs`.
+#[tactic(auto, unfolding(crate::specs::Meaning::Answer::by_line))]
 pub fn answer(
     nums: &mut [Row],
     reals: &mut [[f32; 4]],
@@ -70,8 +60,7 @@ pub fn answer(
     requires { InRange r }
     ensures { Answers r result (state (PointTables.tables nums.old reals.old ints.old map.old pool.old spots.old cells.old) (BoxTables.tables bnums.old breals.old bmap.old bpool.old) handles.old places.old corners.old objs.old) (state (PointTables.tables nums.new reals.new ints.new map.new pool.new spots.new cells.new) (BoxTables.tables bnums.new breals.new bmap.new bpool.new) handles.new places.new corners.new objs.new) }
 {
-    let line = r.line;
-    match line {
+    match r.line {
         Line::Cell => cell(
             nums, reals, ints, map, pool, spots, cells, bnums, breals, bmap, bpool, r.n,
         ),

@@ -1,3 +1,2 @@
 -- Laws, and what the proofs share.
 pub mod NextLaws
-pub mod Ready

@@ -1,3 +1,2 @@
--- The records of the input out of its blocks, and what holds of the program between two answers.
+-- The records of the input out of its blocks.
 pub mod Meaning
-pub mod Inner

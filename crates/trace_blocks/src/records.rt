@@ -5,32 +5,27 @@ ghost use Rattle.trace_splits.specs.Meaning.Sofar.{sofar};
 ghost use Rattle.trace_blocks.specs.Meaning.Next.{next_found, next_of};
 
 use crate::Found;
-use trace_splits::Splitter;
+use trace_splits::{Splitter, Stepped};
 
 // From place `from` of the block up to the end of a record, or of the block.
 pub fn next_record(line: &mut [u8], state: Splitter, block: &[u8], from: usize) -> Found
     ensures { next_found line.new result ≡ next_of (length line.old) (sofar line.old state) from (drop from block.now) }
 {
     let mut so_far = state;
-    let mut at = from;
-    while at < block.len() {
-        let t = trace_splits::step(line, so_far, block[at]);
-        let next = t.state;
-        at += 1;
-        if t.ended {
+    for at in from..block.len() {
+        let Stepped { state: next, ended } = trace_splits::step(line, so_far, block[at]);
+        so_far = next;
+        if ended.is_some() {
             return Found {
                 state: next,
-                ended: true,
-                len: t.len,
-                at,
+                ended,
+                at: at + 1,
             };
         }
-        so_far = next;
     }
     Found {
         state: so_far,
-        ended: false,
-        len: 0,
-        at,
+        ended: None,
+        at: from.max(block.len()),
     }
 }

@@ -26,8 +26,7 @@ fn bin(
 {
     let b = trace_telling::corners(ll, ur);
     let r = boxes::insert(nums, reals, map, pool, b, obj);
-    let h = r.handle;
-    trace_telling::two(r.answer, h.slot, h.version)
+    trace_telling::told(r.answer, Said::Two(r.handle.slot, r.handle.version))
 }
 
 fn bset(
@@ -44,7 +43,7 @@ fn bset(
 {
     let b = trace_telling::corners(ll, ur);
     let answer = boxes::set_aabb(nums, reals, map, pool, h, b);
-    trace_telling::done(answer)
+    trace_telling::told(answer, Said::Done)
 }
 
 fn brem(
@@ -57,10 +56,11 @@ fn brem(
     ensures { outcome result (tables nums.new reals.now map.new pool.new) ≡ taken_of (tables nums.old reals.now map.old pool.old) h }
 {
     let r = boxes::remove(nums, reals, map, pool, h);
-    trace_telling::one(r.answer, r.obj)
+    trace_telling::told(r.answer, Said::One(r.obj))
 }
 
 // A line that changes the boxes, with what its record says.
+#[tactic(auto, unfolding(crate::specs::Meaning::Changes::change_of))]
 pub fn change_boxes(
     nums: &mut [Row],
     reals: &mut [[f32; 4]],
@@ -99,5 +99,5 @@ pub fn search_boxes(
     let q = trace_telling::corners(ll, ur);
     let mut objs = [0u32; 64];
     let r = boxes::query(nums, reals, map, pool, q, handles, corners, &mut objs);
-    trace_telling::boxes(r.answer, r.count)
+    trace_telling::told(r.answer, Said::Boxes(r.count))
 }

@@ -1,3 +1,2 @@
--- What the proofs of several functions cite.
-pub mod Signs
+-- Laws, and what the proofs share.
 pub mod laws

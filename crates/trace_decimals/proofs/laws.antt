@@ -1,7 +1,6 @@
 -- Laws, and what the proofs share.
 pub mod WrittenLaws
 pub mod CountLaws
-pub mod StepLaws
 pub mod FieldLaws
 pub mod TextLaws
 pub mod Rows

@@ -1,129 +1,87 @@
-// Decimals in the fields of a record: read from a part of a slice, and written into one from a place on.
+// Decimals in the fields of a record: read from a slice, and written into one from a place on.
 #![tactic(auto)]
 
-ghost use Rattle.std.specs.Prelude.{◌+◌, ◌-◌, ◌≤◌, ◌<◌, ◌≡◌, ◌∷◌};
-ghost use Rattle.basics.specs.Words.{[], length, slice, nat_abs};
+ghost use Rattle.std.specs.Prelude.{◌+◌, ◌≤◌, ◌<◌, ◌≡◌, ◌∷◌};
+ghost use Rattle.basics.specs.Words.{[], length};
 ghost use Rattle.trace_decimals.specs.Meaning.Text.{decimal, signed_text};
 ghost use Rattle.trace_decimals.specs.Meaning.Fields.{digits_from, up_to, number_of, count_of, plain as Fields-plain, negative as Fields-negative};
 ghost use Rattle.trace_decimals.specs.Inner.Fields.{Short};
 ghost use Rattle.trace_decimals.specs.Meaning.Written.{buffer, put_text};
 
-// What a field reads as.
-#[derive(Clone, Copy)]
-pub enum Number {
-    Read(u32),
-    Unreadable,
-}
-
-// What a field reads as that holds a count of sixteenths.
-#[derive(Clone, Copy)]
-pub enum Count {
-    Counted(i32),
-    NoCount,
-}
-
-fn digit(c: u8) -> u64
-    requires { 48 ≤ c }
-    ensures { result ≡ c - 48 }
-{
-    (c - 48) as u64
-}
-
-// The digits of b from `from` to `to`, none of which takes the number past `most`.
-fn read_digits(b: &[u8], from: usize, to: usize, most: u32) -> Number
-    requires { (from ≤ to) × (to ≤ length b.now) }
-    ensures { result ≡ digits_from most 0 (slice from to b.now) }
+// The digits of b, none of which takes the number past `most`.
+#[tactic(auto, using(std::proofs::lemmas::List::drop_more), unfolding(crate::specs::Meaning::Fields::digits_from))]
+fn read_digits(b: &[u8], most: u32) -> Option<u32>
+    ensures { result ≡ digits_from most 0 b.now }
 {
     let limit = most as u64;
     let mut v: u64 = 0;
-    let mut i = from;
-    while i < to {
-        let c = b[i];
-        if c < 48 {
-            return Number::Unreadable;
+    for &c in b {
+        if !c.is_ascii_digit() {
+            return None;
         }
-        if 57 < c {
-            return Number::Unreadable;
-        }
-        let n = v * 10 + digit(c);
+        let n = v * 10 + (c - b'0') as u64;
         if limit < n {
-            return Number::Unreadable;
+            return None;
         }
         v = n;
-        i += 1;
     }
-    Number::Read(v as u32)
+    Some(v as u32)
 }
 
 // The byte with which a number of several digits does not begin.
-const ZERO: u8 = 48;
+const ZERO: u8 = b'0';
 
-// The number up to `most` in the bytes of b from `from` to `to`.
-fn read_up_to(b: &[u8], from: usize, to: usize, most: u32) -> Number
-    requires { (from ≤ to) × (to ≤ length b.now) }
-    ensures { result ≡ up_to most (slice from to b.now) }
+// The number up to `most` that b holds.
+#[tactic(auto, unfolding(crate::specs::Meaning::Fields::up_to))]
+fn read_up_to(b: &[u8], most: u32) -> Option<u32>
+    ensures { result ≡ up_to most b.now }
 {
-    if from == to {
-        return Number::Unreadable;
+    match b {
+        [] | [ZERO, _, ..] => None,
+        _ => read_digits(b, most),
     }
-    if from + 1 < to {
-        if b[from] == ZERO {
-            return Number::Unreadable;
-        }
-    }
-    read_digits(b, from, to, most)
 }
 
-// The number in the bytes of b from `from` to `to`.
-pub fn read_number(b: &[u8], from: usize, to: usize) -> Number
-    requires { (from ≤ to) × (to ≤ length b.now) }
-    ensures { result ≡ number_of (slice from to b.now) }
+// The number that b holds.
+#[tactic(auto, unfolding(crate::specs::Meaning::Fields::number_of))]
+pub fn read_number(b: &[u8]) -> Option<u32>
+    ensures { result ≡ number_of b.now }
 {
-    read_up_to(b, from, to, 4294967295)
+    read_up_to(b, u32::MAX)
 }
 
 // What was read with no minus before it.
-fn plain(n: Number) -> Count
+fn plain(n: Option<u32>) -> Option<i32>
     requires { Short n }
     ensures { result ≡ Fields-plain n }
 {
-    match n {
-        Number::Read(v) => Count::Counted(v as i32),
-        Number::Unreadable => Count::NoCount,
-    }
+    n.map(|v| v as i32)
 }
 
 // What was read behind a minus.
-fn negative(n: Number) -> Count
+fn negative(n: Option<u32>) -> Option<i32>
     requires { Short n }
     ensures { result ≡ Fields-negative n }
 {
-    match n {
-        Number::Read(v) => {
-            if v == 0 {
-                return Count::NoCount;
-            }
-            Count::Counted(0 - (v as i32))
-        }
-        Number::Unreadable => Count::NoCount,
-    }
+    n.filter(|v| *v != 0).map(|v| -(v as i32))
 }
 
-// The count of sixteenths in the bytes of b from `from` to `to`.
-pub fn read_count(b: &[u8], from: usize, to: usize) -> Count
-    requires { (from ≤ to) × (to ≤ length b.now) }
-    ensures { result ≡ count_of (slice from to b.now) }
+// The farthest count of sixteenths from 0.
+const FARTHEST: u32 = 1048576;
+
+// The count of sixteenths that b holds.
+#[tactic(auto, using(crate::proofs::laws::CountLaws::short), unfolding(crate::specs::Meaning::Fields::count_of))]
+pub fn read_count(b: &[u8]) -> Option<i32>
+    ensures { result ≡ count_of b.now }
 {
-    if from == to {
-        return Count::NoCount;
+    match b {
+        [b'-', digits @ ..] => negative(read_up_to(digits, FARTHEST)),
+        _ => plain(read_up_to(b, FARTHEST)),
     }
-    if b[from] == 45 {
-        return negative(read_up_to(b, from + 1, to, 1048576));
-    }
-    plain(read_up_to(b, from, to, 1048576))
 }
 
 // One byte at `at`, as all that is written here: answers where the next one goes.
+#[tactic(auto, using(crate::proofs::laws::WrittenLaws::one_byte))]
 pub fn put_byte(out: &mut [u8], at: usize, c: u8) -> usize
     requires { at < length out.old }
     ensures { buffer out.new result ≡ put_text (buffer out.old at) (c ∷ []) }
@@ -132,19 +90,12 @@ pub fn put_byte(out: &mut [u8], at: usize, c: u8) -> usize
     at + 1
 }
 
-fn digit_of(d: u32) -> u8
-    requires { d < 10 }
-    ensures { result ≡ 48 + d }
-{
-    48 + d as u8
-}
-
 // The digits of n.
 fn put_digits(out: &mut [u8], at: usize, n: u32) -> usize
     requires { at + length (decimal n) ≤ length out.old }
     ensures { buffer out.new result ≡ put_text (buffer out.old at) (decimal n) }
 {
-    let last = digit_of(n % 10);
+    let last = b'0' + (n % 10) as u8;
     if n < 10 {
         return put_byte(out, at, last);
     }
@@ -160,23 +111,11 @@ pub fn put_number(out: &mut [u8], at: usize, n: u32) -> usize
     put_digits(out, at, n)
 }
 
-fn magnitude(k: i32) -> u32
-    ensures { result ≡ nat_abs k }
-{
-    if k < 0 {
-        return (-1 - k) as u32 + 1;
-    }
-    k as u32
-}
-
 // k in decimal. The longest text has a minus and 10 digits.
 pub fn put_count(out: &mut [u8], at: usize, k: i32) -> usize
     requires { at + 11 ≤ length out.old }
     ensures { buffer out.new result ≡ put_text (buffer out.old at) (signed_text k) }
 {
-    if k < 0 {
-        let next = put_byte(out, at, 45);
-        return put_number(out, next, magnitude(k));
-    }
-    put_number(out, at, magnitude(k))
+    let next = if k < 0 { put_byte(out, at, b'-') } else { at };
+    put_number(out, next, k.unsigned_abs())
 }

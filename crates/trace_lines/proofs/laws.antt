@@ -6,5 +6,4 @@ pub mod CursorLaws
 pub mod Cases
 pub mod InputLaws
 pub mod FieldLaws
-pub mod TakenLaws
 pub mod TextLaws

@@ -1,107 +1,106 @@
 // The fields of a record from a place on: a number, a count, a spot, a handle, as they are asked for. No field is past the record's end.
-ghost use Rattle.std.specs.Prelude.{◌≤◌, ◌≡◌};
-ghost use Rattle.basics.specs.Words.{length, pos};
-ghost use Rattle.trace_lines.specs.Meaning.Taken.{take_number, take_count, take_spot, take_handle, if_asked, nobody, no_spot, take_places};
-ghost use Rattle.trace_lines.specs.Inner.Cursor.{end_from, fields_from, number_taken, count_taken, spot_taken, spots_taken, handle_taken};
+ghost use Rattle.std.specs.Prelude.{◌≡◌, ◌∷◌, MatchOption};
+ghost use Rattle.basics.specs.Words.{[]};
+ghost use Rattle.trace_lines.specs.Meaning.Taken.{if_asked};
+ghost use Rattle.trace_lines.specs.Inner.Cursor.{fields_from, taken_at};
 
-use crate::{Spot, TakenCount, TakenHandle, TakenNumber, TakenSpot, TakenSpots};
+use crate::{NO_SPOT, NOBODY, Spot};
 use slots::Handle;
-use trace_decimals::{Count, Number};
 
-// Where the field that begins at `at` ends: at a comma, or with the record.
-pub fn field_end(b: &[u8], at: usize) -> usize
-    requires { at ≤ length b.now }
-    ensures { result ≡ end_from b.now at }
+// The field that begins at `at`, and the place of the next one.
+pub fn field_at(b: &[u8], at: usize) -> Option<(&[u8], usize)>
+    ensures { MatchOption result (fields_from b.now at ≡ []) (λ f. fields_from b.now at ≡ f.0.now ∷ fields_from b.now f.1) }
 {
-    let mut i = at;
-    while i < b.len() {
-        if b[i] == 44 {
-            return i;
-        }
-        i += 1;
-    }
-    i
+    let rest = b.get(at..)?;
+    let n = rest.iter().position(|c| *c == b',').unwrap_or(rest.len());
+    Some((&rest[..n], at + n + 1))
 }
 
-// Where a field is not asked for none is taken, and the value is zero.
-pub fn number_if(b: &[u8], at: usize, asked: bool) -> TakenNumber
-    requires { length b.now ≤ 128 }
-    ensures { number_taken b.now result ≡ if_asked asked 0 take_number (fields_from b.now at) }
-{
-    if !asked {
-        return TakenNumber::At(0, at);
-    }
-    if b.len() < at {
-        return TakenNumber::Missing;
-    }
-    let end = field_end(b, at);
-    let n = trace_decimals::read_number(b, at, end);
-    match n {
-        Number::Read(v) => TakenNumber::At(v, end + 1),
-        Number::Unreadable => TakenNumber::Missing,
-    }
+// What can be taken from the fields from a place on: the value, and the place of the next field.
+pub trait Take: Sized {
+    ghost use Rattle.trace_lines.specs.Meaning.Taken.{Taker};
+
+    ghost taker: { Taker Self };
+
+    ghost NONE: { Self };
+
+    // The value where none is asked for.
+    const NONE: Self;
+
+    fn take(b: &[u8], at: usize) -> Option<(Self, usize)>
+        ensures { taken_at b.now result ≡ taker (fields_from b.now at) };
 }
 
-pub fn count_if(b: &[u8], at: usize, asked: bool) -> TakenCount
-    requires { length b.now ≤ 128 }
-    ensures { count_taken b.now result ≡ if_asked asked (pos 0) take_count (fields_from b.now at) }
-{
-    if !asked {
-        return TakenCount::At(0, at);
-    }
-    if b.len() < at {
-        return TakenCount::Missing;
-    }
-    let end = field_end(b, at);
-    let n = trace_decimals::read_count(b, at, end);
-    match n {
-        Count::Counted(k) => TakenCount::At(k, end + 1),
-        Count::NoCount => TakenCount::Missing,
+impl Take for u32 {
+    ghost use Rattle.trace_lines.specs.Meaning.Taken.{take_number};
+
+    ghost taker = { take_number };
+
+    ghost NONE = { 0 };
+
+    const NONE: u32 = 0;
+
+    fn take(b: &[u8], at: usize) -> Option<(u32, usize)> {
+        let (field, next) = field_at(b, at)?;
+        Some((trace_decimals::read_number(field)?, next))
     }
 }
 
-pub fn handle_if(b: &[u8], at: usize, asked: bool) -> TakenHandle
-    requires { length b.now ≤ 128 }
-    ensures { handle_taken b.now result ≡ if_asked asked nobody take_handle (fields_from b.now at) }
-{
-    let first = number_if(b, at, asked);
-    let TakenNumber::At(slot, next) = first else {
-        return TakenHandle::Missing;
-    };
-    let second = number_if(b, next, asked);
-    let TakenNumber::At(version, end) = second else {
-        return TakenHandle::Missing;
-    };
-    TakenHandle::At(Handle { slot, version }, end)
+impl Take for i32 {
+    ghost use Rattle.basics.specs.Words.{pos};
+    ghost use Rattle.trace_lines.specs.Meaning.Taken.{take_count};
+
+    ghost taker = { take_count };
+
+    ghost NONE = { pos 0 };
+
+    const NONE: i32 = 0;
+
+    fn take(b: &[u8], at: usize) -> Option<(i32, usize)> {
+        let (field, next) = field_at(b, at)?;
+        Some((trace_decimals::read_count(field)?, next))
+    }
 }
 
-fn spot_if(b: &[u8], at: usize, asked: bool) -> TakenSpot
-    requires { length b.now ≤ 128 }
-    ensures { spot_taken b.now result ≡ if_asked asked no_spot take_spot (fields_from b.now at) }
-{
-    let first = count_if(b, at, asked);
-    let TakenCount::At(x, next) = first else {
-        return TakenSpot::Missing;
-    };
-    let second = count_if(b, next, asked);
-    let TakenCount::At(y, end) = second else {
-        return TakenSpot::Missing;
-    };
-    TakenSpot::At(Spot { x, y }, end)
+impl Take for Handle {
+    ghost use Rattle.trace_lines.specs.Meaning.Taken.{take_handle, nobody};
+
+    ghost taker = { take_handle };
+
+    ghost NONE = { nobody };
+
+    const NONE: Handle = NOBODY;
+
+    fn take(b: &[u8], at: usize) -> Option<(Handle, usize)> {
+        let (slot, next) = u32::take(b, at)?;
+        let (version, end) = u32::take(b, next)?;
+        Some((Handle { slot, version }, end))
+    }
 }
 
-// So many places, of two.
-pub fn spots_if(b: &[u8], at: usize, places: u32) -> TakenSpots
-    requires { length b.now ≤ 128 }
-    ensures { spots_taken b.now result ≡ take_places places (fields_from b.now at) }
+impl Take for Spot {
+    ghost use Rattle.trace_lines.specs.Meaning.Taken.{take_spot, no_spot};
+
+    ghost taker = { take_spot };
+
+    ghost NONE = { no_spot };
+
+    const NONE: Spot = NO_SPOT;
+
+    fn take(b: &[u8], at: usize) -> Option<(Spot, usize)> {
+        let (x, next) = i32::take(b, at)?;
+        let (y, end) = i32::take(b, next)?;
+        Some((Spot { x, y }, end))
+    }
+}
+
+// Where a value is not asked for no field is taken, and the value is zero.
+pub fn take_if<T: Take>(b: &[u8], at: usize, asked: bool) -> Option<(T, usize)>
+    ensures { taken_at b.now result ≡ if_asked asked T.NONE T.taker (fields_from b.now at) }
 {
-    let first = spot_if(b, at, 0 < places);
-    let TakenSpot::At(p, next) = first else {
-        return TakenSpots::Missing;
-    };
-    let second = spot_if(b, next, 1 < places);
-    let TakenSpot::At(q, end) = second else {
-        return TakenSpots::Missing;
-    };
-    TakenSpots::At(p, q, end)
+    if asked {
+        T::take(b, at)
+    } else {
+        Some((T::NONE, at))
+    }
 }

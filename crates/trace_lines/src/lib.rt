@@ -1,16 +1,15 @@
 // A record of the trace read as a request: its word, then what the word asks for, field by field.
 #![tactic(auto)]
 
-ghost use Rattle.std.specs.Prelude.{◌≤◌, ◌≡◌};
-ghost use Rattle.basics.specs.Words.{length, take};
-ghost use Rattle.trace_lines.specs.Meaning.Words.{word_row as Words-row, row_says, point_changes, point_searches, box_lines, found_in, asked_by};
-ghost use Rattle.trace_lines.specs.Meaning.Requests.{request_of};
+ghost use Rattle.std.specs.Prelude.{◌≡◌, unwrap_or};
+ghost use Rattle.basics.specs.Words.{take};
+ghost use Rattle.trace_lines.specs.Meaning.Words.{point_changes, point_searches, box_lines, found_in, asked_by};
+ghost use Rattle.trace_lines.specs.Meaning.Requests.{unreadable, request_of};
 
 use slots::Handle;
 
 mod arguments;
 mod fields;
-mod words;
 
 // The lines that change the points, those that search them, and those that change the boxes.
 #[derive(Clone, Copy)]
@@ -66,6 +65,14 @@ pub struct Spot {
     pub y: i32,
 }
 
+// What a request has where no handle is asked for, and where no place is.
+const NOBODY: Handle = Handle {
+    slot: 0,
+    version: 0,
+};
+
+const NO_SPOT: Spot = Spot { x: 0, y: 0 };
+
 // What is not asked for is zero. The number is n, the tracker's number k.
 #[derive(Clone, Copy)]
 pub struct Request {
@@ -78,149 +85,158 @@ pub struct Request {
     pub k: u32,
 }
 
-// What was taken from a place on, and the place of the next field.
-#[derive(Clone, Copy)]
-pub enum TakenNumber {
-    At(u32, usize),
-    Missing,
-}
+// Nothing is asked for.
+const NOTHING: Asks = Asks {
+    line: Line::Unreadable,
+    handle: false,
+    places: 0,
+    radius: false,
+    number: false,
+    tracker: false,
+};
 
-#[derive(Clone, Copy)]
-pub enum TakenCount {
-    At(i32, usize),
-    Missing,
-}
-
-#[derive(Clone, Copy)]
-pub enum TakenSpot {
-    At(Spot, usize),
-    Missing,
-}
-
-#[derive(Clone, Copy)]
-pub enum TakenSpots {
-    At(Spot, Spot, usize),
-    Missing,
-}
-
-#[derive(Clone, Copy)]
-pub enum TakenHandle {
-    At(Handle, usize),
-    Missing,
-}
-
-// A row of the table: what the word asks for if it is w, and else what the rows behind this one say.
-fn row(
-    word: &[u8],
-    others: Asks,
-    w: &[u8],
-    line: Line,
-    handle: bool,
-    places: u32,
-    radius: bool,
-    number: bool,
-    tracker: bool,
-) -> Asks
-    ensures { result ≡ row_says (Words-row w.now line handle places radius number tracker) word.now others }
-{
-    if words::same(word, w) {
-        return Asks {
-            line,
-            handle,
-            places,
-            radius,
-            number,
-            tracker,
-        };
-    }
-    others
-}
-
-// The table of words, by grid and kind: slot and version, places, radius, number, tracker. The last row is looked at first.
+// The table of words, by grid and kind; a word that is not here asks for what t says.
+#[tactic(auto, using(crate::proofs::laws::WordLaws::same_reads, std::proofs::lemmas::Bool::Decides::nat_tests), unfolding(crate::specs::Meaning::Words::row_says))]
 fn point_changes(word: &[u8], t: Asks) -> Asks
     ensures { result ≡ found_in point_changes word.now t }
 {
-    let k = Line::PointChange(PointChange::Mnt);
-    let t = row(word, t, b"mnt", k, false, 0, false, false, false);
-    let k = Line::PointChange(PointChange::Now);
-    let t = row(word, t, b"now", k, true, 0, false, false, true);
-    let k = Line::PointChange(PointChange::Rem);
-    let t = row(word, t, b"rem", k, true, 0, false, false, true);
-    let k = Line::PointChange(PointChange::Pos);
-    let t = row(word, t, b"pos", k, true, 1, false, false, true);
-    let k = Line::PointChange(PointChange::Ins);
-    row(word, t, b"ins", k, false, 1, false, true, true)
+    match word {
+        b"ins" => Asks {
+            line: Line::PointChange(PointChange::Ins),
+            places: 1,
+            number: true,
+            tracker: true,
+            ..NOTHING
+        },
+        b"pos" => Asks {
+            line: Line::PointChange(PointChange::Pos),
+            handle: true,
+            places: 1,
+            tracker: true,
+            ..NOTHING
+        },
+        b"rem" => Asks {
+            line: Line::PointChange(PointChange::Rem),
+            handle: true,
+            tracker: true,
+            ..NOTHING
+        },
+        b"now" => Asks {
+            line: Line::PointChange(PointChange::Now),
+            handle: true,
+            tracker: true,
+            ..NOTHING
+        },
+        b"mnt" => Asks {
+            line: Line::PointChange(PointChange::Mnt),
+            ..NOTHING
+        },
+        _ => t,
+    }
 }
 
+#[tactic(auto, using(crate::proofs::laws::WordLaws::same_reads, std::proofs::lemmas::Bool::Decides::nat_tests), unfolding(crate::specs::Meaning::Words::row_says))]
 fn point_searches(word: &[u8], t: Asks) -> Asks
     ensures { result ≡ found_in point_searches word.now t }
 {
-    let k = Line::PointSearch(PointSearch::Near);
-    let t = row(word, t, b"near", k, false, 1, true, false, false);
-    let k = Line::PointSearch(PointSearch::Cel);
-    let t = row(word, t, b"cel", k, false, 2, false, false, false);
-    let k = Line::PointSearch(PointSearch::Rec);
-    let t = row(word, t, b"rec", k, false, 2, false, false, false);
-    let k = Line::PointSearch(PointSearch::Cir);
-    row(word, t, b"cir", k, false, 1, true, false, false)
+    match word {
+        b"cir" => Asks {
+            line: Line::PointSearch(PointSearch::Cir),
+            places: 1,
+            radius: true,
+            ..NOTHING
+        },
+        b"rec" => Asks {
+            line: Line::PointSearch(PointSearch::Rec),
+            places: 2,
+            ..NOTHING
+        },
+        b"cel" => Asks {
+            line: Line::PointSearch(PointSearch::Cel),
+            places: 2,
+            ..NOTHING
+        },
+        b"near" => Asks {
+            line: Line::PointSearch(PointSearch::Near),
+            places: 1,
+            radius: true,
+            ..NOTHING
+        },
+        _ => t,
+    }
 }
 
+#[tactic(auto, using(crate::proofs::laws::WordLaws::same_reads, std::proofs::lemmas::Bool::Decides::nat_tests), unfolding(crate::specs::Meaning::Words::row_says))]
 fn box_lines(word: &[u8], t: Asks) -> Asks
     ensures { result ≡ found_in box_lines word.now t }
 {
-    let k = Line::BoxSearch;
-    let t = row(word, t, b"bqry", k, false, 2, false, false, false);
-    let k = Line::BoxChange(BoxChange::Brem);
-    let t = row(word, t, b"brem", k, true, 0, false, false, false);
-    let k = Line::BoxChange(BoxChange::Bset);
-    let t = row(word, t, b"bset", k, true, 2, false, false, false);
-    let k = Line::BoxChange(BoxChange::Bin);
-    row(word, t, b"bin", k, false, 2, false, true, false)
+    match word {
+        b"bin" => Asks {
+            line: Line::BoxChange(BoxChange::Bin),
+            places: 2,
+            number: true,
+            ..NOTHING
+        },
+        b"bset" => Asks {
+            line: Line::BoxChange(BoxChange::Bset),
+            handle: true,
+            places: 2,
+            ..NOTHING
+        },
+        b"brem" => Asks {
+            line: Line::BoxChange(BoxChange::Brem),
+            handle: true,
+            ..NOTHING
+        },
+        b"bqry" => Asks {
+            line: Line::BoxSearch,
+            places: 2,
+            ..NOTHING
+        },
+        _ => t,
+    }
 }
 
 // What a word asks for; any other word is unreadable and asks for nothing.
 fn asked(word: &[u8]) -> Asks
     ensures { result ≡ asked_by word.now }
 {
-    let t = Asks {
-        line: Line::Unreadable,
-        handle: false,
-        places: 0,
-        radius: false,
-        number: false,
-        tracker: false,
-    };
-    let t = box_lines(word, t);
-    let t = point_searches(word, t);
-    let t = point_changes(word, t);
-    row(word, t, b"cell", Line::Cell, false, 0, false, true, false)
+    match word {
+        b"cell" => Asks {
+            line: Line::Cell,
+            number: true,
+            ..NOTHING
+        },
+        _ => point_changes(word, point_searches(word, box_lines(word, NOTHING))),
+    }
 }
 
-// A record that is not too long.
-fn read_short(b: &[u8]) -> Request
-    requires { length b.now ≤ 128 }
-    ensures { result ≡ request_of b.now }
-{
-    let end = fields::field_end(b, 0);
-    let k = asked(&b[..end]);
-    arguments::arguments(k, b, end + 1)
-}
+// The request of an unreadable record.
+const UNREADABLE: Request = Request {
+    line: Line::Unreadable,
+    h: NOBODY,
+    p: NO_SPOT,
+    q: NO_SPOT,
+    far: 0,
+    n: 0,
+    k: 0,
+};
 
-fn read_record(b: &[u8]) -> Request
-    ensures { result ≡ request_of b.now }
+// The request of a record, if it is readable: not too long, a word, what the word asks for, and no field more.
+#[tactic(auto, using(crate::proofs::laws::InputLaws::too_long, crate::proofs::laws::InputLaws::not_long), unfolding(crate::specs::Meaning::Requests::of_fields))]
+fn read_record(b: &[u8]) -> Option<Request>
+    ensures { unwrap_or result unreadable ≡ request_of b.now }
 {
     if 128 < b.len() {
-        return arguments::unreadable();
+        return None;
     }
-    read_short(b)
+    let (word, at) = fields::field_at(b, 0)?;
+    arguments::arguments(asked(word), b, at)
 }
 
 // The record that is the first `len` bytes of the line.
 pub fn read(line: &[u8], len: usize) -> Request
     ensures { result ≡ request_of (take len line.now) }
 {
-    if len <= line.len() {
-        return read_record(&line[..len]);
-    }
-    read_record(line)
+    read_record(&line[..len.min(line.len())]).unwrap_or(UNREADABLE)
 }

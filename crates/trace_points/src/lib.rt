@@ -10,6 +10,7 @@ ghost use Rattle.point_search.specs.Meaning.Searches.{findings, outputs};
 ghost use Rattle.point_search.specs.Meaning.Lent.{Finds};
 ghost use Rattle.point_tables.specs.Meaning.Tables.{tables};
 
+use basics::Refusal;
 use geometry::Position;
 use replies::{Count, Nearest};
 use slots::{Handle, Row};
@@ -33,8 +34,7 @@ fn ins(
 {
     let p = trace_telling::place(at);
     let r = points::insert(nums, reals, ints, map, pool, spots, cells, p, obj, tracker);
-    let h = r.handle;
-    trace_telling::two(r.answer, h.slot, h.version)
+    trace_telling::told(r.answer, Said::Two(r.handle.slot, r.handle.version))
 }
 
 fn pos(
@@ -54,7 +54,7 @@ fn pos(
 {
     let p = trace_telling::place(at);
     let answer = points::set_position(nums, reals, ints, map, pool, spots, cells, h, p, tracker);
-    trace_telling::done(answer)
+    trace_telling::told(answer, Said::Done)
 }
 
 fn rem(
@@ -71,7 +71,7 @@ fn rem(
     ensures { outcome result (tables nums.new reals.new ints.new map.now pool.now spots.now cells.new) ≡ marked_of (tables nums.old reals.old ints.old map.now pool.now spots.now cells.old) h tracker }
 {
     let r = points::remove(nums, reals, ints, map, pool, spots, cells, h, tracker);
-    trace_telling::one(r.answer, r.obj)
+    trace_telling::told(r.answer, Said::One(r.obj))
 }
 
 fn now(
@@ -88,7 +88,7 @@ fn now(
     ensures { outcome result (tables nums.new reals.now ints.now map.new pool.new spots.new cells.new) ≡ taken_of (tables nums.old reals.now ints.now map.old pool.old spots.old cells.old) h tracker }
 {
     let r = points::remove_maintain(nums, reals, ints, map, pool, spots, cells, h, tracker);
-    trace_telling::one(r.answer, r.obj)
+    trace_telling::told(r.answer, Said::One(r.obj))
 }
 
 fn mnt(
@@ -103,10 +103,11 @@ fn mnt(
     ensures { outcome result (tables nums.new reals.new ints.new map.new pool.new spots.new cells.new) ≡ maintained_of (tables nums.old reals.old ints.old map.old pool.old spots.old cells.old) }
 {
     let r = points::maintain(nums, reals, ints, map, pool, spots, cells);
-    trace_telling::two(r.answer, r.moved, r.removed)
+    trace_telling::told(r.answer, Said::Two(r.moved, r.removed))
 }
 
 // A line that changes the points, with what its record says.
+#[tactic(auto, unfolding(crate::specs::Meaning::Changes::change_of))]
 pub fn change_points(
     nums: &mut [Row],
     reals: &mut [[f32; 4]],
@@ -134,6 +135,7 @@ pub fn change_points(
 }
 
 // What `nearest` returned, as a search that finds at most one: the finding goes to place 0 of the outputs.
+#[tactic(auto, using(crate::proofs::laws::NearLaws::none_found, crate::proofs::laws::NearLaws::too_short))]
 fn near(
     r: Nearest,
     handles: &mut [[u32; 2]],
@@ -142,23 +144,24 @@ fn near(
 ) -> Count
     ensures { findings result (outputs handles.new places.new objs.new) ≡ nearest_finds r (outputs handles.old places.old objs.old) }
 {
-    let answer = r.answer;
-    let count = r.count;
+    let Nearest { answer, count, .. } = r;
     if count == 0 {
         return Count { answer, count };
     }
-    if (handles.len() == 0) | (places.len() == 0) | (objs.len() == 0) {
-        return Count { answer: 9, count };
+    if handles.is_empty() || places.is_empty() || objs.is_empty() {
+        return Count {
+            answer: Refusal::OutputTooShort.number(),
+            count,
+        };
     }
-    let h = r.handle;
-    let p = r.position;
-    handles[0] = [h.slot, h.version];
-    places[0] = [p.x, p.y];
+    handles[0] = [r.handle.slot, r.handle.version];
+    places[0] = [r.position.x, r.position.y];
     objs[0] = [r.obj, r.tracker];
     Count { answer, count }
 }
 
 // Each line that searches the points is a query of the grid.
+#[tactic(auto, unfolding(crate::specs::Meaning::Searches::findings_of))]
 fn find(
     nums: &[Row],
     reals: &[[f32; 4]],
@@ -226,5 +229,5 @@ pub fn search_points(
     let r = find(
         nums, reals, ints, map, pool, spots, cells, s, a, b, radius, handles, places, objs,
     );
-    trace_telling::points(r.answer, r.count)
+    trace_telling::told(r.answer, Said::Points(r.count))
 }

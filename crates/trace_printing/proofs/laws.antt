@@ -1,5 +1,4 @@
 -- Laws, and what the proofs share.
-pub mod SaidLaws
 pub mod Lengths
 pub mod Rows
 pub mod Puts

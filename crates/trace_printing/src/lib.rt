@@ -35,7 +35,7 @@ fn put_number(out: &mut [u8], at: usize, n: u32) -> usize
     requires { at + 11 ≤ length out.old }
     ensures { Puts out.old at out.new result (number_field n) 11 }
 {
-    let next = trace_decimals::put_byte(out, at, 44);
+    let next = trace_decimals::put_byte(out, at, b',');
     trace_decimals::put_number(out, next, n)
 }
 
@@ -45,7 +45,7 @@ fn put_coordinate(out: &mut [u8], at: usize, x: f32) -> usize
     ensures { Puts out.old at out.new result (coordinate_field x) 12 }
 {
     let k = trace_sixteenths::sixteenths(x);
-    let next = trace_decimals::put_byte(out, at, 44);
+    let next = trace_decimals::put_byte(out, at, b',');
     trace_decimals::put_count(out, next, k)
 }
 
@@ -104,10 +104,8 @@ fn put_points(
     ensures { Puts out.old at out.new result (points_text handles.now places.now objs.now n) (n * 68) }
 {
     let mut next = at;
-    let mut i = 0;
-    while i < n {
+    for i in 0..n {
         next = put_point(out, next, handles[i], places[i], objs[i]);
-        i += 1;
     }
     next
 }
@@ -118,10 +116,8 @@ fn put_boxes(out: &mut [u8], at: usize, handles: &[[u32; 2]], boxes: &[[f32; 4]]
     ensures { Puts out.old at out.new result (boxes_text handles.now boxes.now n) (n * 70) }
 {
     let mut next = at;
-    let mut i = 0;
-    while i < n {
+    for i in 0..n {
         next = put_box(out, next, handles[i], boxes[i]);
-        i += 1;
     }
     next
 }
@@ -157,11 +153,11 @@ fn put_said(
         }
         Said::Points(n) => {
             let next = put_one(out, at, n);
-            put_points(out, next, handles, places, objs, basics::wide(n))
+            put_points(out, next, handles, places, objs, n as usize)
         }
         Said::Boxes(n) => {
             let next = put_one(out, at, n);
-            put_boxes(out, next, handles, boxes, basics::wide(n))
+            put_boxes(out, next, handles, boxes, n as usize)
         }
     }
 }
@@ -180,6 +176,6 @@ pub fn put_record(
     ensures { Puts out.old at out.new result (record_text said handles.now places.now boxes.now objs.now) longest }
 {
     let next = put_said(out, at, said, handles, places, boxes, objs);
-    let end = trace_decimals::put_byte(out, next, 13);
-    trace_decimals::put_byte(out, end, 10)
+    let end = trace_decimals::put_byte(out, next, b'\r');
+    trace_decimals::put_byte(out, end, b'\n')
 }

@@ -1,8 +1,8 @@
 // The input split into records at CR LF, a byte at a time, so that a record may straddle reads.
 #![tactic(auto)]
 
-ghost use Rattle.std.specs.Prelude.{◌-◌, ◌≡◌, ◌&&◌, ◌∷◌, ◌++◌};
-ghost use Rattle.basics.specs.Words.{ℕ, min, List, [], length, take, eqb};
+ghost use Rattle.std.specs.Prelude.{◌≡◌, ◌∷◌, ◌++◌};
+ghost use Rattle.basics.specs.Words.{ℕ, List, [], length, take};
 ghost use Rattle.trace_splits.specs.Meaning.Sofar.{sofar, begun, feed};
 ghost use Rattle.trace_splits.specs.Inner.Sofar.{fed, finished};
 
@@ -13,40 +13,11 @@ pub struct Splitter {
     pub cr: bool,
 }
 
-// Where a byte leads; and if it ended a record, what is kept of the record is the line's first `len` bytes.
+// Where a byte leads; and if it ended a record, how many of the line's first bytes are kept of it.
 #[derive(Clone, Copy)]
 pub struct Stepped {
     pub state: Splitter,
-    pub ended: bool,
-    pub len: usize,
-}
-
-fn lesser(a: usize, b: usize) -> usize
-    ensures { result ≡ min a b }
-{
-    if a < b {
-        return a;
-    }
-    b
-}
-
-fn one_less(n: usize) -> usize
-    ensures { result ≡ n - 1 }
-{
-    if n == 0 {
-        return 0;
-    }
-    n - 1
-}
-
-// The LF of a CR LF.
-fn ends(cr: bool, byte: u8) -> bool
-    ensures { result ≡ (cr && eqb byte 10) }
-{
-    if cr {
-        return byte == 10;
-    }
-    false
+    pub ended: Option<usize>,
 }
 
 // A byte more in the line, if there is room.
@@ -70,22 +41,21 @@ pub fn start() -> Splitter
 pub fn step(line: &mut [u8], s: Splitter, byte: u8) -> Stepped
     ensures { fed line.new result ≡ feed (length line.old) (sofar line.old s) byte }
 {
-    if ends(s.cr, byte) {
-        let n = lesser(s.len, line.len());
+    // The LF of a CR LF: the record ends before the CR.
+    if s.cr && byte == b'\n' {
+        let n = s.len.min(line.len());
         return Stepped {
-            state: Splitter { len: 0, cr: false },
-            ended: true,
-            len: one_less(n),
+            state: start(),
+            ended: Some(n.saturating_sub(1)),
         };
     }
-    let n = push(line, s.len, byte);
+    let len = push(line, s.len, byte);
     Stepped {
         state: Splitter {
-            len: n,
-            cr: byte == 13,
+            len,
+            cr: byte == b'\r',
         },
-        ended: false,
-        len: 0,
+        ended: None,
     }
 }
 
@@ -93,11 +63,10 @@ pub fn step(line: &mut [u8], s: Splitter, byte: u8) -> Stepped
 pub fn finish(line: &[u8], s: Splitter) -> Stepped
     ensures { fed line.now result ≡ finished (length line.now) (sofar line.now s) }
 {
-    let n = lesser(s.len, line.len());
-    let most = one_less(line.len());
+    let n = s.len.min(line.len());
+    let most = line.len().saturating_sub(1);
     Stepped {
-        state: Splitter { len: 0, cr: false },
-        ended: n != 0,
-        len: lesser(n, most),
+        state: start(),
+        ended: (n != 0).then_some(n.min(most)),
     }
 }

@@ -4,7 +4,7 @@
 ghost use Rattle.std.specs.Prelude.{◌≡◌};
 ghost use Rattle.trace_lines.specs.Inner.Texts.{SpotInRange};
 ghost use Rattle.trace_telling.specs.Meaning.Places.{place_of, box_of};
-ghost use Rattle.trace_telling.specs.Meaning.Tells.{done_or, one_or, two_or, points_or, boxes_or};
+ghost use Rattle.trace_telling.specs.Meaning.Tells.{tells};
 
 use geometry::{Aabb, Position};
 use trace_lines::Spot;
@@ -24,53 +24,19 @@ pub fn corners(ll: Spot, ur: Spot) -> Aabb
     requires { SpotInRange ll × SpotInRange ur }
     ensures { result ≡ box_of ll ur }
 {
-    let low = place(ll);
-    let high = place(ur);
-    Aabb { ll: low, ur: high }
+    Aabb {
+        ll: place(ll),
+        ur: place(ur),
+    }
 }
 
-// A refusal says its number alone. After 0: nothing more, a number, two numbers, or so many findings.
-pub fn done(answer: u32) -> Said
-    ensures { result ≡ done_or answer }
+// What is told of an answer: a refusal says its number alone, and 0 is followed by what there is to say.
+pub fn told(answer: u32, said: Said) -> Said
+    ensures { result ≡ tells answer said }
 {
     if answer == 0 {
-        return Said::Done;
+        said
+    } else {
+        Said::Refused(answer)
     }
-    Said::Refused(answer)
-}
-
-pub fn one(answer: u32, x: u32) -> Said
-    ensures { result ≡ one_or answer x }
-{
-    if answer == 0 {
-        return Said::One(x);
-    }
-    Said::Refused(answer)
-}
-
-pub fn two(answer: u32, x: u32, y: u32) -> Said
-    ensures { result ≡ two_or answer x y }
-{
-    if answer == 0 {
-        return Said::Two(x, y);
-    }
-    Said::Refused(answer)
-}
-
-pub fn points(answer: u32, count: u32) -> Said
-    ensures { result ≡ points_or answer count }
-{
-    if answer == 0 {
-        return Said::Points(count);
-    }
-    Said::Refused(answer)
-}
-
-pub fn boxes(answer: u32, count: u32) -> Said
-    ensures { result ≡ boxes_or answer count }
-{
-    if answer == 0 {
-        return Said::Boxes(count);
-    }
-    Said::Refused(answer)
 }

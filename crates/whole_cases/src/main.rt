@@ -1,4 +1,4 @@
-// Document 02's request 04, run: `whole` where its shifts begin, turn round and end, and for what lies outside the domain. Each line is the bits of
+// `whole` run where its shifts begin, turn round and end, and for what lies outside the domain. Each line is the bits of
 // a binary32 and its whole number.
 #![tactic(auto)]
 
@@ -7,25 +7,6 @@ ghost use Rattle.std.specs.Float.{binary32};
 ghost use Rattle.std.specs.Float.Ieee.{of_bits};
 
 use std::io;
-
-fn say(rt: &impl Print, what: &str) -> io::Result<()> {
-    print!(rt; "{what}")
-}
-
-fn number(rt: &impl Print, n: u64) -> io::Result<()> {
-    print!(rt; "{n}")
-}
-
-// A whole number with its sign, by how far it lies from 0.
-fn print_signed(rt: &impl Print, n: i32) -> io::Result<()> {
-    let up = cells::up_from_least(n);
-    if up < 2147483648 {
-        say(rt, "-")?;
-        number(rt, 2147483648 - up)
-    } else {
-        number(rt, up - 2147483648)
-    }
-}
 
 // The binary32 that has these bits. No bits of a NaN may be handed to `from_bits`: it comes of a division.
 fn number_of(bits: u32) -> f32
@@ -38,9 +19,8 @@ fn number_of(bits: u32) -> f32
 }
 
 fn line(rt: &impl Print, bits: u32) -> io::Result<()> {
-    print!(rt; "0x{bits:08x},")?;
-    print_signed(rt, cells::whole(number_of(bits)))?;
-    say(rt, "\n")
+    let n = cells::whole(number_of(bits));
+    println!(rt; "0x{bits:08x},{n}")
 }
 
 // Below 1 nothing is left.

@@ -6,8 +6,7 @@ use Rattle.basics.specs.Meaning.Refusals.{or_else, first_of}
 use Rattle.geometry.specs.declared.Aabb.{Aabb}
 use Rattle.geometry.specs.Meaning.Domain.{aabb_in_domain}
 use Rattle.slots.specs.declared.Handle.{Handle}
-use Rattle.slots.specs.declared.Usable.{Usable}
-use Rattle.slots.specs.declared.Usable.TheVariants.{At, Nothing}
+use Rattle.std.specs.Prelude.{None, Option, Some}
 use Rattle.slots.specs.Meaning.Map.{is_some, slot_in}
 use Rattle.slots.specs.Meaning.Slot.{free, phase_at, good}
 use Rattle.slots.proofs.laws.HandleLaws.{good_says}
@@ -32,12 +31,12 @@ module _ (t : Tables) (b : Aabb) where
   took : first_of (insert_tests t b) ≡ 0 → (taken < length t.nums) × (phase_at t.nums taken ≡ free)
   took = go (holds t) (aabb_in_domain b) (few_cells (size_of t) b) (usable_slot t) (has_room t b) refl refl
     where
-      go : (a i f : Bool) (u : Usable) (r : Bool) → holds t ≡ a → usable_slot t ≡ u → or_else a 3 (or_else i 6 (or_else f 7 (or_else (is_some u) 4 (or_else r 8 0)))) ≡ 0 → (slot_in u < length t.nums) × (phase_at t.nums (slot_in u) ≡ free)
+      go : (a i f : Bool) (u : Option ℕ) (r : Bool) → holds t ≡ a → usable_slot t ≡ u → or_else a 3 (or_else i 6 (or_else f 7 (or_else (is_some u) 4 (or_else r 8 0)))) ≡ 0 → (slot_in u < length t.nums) × (phase_at t.nums (slot_in u) ≡ free)
       go false i f u r e q z = absurd (omega arith)
       go true false f u r e q z = absurd (omega arith)
       go true true false u r e q z = absurd (omega arith)
-      go true true true Nothing r e q z = absurd (omega arith)
-      go true true true (At s) r e q z = lowest_free t.nums t.map ((holds_says t).yes e).slots s q
+      go true true true None r e q z = absurd (omega arith)
+      go true true true (Some s) r e q z = lowest_free t.nums t.map ((holds_says t).yes e).slots s q
 
   insert-onward : (d : ℕ) → Onward t.nums (insert_of t b d).after.nums
   unfolding insert_of put

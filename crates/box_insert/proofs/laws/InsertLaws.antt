@@ -6,8 +6,7 @@ use Rattle.basics.proofs.laws.Says.{says_t, not_said}
 use Rattle.basics.specs.Meaning.Refusals.{pick}
 use Rattle.geometry.specs.Meaning.Domain.{aabb_in_domain}
 use Rattle.geometry.specs.declared.Aabb.{Aabb}
-use Rattle.slots.specs.declared.Usable.{Usable}
-use Rattle.slots.specs.declared.Usable.TheVariants.{At, Nothing}
+use Rattle.std.specs.Prelude.{Option, None, Some}
 use Rattle.slots.specs.Meaning.Map.{slot_in}
 use Rattle.slots.specs.Meaning.Slot.{live, version_at}
 use Rattle.slots.proofs.laws.SlotLaws.{lowest_free}
@@ -38,7 +37,7 @@ module _ (t : Tables) (b : Aabb) where
 
 module _ (t : Tables) (b : Aabb) (d : ℕ) where
   -- the outcome by the tests
-  abbrev insert_by : Bool → Bool → Bool → Usable → Bool → Outcome Inserted
+  abbrev insert_by : Bool → Bool → Bool → Option ℕ → Bool → Outcome Inserted
   insert_by h i f u r =
       pick (eqb (answer_by h i f u r) 0)
       (outcome (inserted 0 (slot_in u) (version_at t.nums (slot_in u))) (put t (slot_in u) b d))
@@ -49,26 +48,26 @@ module _ (t : Tables) (b : Aabb) (d : ℕ) where
   by_tests_lem = refl
 
   -- ---- exactly when each answer is given
-  pub insert-done : (s : ℕ) → Holds t → T (aabb_in_domain b) → Few t b → usable_slot t ≡ At s → Room t b → insert_of t b d ≡ outcome (inserted 0 s (version_at t.nums s)) (put t s b d)
+  pub insert-done : (s : ℕ) → Holds t → T (aabb_in_domain b) → Few t b → usable_slot t ≡ Some s → Room t b → insert_of t b d ≡ outcome (inserted 0 s (version_at t.nums s)) (put t s b d)
   insert-done s h i f e r = by_tests_lem ∙ rw ((holds_says t).no h, (says_t (aabb_in_domain b)).no i, (few_says t b).no f, e, (room_says t b).no r)
 
   -- entries in use plus the box's exceed the pool
-  pub insert_crowded : (s : ℕ) → Holds t → T (aabb_in_domain b) → Few t b → usable_slot t ≡ At s → (Room t b → ⊥) → insert_of t b d ≡ outcome (inserted 8 0 0) t
+  pub insert_crowded : (s : ℕ) → Holds t → T (aabb_in_domain b) → Few t b → usable_slot t ≡ Some s → (Room t b → ⊥) → insert_of t b d ≡ outcome (inserted 8 0 0) t
   insert_crowded s h i f e r = by_tests_lem ∙ rw ((holds_says t).no h, (says_t (aabb_in_domain b)).no i, (few_says t b).no f, e, not_said (room_says t b) r)
 
   -- ---- accepted or not: what holds of both holds of the outcome
   pub insert_cases : (P : Outcome Inserted → Type 0)
-      → ((s : ℕ) → holds t ≡ true → T (aabb_in_domain b) → Few t b → usable_slot t ≡ At s → Room t b → P (outcome (inserted 0 s (version_at t.nums s)) (put t s b d)))
+      → ((s : ℕ) → holds t ≡ true → T (aabb_in_domain b) → Few t b → usable_slot t ≡ Some s → Room t b → P (outcome (inserted 0 s (version_at t.nums s)) (put t s b d)))
       → ((a : ℕ) → (a ≡ 0 → ⊥) → P (outcome (inserted a 0 0) t)) → P (insert_of t b d)
   insert_cases P accept refuse = rw by_tests_lem (go (holds t) (aabb_in_domain b) (few_cells (size_of t) b) (usable_slot t) (has_room t b) refl (says_t (aabb_in_domain b)).yes (few_says t b).yes refl (room_says t b).yes)
     where
-      go : (h i f : Bool) (u : Usable) (r : Bool) → holds t ≡ h → (i ≡ true → T (aabb_in_domain b)) → (f ≡ true → Few t b) → usable_slot t ≡ u → (r ≡ true → Room t b) → P (insert_by h i f u r)
+      go : (h i f : Bool) (u : Option ℕ) (r : Bool) → holds t ≡ h → (i ≡ true → T (aabb_in_domain b)) → (f ≡ true → Few t b) → usable_slot t ≡ u → (r ≡ true → Room t b) → P (insert_by h i f u r)
       go false i f u r eh ei ef eu er = refuse 3 (λ e. omega arith)
       go true false f u r eh ei ef eu er = refuse 6 (λ e. omega arith)
       go true true false u r eh ei ef eu er = refuse 7 (λ e. omega arith)
-      go true true true Nothing r eh ei ef eu er = refuse 4 (λ e. omega arith)
-      go true true true (At s) false eh ei ef eu er = refuse 8 (λ e. omega arith)
-      go true true true (At s) true eh ei ef eu er = accept s eh (ei refl) (ef refl) eu (er refl)
+      go true true true None r eh ei ef eu er = refuse 4 (λ e. omega arith)
+      go true true true (Some s) false eh ei ef eu er = refuse 8 (λ e. omega arith)
+      go true true true (Some s) true eh ei ef eu er = accept s eh (ei refl) (ef refl) eu (er refl)
 
   -- tables that hold a grid still do
   pub insert-holds : Holds t → Holds (insert_of t b d).after

@@ -1,11 +1,10 @@
 -- `insert`: the lowest usable slot takes the box, which goes to the end of the list of every cell that it covers. Assumes nothing.
-use Rattle.std.specs.Prelude.{◌+◌, ◌∷◌}
+use Rattle.std.specs.Prelude.{◌+◌, ◌∷◌, Option}
 use Rattle.basics.specs.Words.{ℕ, Bool, List, [], length, set, leb}
 use Rattle.basics.specs.Meaning.Limits.{most_cells}
 use Rattle.basics.specs.Meaning.Refusals.{Refusal, unless, first_of, by_tests}
 use Rattle.geometry.specs.Meaning.Domain.{aabb_in_domain}
 use Rattle.geometry.specs.declared.Aabb.{Aabb}
-use Rattle.slots.specs.declared.Usable.{Usable}
 use Rattle.slots.specs.Meaning.Map.{taken, lowest_usable, is_some, slot_in}
 use Rattle.slots.specs.Meaning.Slot.{live, version_at}
 use Rattle.storage.specs.Meaning.Keyed.{written}
@@ -17,7 +16,7 @@ use Rattle.box_tables.specs.Meaning.Outcome.{Outcome, outcome}
 use Rattle.replies.specs.declared.Inserted.{Inserted}
 use Rattle.replies.specs.Meaning.Replies.{inserted}
 
-abbrev pub usable_slot : Tables → Usable
+abbrev pub usable_slot : Tables → Option ℕ
 usable_slot t = lowest_usable t.map (slots_of t)
 
 -- box b of slot s appended to the list of every cell that it covers
@@ -42,7 +41,7 @@ abbrev pub has_room : Tables → Aabb → Bool
 has_room t b = leb (used_of t + covers (size_of t) b) (length t.pool)
 
 -- its tests, by the verdict of the check, whether the box is in the domain and of few cells, the slot, and whether there is room
-abbrev pub insert_tests_by : Bool → Bool → Bool → Usable → Bool → List Refusal
+abbrev pub insert_tests_by : Bool → Bool → Bool → Option ℕ → Bool → List Refusal
 insert_tests_by held inside few u room = unless held 3 ∷ unless inside 6 ∷ unless few 7 ∷ unless (is_some u) 4 ∷ unless room 8 ∷ []
 
 abbrev pub insert_tests : Tables → Aabb → List Refusal

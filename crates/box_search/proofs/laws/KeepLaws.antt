@@ -1,5 +1,5 @@
 -- Keeping those of a list that pass, in place: the first j are looked at, and k of them kept. Assumes nothing.
-use Rattle.basics.specs.Words.{ℕ, ◌+◌, ◌<◌, ◌≤◌, ◌≡◌, refl, sym, ap, ◌∙◌, Bool, true, false, List, [], ◌∷◌, ◌++◌, append-nil, length, get_or, set, take, drop}
+use Rattle.basics.specs.Words.{ℕ, ◌+◌, ◌<◌, ◌≤◌, ◌≡◌, sym, ap, ◌∙◌, Bool, true, false, List, [], ◌∷◌, ◌++◌, append-nil, length, get_or, set, take, drop}
 use Rattle.basics.specs.Words.{length-set, take-suc, take-suc-set, drop-set-lt, drop-drop, get_or-drop, add-one, arith}
 use Rattle.storage.specs.Meaning.Keyed.{filter}
 use Rattle.storage.proofs.laws.FilterLaws.{filter-append, filter_keep, filter_skip}
@@ -11,9 +11,6 @@ pub record Kept (test : ℕ → Bool) (fs found : List ℕ) (k j : ℕ) : Type 0
   pub rest : drop j found ≡ drop j fs
 
 module _ (test : ℕ → Bool) (fs : List ℕ) where
-  pub kept-none : Kept test fs fs 0 0
-  kept-none = record { few = omega arith; size = refl; first = refl; rest = refl }
-
   module _ (found : List ℕ) (k j : ℕ) (p : Kept test fs found k j) (inside : j < length fs) where
     -- the one at hand is still there
     pub kept_here : get_or found j 0 ≡ get_or fs j 0

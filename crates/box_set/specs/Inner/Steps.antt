@@ -1,8 +1,10 @@
 -- What the steps of the code are asked for and give. Assumes nothing.
 -- Here: what only inner contracts cite.
-use Rattle.std.specs.Prelude.{◌+◌, ◌<◌, ◌≤◌, ◌≡◌, Float}
+use Rattle.std.specs.Prelude.{◌+◌, ◌<◌, ◌≤◌, ◌≡◌, Float, Result, IfOk}
 use Rattle.basics.specs.Words.{ℕ, Bool, List, length, get_or, take, eqb}
 use Rattle.basics.specs.Meaning.Limits.{most_boxes, most_entries, most_cells}
+use Rattle.basics.specs.declared.Refusal.{Refusal}
+use Rattle.basics.specs.Meaning.Answers.{answer_of}
 use Rattle.basics.specs.Meaning.Says.{said}
 use Rattle.basics.specs.Meaning.Refusals.{pick}
 use Rattle.geometry.specs.declared.Aabb.{Aabb}
@@ -68,7 +70,7 @@ old_span reals map s = span_of (get_or map 0 0) (aabb_at reals s)
 abbrev pub new_span : List ℕ → Aabb → Span
 new_span map b = span_of (get_or map 0 0) b
 
--- what the tests give: the answer, and where it is 0 both ranges
-pub record Judged (t : Tables) (h : Handle) (b : Aabb) (c : Change) : Type 0 where
-  pub answers : c.answer ≡ set_aabb_answer t h b
-  pub spans : c.answer ≡ 0 → (c.old ≡ old_span t.reals t.map h.slot) × (c.new ≡ new_span t.map b)
+-- what the tests give: both ranges, or the first refusal that applies
+pub record Judged (t : Tables) (h : Handle) (b : Aabb) (r : Result Change Refusal) : Type 0 where
+  pub answers : answer_of r ≡ set_aabb_answer t h b
+  pub spans : IfOk r (λ c. (c.old ≡ old_span t.reals t.map h.slot) × (c.new ≡ new_span t.map b))

@@ -12,8 +12,10 @@ use Rattle.storage.proofs.laws.FilterLaws.{all_map, filter_none}
 use Rattle.box_tables.specs.Meaning.Tables.{Tables, size_of, used_of, slots_of, entries_in, aabb_on, low_cell, high_cell, covers, item_of, item_on}
 use Rattle.box_tables.specs.Meaning.Tables.{Sized}
 use Rattle.box_tables.specs.Meaning.Holds.{Holds}
-use Rattle.box_tables.specs.Inner.Way.{item_in, track_of, OnTrack, span_of, way_of, no_way, way_at}
-use Rattle.box_tables.specs.Inner.Check.{Counts, SlotsOk, Room, way_row, blank_row, Ways, keys_of, Passes, Ready}
+use Rattle.box_tables.specs.declared.way.Way.{Way}
+use Rattle.box_tables.specs.declared.slot_ways.Ways.{Ways}
+use Rattle.box_tables.specs.Inner.Way.{track_of, OnTrack, span_of, way_of, no_way, way_at}
+use Rattle.box_tables.specs.Inner.Check.{Counts, SlotsOk, Room, way_row, blank_row, WaysBy, keys_of, Passes, Ready}
 use Rattle.box_tables.proofs.laws.BoxLaws.{item-slot}
 use Rattle.box_tables.proofs.laws.HoldsLaws.{Named, StandsOn, entries-named, unnamed}
 use Rattle.box_tables.proofs.laws.WayLaws.{Bounded, to_come_one, way_of_box, way_live, way_none, way_slot, slot_bounded}
@@ -26,36 +28,36 @@ module _ (t : Tables) where
   abbrev pub SlotsOf : Type 0
   SlotsOf = SlotsOk t.nums t.reals t.map
 
-  abbrev pub WaysOf : List ℕ → List ℕ → List ℕ → List ℕ → Type 0
-  WaysOf nexts stops jumps ends = Ways t.nums t.reals (size_of t) nexts stops jumps ends (slots_of t)
+  abbrev pub WaysOf : Ways → Type 0
+  WaysOf ways = WaysBy t.nums t.reals (size_of t) ways (slots_of t)
 
-  abbrev pub PassesOf : List ℕ → List ℕ → List ℕ → List ℕ → Type 0
-  PassesOf nexts stops jumps ends = Passes t.pool nexts stops jumps ends (used_of t)
+  abbrev pub PassesOf : Ways → Type 0
+  PassesOf ways = Passes t.pool ways (used_of t)
 
-  abbrev way : ℕ → List ℕ
+  abbrev way : ℕ → Way
   way s = way_at t.nums t.reals (size_of t) s
 
   -- an item is that of a slot's way
   abbrev Of : ℕ → Type 0
-  Of i = (i / 2 < slots_of t) × (item_in (way (i / 2)) ≡ i)
+  Of i = (i / 2 < slots_of t) × ((way (i / 2)).item ≡ i)
 
   d_of : (i : ℕ) → Decided (Of i)
-  d_of i = d_and (d_lt (i / 2) (slots_of t)) (d_eq (item_in (way (i / 2))) i)
+  d_of i = d_and (d_lt (i / 2) (slots_of t)) (d_eq ((way (i / 2)).item) i)
 
-  of_slot-item : (s i : ℕ) → s < slots_of t → item_in (way s) ≡ i → Of i
+  of_slot-item : (s i : ℕ) → s < slots_of t → (way s).item ≡ i → Of i
   of_slot-item s i l e =
       let q : s ≡ i / 2 = sym (way_slot t.nums t.reals (size_of t) s) ∙ ap (λ (k : ℕ). k / 2) e in
-      subst (λ (k : ℕ). (k < slots_of t) × (item_in (way k) ≡ i)) q (l, e)
+      subst (λ (k : ℕ). (k < slots_of t) × ((way k).item ≡ i)) q (l, e)
 
-  live-item : (s : ℕ) → phase_at t.nums s ≡ live → item_in (way s) ≡ item_on t s
-  live-item s p = ap item_in (way_live t.nums t.reals (size_of t) s p)
+  live-item : (s : ℕ) → phase_at t.nums s ≡ live → (way s).item ≡ item_on t s
+  live-item s p = ap (λ (v : Way). v.item) (way_live t.nums t.reals (size_of t) s p)
 
   pub slot-room : Sized t → CountsOf → Room t.nums t.reals t.map
   slot-room s c = record { most = s.most; of_reals = s.of_reals; of_map = s.of_map; size = c.within_domain }
 
-  module _ (z : Sized t) (c : CountsOf) (o : SlotsOf) {nexts stops jumps ends : List ℕ} (w : WaysOf nexts stops jumps ends) where
+  module _ (z : Sized t) (c : CountsOf) (o : SlotsOf) {ways : Ways} (w : WaysOf ways) where
     abbrev row : ℕ → List ℕ
-    row i = way_row nexts stops jumps ends i
+    row i = way_row ways i
 
     row-own : (i : ℕ) → Of i → row i ≡ track_of (way (i / 2))
     row-own i p = ap row (sym p.1) ∙ w.are (i / 2) p.0
@@ -78,35 +80,35 @@ module _ (t : Tables) where
         (way_of_box (size_of t) c.within_domain.0 (aabb_on t s) ((o.each s l).if_live p).within_domain s)
 
     -- a step goes on at every item
-    steps_on : (i : ℕ) → i < 512 → 1 ≤ get_or jumps i 0
+    steps_on : (i : ℕ) → i < 512 → 1 ≤ get_or ways.jumps i 0
     steps_on i h = elim (d_of i) [ inl p ↦ omega (arith, ap (λ (r : List ℕ). get_or r 2 0) (row-own i p), (bounded (i / 2) p.0).jump_some) | inr n ↦ omega (arith, ap (λ (r : List ℕ). get_or r 2 0) (row-blank i h n)) ]
 
-    pub pool_ready : Ready t.pool nexts jumps (used_of t)
+    pub pool_ready : Ready t.pool ways (used_of t)
     pool_ready =
         record {
           in_pool = c.used-most;
           most = omega (arith, c.used-most, z.pool-most);
-          long = w.long.of_nexts;
+          long = w.long;
           reach = λ i h. elim (d_of i) [ inl p ↦ omega (arith, ap (λ (r : List ℕ). get_or r 0 0) (row-own i p), (bounded (i / 2) p.0).next) | inr n ↦ omega (arith, ap (λ (r : List ℕ). get_or r 0 0) (row-blank i h n)) ];
           steps = λ i h. elim (d_of i) [ inl p ↦ omega (arith, ap (λ (r : List ℕ). get_or r 2 0) (row-own i p), (bounded (i / 2) p.0).jump) | inr n ↦ omega (arith, ap (λ (r : List ℕ). get_or r 2 0) (row-blank i h n)) ];
         }
 
     -- where the next key is the end no key comes
-    idle_none : (i : ℕ) → Of i → (phase_at t.nums (i / 2) ≡ live → ⊥) → get_or nexts i 0 ≡ get_or ends i 0
+    idle_none : (i : ℕ) → Of i → (phase_at t.nums (i / 2) ≡ live → ⊥) → get_or ways.nexts i 0 ≡ get_or ways.ends i 0
     idle_none i p n = let e = row-none i p n in ap (λ (r : List ℕ). get_or r 0 0) e ∙ sym (ap (λ (r : List ℕ). get_or r 3 0) e)
 
-    idle_blank : (i : ℕ) → i < 512 → (Of i → ⊥) → get_or nexts i 0 ≡ get_or ends i 0
+    idle_blank : (i : ℕ) → i < 512 → (Of i → ⊥) → get_or ways.nexts i 0 ≡ get_or ways.ends i 0
     idle_blank i h n = let e = row-blank i h n in ap (λ (r : List ℕ). get_or r 0 0) e ∙ sym (ap (λ (r : List ℕ). get_or r 3 0) e)
 
     -- ---- from the parts to the whole
-    module _ (v : PassesOf nexts stops jumps ends) where
+    module _ (v : PassesOf ways) where
       -- the item of an entry is that of an occupied slot: at another no key comes
-      busy : (j : ℕ) (l : j < used_of t) → get_or nexts (second t.pool j) 0 ≡ get_or ends (second t.pool j) 0 → ⊥
+      busy : (j : ℕ) (l : j < used_of t) → get_or ways.nexts (second t.pool j) 0 ≡ get_or ways.ends (second t.pool j) 0 → ⊥
       busy j l e =
           let i = second t.pool j in
           let h = v.inside j l in
           keys_some t.pool j i (omega (arith, c.used-most)) (used_of t) l refl
-          (to_come_one (get_or stops i 0) (get_or jumps i 0) (get_or ends i 0) (get_or nexts i 0) (steps_on i h) (keys_of t.pool (used_of t) i) [] (v.every i h) e)
+          (to_come_one (get_or ways.stops i 0) (get_or ways.jumps i 0) (get_or ways.ends i 0) (get_or ways.nexts i 0) (steps_on i h) (keys_of t.pool (used_of t) i) [] (v.every i h) e)
 
       own : (j : ℕ) → j < used_of t → Of (second t.pool j)
       own j l = elim (d_of (second t.pool j)) [ inl p ↦ p | inr n ↦ absurd (busy j l (idle_blank (second t.pool j) (v.inside j l) n)) ]
@@ -123,7 +125,7 @@ module _ (t : Tables) where
       stands : (s : ℕ) → s < slots_of t → phase_at t.nums s ≡ live → StandsOn t (entries_in t) s
       stands s l p =
           let i = item_on t s in
-          to_come_one (get_or stops i 0) (get_or jumps i 0) (get_or ends i 0) (get_or nexts i 0) (steps_on i (item-most s l)) (keys_of t.pool (used_of t) i) _ (v.every i (item-most s l)) (range_on s l p)
+          to_come_one (get_or ways.stops i 0) (get_or ways.jumps i 0) (get_or ways.ends i 0) (get_or ways.nexts i 0) (steps_on i (item-most s l)) (keys_of t.pool (used_of t) i) _ (v.every i (item-most s l)) (range_on s l p)
 
       pub whole : Holds t
       whole =
@@ -145,7 +147,7 @@ module _ (t : Tables) where
     pub slots_of_lem : SlotsOf
     slots_of_lem = record { each = λ s l. record { slot = h.slots.each s l; if_live = λ p. let b = h.boxes s l p in record { within_domain = b.within_domain; cells-most = b.cells-most } }; past = h.slots.past }
 
-    module _ {nexts stops jumps ends : List ℕ} (w : WaysOf nexts stops jumps ends) where
+    module _ {ways : Ways} (w : WaysOf ways) where
       -- an item that is no slot's has no entry
       nobody : (i : ℕ) → (Of i → ⊥) → filter (is_item i) (entries_in t) ≡ []
       nobody i n =
@@ -155,21 +157,21 @@ module _ (t : Tables) where
           (entries_in t) (entries-named t h))
 
       -- no entry, and the next key is the end
-      none_on : (i : ℕ) → filter (is_item i) (entries_in t) ≡ [] → get_or nexts i 0 ≡ get_or ends i 0 → OnTrack (way_row nexts stops jumps ends i) (keys_of t.pool (used_of t) i)
-      none_on i e q = subst (OnTrack (way_row nexts stops jumps ends i)) (sym (ap (map row_key) e)) q
+      none_on : (i : ℕ) → filter (is_item i) (entries_in t) ≡ [] → get_or ways.nexts i 0 ≡ get_or ways.ends i 0 → OnTrack (way_row ways i) (keys_of t.pool (used_of t) i)
+      none_on i e q = subst (OnTrack (way_row ways i)) (sym (ap (map row_key) e)) q
 
-      every-own : (i : ℕ) → Of i → Decided (phase_at t.nums (i / 2) ≡ live) → OnTrack (way_row nexts stops jumps ends i) (keys_of t.pool (used_of t) i)
+      every-own : (i : ℕ) → Of i → Decided (phase_at t.nums (i / 2) ≡ live) → OnTrack (way_row ways i) (keys_of t.pool (used_of t) i)
       every-own i p (inl q) =
           let s = i / 2 in
           let e : item_on t s ≡ i = sym (live-item s q) ∙ p.1 in
-          subst (λ (k : ℕ). OnTrack (way_row nexts stops jumps ends k) (keys_of t.pool (used_of t) k)) e
-          (subst (OnTrack (way_row nexts stops jumps ends (item_on t s))) (sym (h.every s p.0 q)) (range_on h.sized counts_of slots_of_lem w s p.0 q))
+          subst (λ (k : ℕ). OnTrack (way_row ways k) (keys_of t.pool (used_of t) k)) e
+          (subst (OnTrack (way_row ways (item_on t s))) (sym (h.every s p.0 q)) (range_on h.sized counts_of slots_of_lem w s p.0 q))
       every-own i p (inr n) =
           let s = i / 2 in
-          let e : item_of s false ≡ i = sym (ap item_in (way_none t.nums t.reals (size_of t) s n)) ∙ p.1 in
+          let e : item_of s false ≡ i = sym (ap (λ (v : Way). v.item) (way_none t.nums t.reals (size_of t) s n)) ∙ p.1 in
           none_on i (subst (λ (k : ℕ). filter (is_item k) (entries_in t) ≡ []) e (unnamed t h s n false)) (idle_none h.sized counts_of slots_of_lem w i p n)
 
-      pub passes_of : PassesOf nexts stops jumps ends
+      pub passes_of : PassesOf ways
       passes_of =
           record {
             ordered = h.ordered;

@@ -1,11 +1,9 @@
 -- The corners of a box: their coordinates are in the domain, their cells are not reversed; how many cells there are between two corners by their
 -- keys; and the way of a box of one cell. Assumes nothing.
-use Rattle.basics.specs.Words.{ℕ, ◌+◌, ◌-◌, ◌*◌, ◌≤◌, ◌<◌, ◌≡◌, sym, ap, ap₂, ◌∙◌, subst, true, List, [], ◌∷◌, T, eqb, ℤ, arith, eq-eqb}
+use Rattle.basics.specs.Words.{ℕ, ◌+◌, ◌-◌, ◌*◌, ◌≤◌, ◌<◌, ◌≡◌, sym, ap, ap₂, ◌∙◌, subst, true, T, eqb, ℤ, arith, eq-eqb}
 use lib.Signed.{mag}
-use Rattle.basics.specs.Meaning.Limits.{most_cells}
 use Rattle.geometry.specs.declared.Aabb.{Aabb}
-use Rattle.geometry.specs.Meaning.Domain.{in_domain, aabb_in_domain}
-use Rattle.geometry.proofs.laws.DomainLaws.{position_parts}
+use Rattle.geometry.specs.Meaning.Domain.{aabb_in_domain}
 use Rattle.cells.specs.declared.Cell.{Cell}
 use Rattle.cells.specs.Inner.Numbers.{Near}
 use Rattle.cells.proofs.laws.Numbers.{Fits, near_fits}
@@ -16,18 +14,11 @@ use Rattle.cells.proofs.laws.KeyLaws.{upward_lt, key_column, key_row}
 use Rattle.cells.proofs.laws.RangeKeyLaws.{count-up, near-cells}
 use Rattle.box_tables.specs.Meaning.Tables.{low_cell, high_cell, covers, item_of}
 use Rattle.box_tables.specs.Inner.Way.{span_of, span_by, Upright, way_of}
-use Rattle.box_tables.specs.Inner.Check.{Given}
-use Rattle.box_tables.proofs.laws.BoxLaws.{low-inside, high-inside, low_near, high-near}
+use Rattle.box_tables.proofs.laws.BoxLaws.{low_near, high-near}
 use Rattle.box_tables.proofs.laws.WayLaws.{rises_x, rises_y}
 
 -- ---- a box of the domain
 module _ (b : Aabb) (h : T (aabb_in_domain b)) where
-  pub low_domain : T (in_domain b.ll.x) × T (in_domain b.ll.y)
-  low_domain = position_parts b.ll (low-inside b h)
-
-  pub high_domain : T (in_domain b.ur.x) × T (in_domain b.ur.y)
-  high_domain = position_parts b.ur (high-inside b h)
-
   pub corners_upright : (size : ℕ) → 1 ≤ size → Upright (low_cell size b) (high_cell size b)
   corners_upright size s = record { low = low_near b h size; high = high-near b h size; x = rises_x size s b h; y = rises_y size s b h }
 
@@ -35,11 +26,6 @@ module _ (b : Aabb) (h : T (aabb_in_domain b)) where
 module _ (a b c d : Cell) (e : a ≡ c) (f : b ≡ d) where
   pub upright_by : Upright c d → Upright a b
   upright_by u = subst (λ (k : Cell). Upright k b) (sym e) (subst (λ (k : Cell). Upright c k) (sym f) u)
-
-  pub given_by : (s : ℕ) (way : List ℕ) → Given (cells_in a b ≤ most_cells) (way_of s (span_by a b)) way → Given (cells_in c d ≤ most_cells) (way_of s (span_by c d)) way
-  given_by s way g =
-      subst (λ (k : Cell). Given (cells_in c k ≤ most_cells) (way_of s (span_by c k)) way) f
-      (subst (λ (k : Cell). Given (cells_in k b ≤ most_cells) (way_of s (span_by k b)) way) e g)
 
 -- ---- the cells between two corners, where their keys, columns and lines are known by equations
 column_is : (c : Cell) {k x : ℕ} → Fits c → k ≡ key_of c → x ≡ column_of k → x ≡ upward c.x
@@ -85,12 +71,6 @@ module _ {a b : Cell} {l h ch cl rh rl : ℕ} (k : Between a b l h ch cl rh rl) 
   pub tall_some : rl ≤ rh
   tall_some = omega (arith, row_low, row-high, u.y)
 
-  pub wide_most : ch - cl ≤ 4294967295
-  wide_most = omega (arith, column_high, upward_lt b.x fb.x)
-
-  pub tall_most : rh - rl ≤ 4294967295
-  tall_most = omega (arith, row-high, upward_lt b.y fb.y)
-
   columns : ch - cl + 1 ≡ count_from a.x b.x
   columns = omega (arith, column_low, column_high, count-up a.x b.x fa.x fb.x u.x)
 
@@ -107,10 +87,10 @@ module _ {a b : Cell} {l h ch cl rh rl : ℕ} (k : Between a b l h ch cl rh rl) 
   jump_is : 4294967296 - (ch - cl) ≡ 4294967296 + column_of (key_of a) - column_of (key_of b)
   jump_is = omega (arith, column_low, column_high, key_column a fa, key_column b fb, u.x, upward_lt b.x fb.x)
 
-  pub way_by : (s i : ℕ) → i ≡ item_of s (eqb ((ch - cl + 1) * (rh - rl + 1)) 1) → l ∷ h ∷ (4294967296 - (ch - cl)) ∷ i ∷ [] ≡ way_of s (span_by a b)
+  pub way_by : (s i : ℕ) → i ≡ item_of s (eqb ((ch - cl + 1) * (rh - rl + 1)) 1) → record { first = l; last = h; jump = 4294967296 - (ch - cl); item = i } ≡ way_of s (span_by a b)
   way_by s i ei =
       let item = ei ∙ ap (λ (n : ℕ). item_of s (eqb n 1)) many in
-      λ z. k.low-key z ∷ k.high-key z ∷ jump_is z ∷ item z ∷ []
+      λ z. record { first = k.low-key z; last = k.high-key z; jump = jump_is z; item = item z }
 
 -- ---- a box of one cell
 count-one : (z : ℤ) → mag z < 2147483648 → count_from z z ≡ 1
@@ -127,9 +107,9 @@ module _ (size : ℕ) (b : Aabb) (h : T (aabb_in_domain b)) (v : Cell) (l : low_
   one_jump : 4294967296 ≡ 4294967296 + column_of (key_of (low_cell size b)) - column_of (key_of (high_cell size b))
   one_jump = omega (arith, ap (λ (c : Cell). column_of (key_of c)) (l ∙ sym g))
 
-  pub one_way : (s k i : ℕ) → k ≡ key_of v → i ≡ item_of s true → k ∷ k ∷ 4294967296 ∷ i ∷ [] ≡ way_of s (span_of size b)
+  pub one_way : (s k i : ℕ) → k ≡ key_of v → i ≡ item_of s true → record { first = k; last = k; jump = 4294967296; item = i } ≡ way_of s (span_of size b)
   one_way s k i ek ei =
       let low = ek ∙ ap key_of (sym l) in
       let high = ek ∙ ap key_of (sym g) in
       let item = ei ∙ ap (item_of s) (sym (eq-eqb (covers size b) 1 one_covers)) in
-      λ z. low z ∷ high z ∷ one_jump z ∷ item z ∷ []
+      λ z. record { first = low z; last = high z; jump = one_jump z; item = item z }

@@ -17,16 +17,17 @@ use Rattle.cells.proofs.laws.Rising.{run, runs}
 use Rattle.slots.specs.Meaning.Slot.{live, phase_at}
 use Rattle.geometry.specs.declared.Aabb.{Aabb}
 use Rattle.geometry.specs.Meaning.Domain.{aabb_in_domain}
+use Rattle.box_tables.specs.declared.way.Way.{Way}
 use Rattle.box_tables.specs.Meaning.Tables.{aabb_at, low_cell, high_cell, covers}
 use Rattle.box_tables.proofs.laws.BoxLaws.{low_near, high-near, corners-x, corners-y, item-slot}
-use Rattle.box_tables.specs.Inner.Way.{next_in, last_in, jump_in, item_in, behind, ToCome, track_of, OnTrack, key_most, span_of, way_of, no_way, way_at}
+use Rattle.box_tables.specs.Inner.Way.{behind, ToCome, track_of, OnTrack, key_most, span_of, way_of, no_way, way_at}
 
 -- keys and a step from which a whole pool of steps fits 64 bits
-pub record Bounded (way : List ℕ) : Type 0 where
-  pub next : next_in way ≤ key_most
-  pub last : last_in way ≤ key_most
-  pub jump_some : 1 ≤ jump_in way
-  pub jump : jump_in way ≤ 4294967296
+pub record Bounded (way : Way) : Type 0 where
+  pub next : way.first ≤ key_most
+  pub last : way.last ≤ key_most
+  pub jump_some : 1 ≤ way.jump
+  pub jump : way.jump ≤ 4294967296
 
 -- ---- a step goes on, so that what is to come is one list
 behind-up : (stop jump k : ℕ) → 1 ≤ jump → k < behind stop jump k
@@ -122,8 +123,8 @@ module _ (nums : List (List ℕ)) (reals : List (List Float)) (size s : ℕ) whe
   way_none n = rw (ne_eqb (phase_at nums s) live n)
 
   -- its item is one of the slot's
-  pub way_slot : item_in (way_at nums reals size s) / 2 ≡ s
-  way_slot = elim (d_eq (phase_at nums s) live) [ inl p ↦ ap (λ (w : List ℕ). item_in w / 2) (way_live p) ∙ item-slot s (eqb (covers size (aabb_at reals s)) 1) | inr n ↦ ap (λ (w : List ℕ). item_in w / 2) (way_none n) ∙ item-slot s false ]
+  pub way_slot : (way_at nums reals size s).item / 2 ≡ s
+  way_slot = elim (d_eq (phase_at nums s) live) [ inl p ↦ ap (λ (w : Way). w.item / 2) (way_live p) ∙ item-slot s (eqb (covers size (aabb_at reals s)) 1) | inr n ↦ ap (λ (w : Way). w.item / 2) (way_none n) ∙ item-slot s false ]
 
   pub slot_bounded : 1 ≤ size → (phase_at nums s ≡ live → T (aabb_in_domain (aabb_at reals s))) → Bounded (way_at nums reals size s)
   slot_bounded h d = elim (d_eq (phase_at nums s) live) [ inl p ↦ rw (way_live p) (way_bounded size h (aabb_at reals s) (d p) s) | inr n ↦ rw (way_none n) (no_way_bounded s) ]

@@ -1,9 +1,10 @@
 -- What the parts of the check ask: each slot and its box, and each entry of the pool as the next on the way of its box. Assumes nothing.
-use Rattle.std.specs.Prelude.{◌+◌, ◌/◌, ◌<◌, ◌≤◌, ◌≡◌, ◌∷◌, ◌++◌, ◌↔◌, Float}
-use Rattle.basics.specs.Words.{ℕ, List, [], map, length, get_or, take, T}
+use Rattle.std.specs.Prelude.{◌+◌, ◌/◌, ◌<◌, ◌≤◌, ◌≡◌, ◌∷◌, ◌++◌, ◌↔◌, Float, Option, Some, None}
+use Rattle.basics.specs.Words.{ℕ, List, [], map, length, get_or, set, take, T}
 use Rattle.basics.specs.Meaning.Limits.{most_boxes, most_entries, most_cells}
 use Rattle.geometry.specs.declared.Aabb.{Aabb}
 use Rattle.geometry.specs.Meaning.Domain.{aabb_in_domain}
+use Rattle.cells.specs.Inner.Key.{column_of}
 use Rattle.cells.specs.Meaning.Size.{SizeInDomain}
 use Rattle.slots.specs.Inner.Map.{NonePast}
 use Rattle.slots.specs.Meaning.Map.{head, words_for, usable}
@@ -12,7 +13,9 @@ use Rattle.storage.specs.Meaning.Keyed.{filter}
 use Rattle.storage.specs.Meaning.Entries.{row_key, is_item}
 use Rattle.storage.specs.Meaning.Packed.{first, second}
 use Rattle.box_tables.specs.Meaning.Tables.{aabb_at, covers}
-use Rattle.box_tables.specs.Inner.Way.{jump_in, item_in, ToCome, track_of, OnTrack, key_most, way_at}
+use Rattle.box_tables.specs.declared.way.Way.{Way}
+use Rattle.box_tables.specs.declared.slot_ways.Ways.{Ways}
+use Rattle.box_tables.specs.Inner.Way.{ToCome, track_of, OnTrack, key_most, way_at}
 
 -- ---- the counts, and the slots
 pub record Counts (size used pool : ℕ) : Type 0 where
@@ -24,18 +27,28 @@ pub record BoxOk (size : ℕ) (b : Aabb) : Type 0 where
   pub within_domain : T (aabb_in_domain b)
   pub cells-most : covers size b ≤ most_cells
 
--- ---- the ways in four arrays, by items: next key, last column, step, end
-abbrev pub way_row : List ℕ → List ℕ → List ℕ → List ℕ → ℕ → List ℕ
-way_row nexts stops jumps ends i = get_or nexts i 0 ∷ get_or stops i 0 ∷ get_or jumps i 0 ∷ get_or ends i 0 ∷ []
+-- ---- the ways by items: next key, last column, step, end
+abbrev pub way_row : Ways → ℕ → List ℕ
+way_row ways i = get_or ways.nexts i 0 ∷ get_or ways.stops i 0 ∷ get_or ways.jumps i 0 ∷ get_or ways.ends i 0 ∷ []
 
 abbrev pub blank_row : List ℕ
 blank_row = 0 ∷ 0 ∷ 1 ∷ 0 ∷ []
 
-pub record Long (nexts stops jumps ends : List ℕ) : Type 0 where
-  pub of_nexts : length nexts ≡ 512
-  pub of_stops : length stops ≡ 512
-  pub of_jumps : length jumps ≡ 512
-  pub of_ends : length ends ≡ 512
+pub record Long (ways : Ways) : Type 0 where
+  pub of_nexts : length ways.nexts ≡ 512
+  pub of_stops : length ways.stops ≡ 512
+  pub of_jumps : length ways.jumps ≡ 512
+  pub of_ends : length ways.ends ≡ 512
+
+-- the ways with one more, at its item
+abbrev pub put_in : Ways → Way → Ways
+put_in ways way =
+    record {
+      nexts = set ways.nexts way.item way.first;
+      stops = set ways.stops way.item (column_of way.last);
+      jumps = set ways.jumps way.item way.jump;
+      ends = set ways.ends way.item (way.last + way.jump);
+    }
 
 module _ (nums : List (List ℕ)) (reals : List (List Float)) where
   pub record SlotOk (map : List ℕ) (size s : ℕ) : Type 0 where
@@ -61,19 +74,19 @@ module _ (nums : List (List ℕ)) (reals : List (List Float)) where
     pub small : s < most_boxes
 
   -- the ways of the first i slots are those of their boxes, each at its item; at no other item does a key come
-  pub record Ways (size : ℕ) (nexts stops jumps ends : List ℕ) (i : ℕ) : Type 0 where
-    pub long : Long nexts stops jumps ends
-    pub are : (s : ℕ) → s < i → way_row nexts stops jumps ends (item_in (way_at nums reals size s)) ≡ track_of (way_at nums reals size s)
-    pub blank : (k : ℕ) → ((s : ℕ) → s < i → item_in (way_at nums reals size s) ≡ k → ⊥) → k < 512 → way_row nexts stops jumps ends k ≡ blank_row
+  pub record WaysBy (size : ℕ) (ways : Ways) (i : ℕ) : Type 0 where
+    pub long : Long ways
+    pub are : (s : ℕ) → s < i → way_row ways (way_at nums reals size s).item ≡ track_of (way_at nums reals size s)
+    pub blank : (k : ℕ) → ((s : ℕ) → s < i → (way_at nums reals size s).item ≡ k → ⊥) → k < 512 → way_row ways k ≡ blank_row
 
   -- by the cell size that the map's head word has
-  abbrev pub WaysTo : List ℕ → List ℕ → List ℕ → List ℕ → List ℕ → ℕ → Type 0
-  WaysTo map nexts stops jumps ends i = Ways (get_or map 0 0) nexts stops jumps ends i
+  abbrev pub WaysTo : List ℕ → Ways → ℕ → Type 0
+  WaysTo map ways i = WaysBy (get_or map 0 0) ways i
 
--- the way that is wanted, where P holds; else one whose step is 0
-pub record Given (P : Type 0) (want way : List ℕ) : Type 0 where
-  pub some : (jump_in way ≡ 0 → ⊥) → P × (way ≡ want)
-  pub none : jump_in way ≡ 0 → P → ⊥
+-- the way that is wanted, where P holds; else none
+abbrev pub Given : Type 0 → Way → Option Way → Type 0
+Given P want None = P → ⊥
+Given P want (Some way) = P × (way ≡ want)
 
 -- ---- the entries
 -- the keys of the entries of an item among the first j
@@ -81,29 +94,30 @@ abbrev pub keys_of : List (List ℕ) → ℕ → ℕ → List ℕ
 keys_of pool j i = map row_key (filter (is_item i) (take j pool))
 
 -- the first `used` entries are in order, and of each item they are the keys of its way
-pub record Passes (pool : List (List ℕ)) (nexts stops jumps ends : List ℕ) (used : ℕ) : Type 0 where
+pub record Passes (pool : List (List ℕ)) (ways : Ways) (used : ℕ) : Type 0 where
   pub ordered : (i j : ℕ) → j < used → i < j → first pool i ≤ first pool j
   pub inside : (j : ℕ) → j < used → second pool j < 512
-  pub every : (i : ℕ) → i < 512 → OnTrack (way_row nexts stops jumps ends i) (keys_of pool used i)
+  pub every : (i : ℕ) → i < 512 → OnTrack (way_row ways i) (keys_of pool used i)
 
 -- lengths that let every entry be read, and steps that fit
-pub record Ready (pool : List (List ℕ)) (nexts jumps : List ℕ) (used : ℕ) : Type 0 where
+pub record Ready (pool : List (List ℕ)) (ways : Ways) (used : ℕ) : Type 0 where
   pub in_pool : used ≤ length pool
   pub most : used ≤ most_entries
-  pub long : length nexts ≡ 512
-  pub reach : (i : ℕ) → i < 512 → get_or nexts i 0 ≤ key_most
-  pub steps : (i : ℕ) → i < 512 → get_or jumps i 0 ≤ 4294967296
+  pub long : Long ways
+  pub reach : (i : ℕ) → i < 512 → get_or ways.nexts i 0 ≤ key_most
+  pub steps : (i : ℕ) → i < 512 → get_or ways.jumps i 0 ≤ 4294967296
 
 -- these keys are what is to come at an item from k on, up to an end
-abbrev pub ComesAt : List ℕ → List ℕ → ℕ → ℕ → ℕ → List ℕ → Type 0
-ComesAt stops jumps i end k l = ToCome (get_or stops i 0) (get_or jumps i 0) end k l
+abbrev pub ComesAt : Ways → ℕ → ℕ → ℕ → List ℕ → Type 0
+ComesAt ways i end k l = ToCome (get_or ways.stops i 0) (get_or ways.jumps i 0) end k l
 
--- the first j entries are in order; what is to come is what was to come behind their keys
-pub record Gone (pool : List (List ℕ)) (stops jumps nexts₀ nexts : List ℕ) (j : ℕ) : Type 0 where
+-- the first j entries are in order; what is to come is what was to come behind their keys, and nothing but the next keys has changed
+pub record Gone (pool : List (List ℕ)) (ways₀ ways : Ways) (j : ℕ) : Type 0 where
+  pub others : ways ≡ record ways₀ { nexts = ways.nexts }
   pub ordered : (a b : ℕ) → b < j → a < b → first pool a ≤ first pool b
   pub inside : (a : ℕ) → a < j → second pool a < 512
-  pub comes : (i : ℕ) → i < 512 → (end : ℕ) (l : List ℕ) → ComesAt stops jumps i end (get_or nexts₀ i 0) (keys_of pool j i ++ l) ↔ ComesAt stops jumps i end (get_or nexts i 0) l
+  pub comes : (i : ℕ) → i < 512 → (end : ℕ) (l : List ℕ) → ComesAt ways₀ i end (get_or ways₀.nexts i 0) (keys_of pool j i ++ l) ↔ ComesAt ways₀ i end (get_or ways.nexts i 0) l
 
--- nothing is to come at the first n items
-abbrev pub Met : List ℕ → List ℕ → ℕ → Type 0
-Met nexts ends n = (i : ℕ) → i < n → get_or nexts i 0 ≡ get_or ends i 0
+-- nothing is to come at any item
+abbrev pub Met : Ways → Type 0
+Met ways = (i : ℕ) → i < 512 → get_or ways.nexts i 0 ≡ get_or ways.ends i 0

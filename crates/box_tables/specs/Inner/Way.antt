@@ -12,19 +12,8 @@ use Rattle.cells.specs.Meaning.Key.{upward, key_of}
 use Rattle.cells.specs.Meaning.Range.{cells_in}
 use Rattle.slots.specs.Meaning.Slot.{live, phase_at}
 use Rattle.box_tables.specs.declared.Span.{Span}
+use Rattle.box_tables.specs.declared.way.Way.{Way}
 use Rattle.box_tables.specs.Meaning.Tables.{aabb_at, low_cell, high_cell, covers, item_of}
-
-abbrev pub next_in : List ℕ → ℕ
-next_in way = get_or way 0 0
-
-abbrev pub last_in : List ℕ → ℕ
-last_in way = get_or way 1 0
-
-abbrev pub jump_in : List ℕ → ℕ
-jump_in way = get_or way 2 0
-
-abbrev pub item_in : List ℕ → ℕ
-item_in way = get_or way 3 0
 
 -- ---- one key on: the next number, or at the last column the start of the row above
 abbrev pub behind : ℕ → ℕ → ℕ → ℕ
@@ -36,8 +25,8 @@ ToCome stop jump end k [] = k ≡ end
 ToCome stop jump end k (x ∷ l) = (x ≡ k) × ToCome stop jump end (behind stop jump k) l
 
 -- ---- a way as the pass over the entries goes it: the key that comes next, the last column, the step, and the end, which is the key behind the last
-abbrev pub track_of : List ℕ → List ℕ
-track_of way = next_in way ∷ column_of (last_in way) ∷ jump_in way ∷ (last_in way + jump_in way) ∷ []
+abbrev pub track_of : Way → List ℕ
+track_of way = way.first ∷ column_of way.last ∷ way.jump ∷ (way.last + way.jump) ∷ []
 
 abbrev pub OnTrack : List ℕ → List ℕ → Type 0
 OnTrack row l = ToCome (get_or row 1 0) (get_or row 2 0) (get_or row 3 0) (get_or row 0 0) l
@@ -61,12 +50,12 @@ pub record Upright (a b : Cell) : Type 0 where
   pub y : upward a.y ≤ upward b.y
 
 -- the way of slot s
-abbrev pub way_of : ℕ → Span → List ℕ
-way_of s p = key_of p.low ∷ key_of p.high ∷ (4294967296 + column_of (key_of p.low) - column_of (key_of p.high)) ∷ item_of s (eqb p.cells 1) ∷ []
+abbrev pub way_of : ℕ → Span → Way
+way_of s p = record { first = key_of p.low; last = key_of p.high; jump = 4294967296 + column_of (key_of p.low) - column_of (key_of p.high); item = item_of s (eqb p.cells 1) }
 
 -- the way of a slot that is not occupied: no key comes
-abbrev pub no_way : ℕ → List ℕ
-no_way s = 1 ∷ 0 ∷ 1 ∷ item_of s false ∷ []
+abbrev pub no_way : ℕ → Way
+no_way s = record { first = 1; last = 0; jump = 1; item = item_of s false }
 
-abbrev pub way_at : List (List ℕ) → List (List Float) → ℕ → ℕ → List ℕ
+abbrev pub way_at : List (List ℕ) → List (List Float) → ℕ → ℕ → Way
 way_at nums reals size s = pick (eqb (phase_at nums s) live) (way_of s (span_of size (aabb_at reals s))) (no_way s)

@@ -16,7 +16,7 @@ use Rattle.storage.proofs.laws.TakeOutLaws.{has, has_none}
 use Rattle.encoder_blocks.specs.Meaning.Blocks.{columns, block_box}
 use Rattle.encoder_blocks.specs.Inner.Places.{cell}
 use Rattle.encoder_boxes.specs.Inner.Windows.{Stocked, crosses, met_from, met}
-use Rattle.encoder_blocks.proofs.laws.HasLaws.{has_from, has_past, has_same, has_both, has_or}
+use Rattle.encoder_blocks.proofs.laws.HasLaws.{has_from, has_same, has_both, has_or}
 use Rattle.encoder_boxes.proofs.laws.WindowLaws.{drop-below, window_rows}
 
 -- block (i, j)'s box intersects the box of an entry of cell (i, n) or (i + 1, n)
@@ -53,9 +53,6 @@ module _ {reals : List (List Float)} {pool : List (List ℕ)} {used : ℕ} (s : 
         let g' : p + n < used = omega (arith, length-drop p rows, size) in
         let up = sorted-ordered used pool s.in_pool s.sorted p (p + n) g' (omega arith) in
         rw (get_or-drop p rows n [], get_or-take used pool (p + n) [] g', lt-leb (first pool (p + n)) last (omega arith))))
-
-    pub met_end : (p : ℕ) → used ≤ p → met_from reals pool used p last q ≡ false
-    met_end p h = has_past wanted rows p (omega (arith, size))
 
     -- from the first place whose key is not below k
     met_keys : (k : ℕ) → met_from reals pool used (length (below row_key k rows)) last q ≡ has (λ row. leb k (row_key row) && wanted row) rows

@@ -1,5 +1,5 @@
 -- The map, block by block: each block gets its byte. Assumes nothing.
-use Rattle.basics.specs.Words.{ℕ, ◌+◌, ◌<◌, ◌≡◌, refl, ap, ◌∙◌, Bool, true, false, List, inl, inr, length, get_or, set, length-set, get_or-set_same, get_or-set_other}
+use Rattle.basics.specs.Words.{ℕ, ◌+◌, ◌<◌, ◌≡◌, ap, ◌∙◌, Bool, true, false, List, inl, inr, length, get_or, set, length-set, get_or-set_same, get_or-set_other}
 use Rattle.basics.specs.Words.{arith, eq-eqb, ne_eqb}
 use lib.Ieee.{Float}
 use Rattle.basics.proofs.laws.Says.{d_eq}
@@ -19,9 +19,6 @@ module _ (m : Bool) (byte : ℕ) where
   byte_stays e = rw (eq-eqb byte 3 e) e
 
 module _ (reals : List (List Float)) (rows : List (List ℕ)) (old : List ℕ) where
-  pub overlaid_none : length old ≡ blocks → Overlaid reals rows 0 old old
-  overlaid_none h = record { size = h; each = λ k l. absurd (omega arith); rest = λ k l. refl }
-
   abbrev byte_of : ℕ → ℕ → ℕ
   byte_of k byte = box_byte (met reals rows (column_at k) (line_at k)) byte
 

@@ -3,7 +3,6 @@
 -- Here: what only inner contracts cite.
 use Rattle.std.specs.Prelude.{◌≡◌, ◌∷◌, Float}
 use Rattle.basics.specs.Words.{ℕ, List, [], set, eqb, ℤ}
-use Rattle.basics.specs.Meaning.Says.{said}
 use Rattle.basics.specs.Meaning.Refusals.{first_of, pick}
 use Rattle.geometry.specs.declared.Position.{Position}
 use Rattle.cells.specs.declared.Cell.{Cell}
@@ -13,7 +12,6 @@ use Rattle.point_records.specs.declared.State.TheVariants.{Removed}
 use Rattle.point_records.specs.declared.Record.{Record}
 use Rattle.point_records.specs.Meaning.Columns.{record_at, nums_of, reals_of, ints_of}
 use Rattle.point_records.specs.Meaning.States.{aimed, with_state}
-use Rattle.point_records.specs.Inner.Decide.{d_cell}
 use Rattle.point_tables.specs.Meaning.Tables.{Tables, tables, size_of, record_on}
 use Rattle.point_tables.specs.Meaning.Outcome.{Outcome, outcome, stored}
 use Rattle.replies.specs.declared.Reply.{Reply}
@@ -55,10 +53,6 @@ next_state size r kind at = state_for size r.cell kind at
 
 abbrev pub returned : Record → ℕ → ℕ
 returned r kind = pick (eqb kind 0) 0 r.obj
-
--- the tag of a new position: the target cell is the recorded one, or not
-abbrev pub tag_to : Cell → Cell → ℕ
-tag_to d c = pick (said (d_cell d c)) 1 2
 
 -- the columns with what a call makes pending for slot s, and what it returns
 pub record PendedRows (ns : List (List ℕ)) (qs : List (List Float)) (zs : List (List ℤ)) (size s kind : ℕ) (at : Position) (d : ℕ) (ns' : List (List ℕ)) (qs' : List (List Float)) (zs' : List (List ℤ)) : Type 0 where

@@ -1,13 +1,10 @@
 -- The rows of a slot for which something becomes pending, by value. Assumes nothing.
-use Rattle.std.specs.Prelude.{◌≡◌, ◌∷◌, Float}
+use Rattle.std.specs.Prelude.{◌∷◌, Float}
 use Rattle.basics.specs.Words.{ℕ, List, [], get_or, eqb, ℤ, pos}
 use Rattle.std.specs.Float.{nan}
 use Rattle.basics.specs.Meaning.Refusals.{pick}
 use Rattle.geometry.specs.declared.Position.{Position}
 use Rattle.cells.specs.declared.Cell.{Cell}
-use Rattle.point_records.specs.Meaning.Columns.{position_in, tag_of, pending_of, target_of}
-use Rattle.point_deferred.specs.declared.rows.Pending.{Pending}
-use Rattle.point_deferred.specs.Inner.Held.{state_for}
 
 -- the cell that a row begins with
 abbrev pub cell_in : List ℤ → Cell
@@ -21,9 +18,3 @@ with_target z to = get_or z 0 (pos 0) ∷ get_or z 1 (pos 0) ∷ to.x ∷ to.y �
 
 abbrev pub returned_in : List ℕ → ℕ → ℕ
 returned_in n kind = pick (eqb kind 0) 0 (get_or n 2 0)
-
--- what becomes pending is the state of a deferred call, for an object with these rows
-pub record PendingFor (size : ℕ) (q : List Float) (z : List ℤ) (kind : ℕ) (at : Position) (p : Pending) : Type 0 where
-  pub tag : p.tag ≡ tag_of (state_for size (cell_in z) kind at)
-  pub place : p.at ≡ pending_of (state_for size (cell_in z) kind at) (position_in q)
-  pub cell : p.to ≡ target_of (state_for size (cell_in z) kind at) (cell_in z)

@@ -5,8 +5,7 @@ use Rattle.basics.proofs.laws.Says.{apart, says_t, d_eq}
 use Rattle.geometry.specs.declared.Position.{Position}
 use Rattle.geometry.specs.Meaning.Domain.{position_in_domain}
 use Rattle.slots.specs.declared.Handle.{Handle}
-use Rattle.slots.specs.declared.Usable.{Usable}
-use Rattle.slots.specs.declared.Usable.TheVariants.{At, Nothing}
+use Rattle.std.specs.Prelude.{None, Option, Some}
 use Rattle.slots.proofs.laws.SlotLaws.{lowest_free}
 use Rattle.storage.proofs.laws.FilterLaws.{by_test}
 use Rattle.point_records.specs.Meaning.Trackers.{last_tracker}
@@ -79,12 +78,12 @@ module _ (t : Tables) (h : Holds t) where
   insert-used p d k = go (position_in_domain p) refl (leb k last_tracker) refl (usable_slot t) refl
     where
       go :
-          (b : Bool) → position_in_domain p ≡ b → (c : Bool) → leb k last_tracker ≡ c → (u : Usable) → usable_slot t ≡ u
+          (b : Bool) → position_in_domain p ≡ b → (c : Bool) → leb k last_tracker ≡ c → (u : Option ℕ) → usable_slot t ≡ u
           → used_of (insert_of t p d k).after ≡ used_of t + accepted (insert_of t p d k).result.answer 1
-      go true e true l (At s) f =
+      go true e true l (Some s) f =
           let q = lowest_free t.nums t.map h.slots s f in
           rw (insert-done t p d k s h ((says_t (position_in_domain p)).yes e) (leb-true k last_tracker l) f) (put-used t h s q.0 q.1 p d k ∙ more t h s q.0 q.1 p d k)
-      go true e true l Nothing f = rw (insert_full t p d k h ((says_t (position_in_domain p)).yes e) (leb-true k last_tracker l) f) (omega arith)
+      go true e true l None f = rw (insert_full t p d k h ((says_t (position_in_domain p)).yes e) (leb-true k last_tracker l) f) (omega arith)
       go true e false l u f = rw (insert_untracked t p d k h ((says_t (position_in_domain p)).yes e) (leb-false k last_tracker l)) (omega arith)
       go false e c l u f = rw (insert_outside t p d k h (λ i. apart (sym e ∙ (says_t (position_in_domain p)).no i))) (omega arith)
 

@@ -6,8 +6,7 @@ use Rattle.basics.specs.Meaning.Refusals.{or_else, first_of}
 use Rattle.geometry.specs.declared.Position.{Position}
 use Rattle.geometry.specs.Meaning.Domain.{position_in_domain}
 use Rattle.slots.specs.declared.Handle.{Handle}
-use Rattle.slots.specs.declared.Usable.{Usable}
-use Rattle.slots.specs.declared.Usable.TheVariants.{At, Nothing}
+use Rattle.std.specs.Prelude.{None, Option, Some}
 use Rattle.slots.specs.Meaning.Map.{is_some, slot_in}
 use Rattle.slots.specs.Meaning.Slot.{free, phase_at, good}
 use Rattle.slots.proofs.laws.HandleLaws.{good_says}
@@ -60,13 +59,13 @@ module _ (t : Tables) (p : Position) (d k : ℕ) where
   took = go (holds t) (position_in_domain p) (leb k last_tracker) (usable_slot t) refl refl
     where
       go :
-          (a b c : Bool) (u : Usable) → holds t ≡ a → usable_slot t ≡ u → or_else a 3 (or_else b 6 (or_else c 13 (or_else (is_some u) 4 0))) ≡ 0
+          (a b c : Bool) (u : Option ℕ) → holds t ≡ a → usable_slot t ≡ u → or_else a 3 (or_else b 6 (or_else c 13 (or_else (is_some u) 4 0))) ≡ 0
           → (slot_in u < length t.nums) × (phase_at t.nums (slot_in u) ≡ free)
       go false b c u e f z = absurd (omega arith)
       go true false c u e f z = absurd (omega arith)
       go true true false u e f z = absurd (omega arith)
-      go true true true Nothing e f z = absurd (omega arith)
-      go true true true (At s) e f z = lowest_free t.nums t.map ((holds_says t).yes e).slots s f
+      go true true true None e f z = absurd (omega arith)
+      go true true true (Some s) e f z = lowest_free t.nums t.map ((holds_says t).yes e).slots s f
 
   insert-onward : Onward t.nums (insert_of t p d k).after.nums
   unfolding insert_of put

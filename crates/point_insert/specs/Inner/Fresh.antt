@@ -1,10 +1,11 @@
 -- What the work of an insert needs, and its parts in the words of the code. Assumes nothing.
-use Rattle.std.specs.Prelude.{◌<◌, ◌≡◌, Float}
-use Rattle.basics.specs.Words.{ℕ, Bool, List, set, ℤ}
+use Rattle.std.specs.Prelude.{◌<◌, ◌≡◌, Float, Result, IfOk, Some}
+use Rattle.basics.specs.Words.{ℕ, true, List, set, ℤ}
+use Rattle.basics.specs.declared.Refusal.{Refusal}
+use Rattle.basics.specs.Meaning.Answers.{answer_of}
 use Rattle.geometry.specs.Meaning.Domain.{position_in_domain}
 use Rattle.geometry.specs.declared.Position.{Position}
 use Rattle.cells.specs.declared.Cell.{Cell}
-use Rattle.slots.specs.declared.Usable.TheVariants.{At}
 use Rattle.slots.specs.Meaning.Map.{lowest_usable}
 use Rattle.slots.specs.Meaning.Slot.{free, live, phase_at}
 use Rattle.point_records.specs.declared.State.TheVariants.{Unchanged}
@@ -23,9 +24,10 @@ pub record Fresh (t : Tables) (s : ℕ) (p : Position) : Type 0 where
   pub inside : s < slots_of t
   pub is_free : phase_at t.nums s ≡ free
 
--- what is chosen, by the map m of n slots: the answer a, and where it is 0 the lowest usable slot s
-abbrev pub Chosen : Bool → Position → ℕ → List ℕ → ℕ → ℕ → ℕ → Type 0
-Chosen held p k m n a s = (a ≡ answer_by held (position_in_domain p) k (lowest_usable m n)) × (a ≡ 0 → lowest_usable m n ≡ At s)
+-- what is chosen, by the map m of n slots of a grid: the lowest usable slot, or the first refusal that applies
+abbrev pub Chosen : Position → ℕ → List ℕ → ℕ → Result ℕ Refusal → Type 0
+Chosen p k m n r =
+    (answer_of r ≡ answer_by true (position_in_domain p) k (lowest_usable m n)) × IfOk r (λ s. lowest_usable m n ≡ Some s)
 
 -- an object at p, in its cell, with nothing pending
 abbrev pub fresh_record : ℕ → Position → Cell → ℕ → ℕ → Record

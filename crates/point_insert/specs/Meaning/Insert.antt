@@ -1,12 +1,11 @@
 -- `insert`: the lowest usable slot takes the object, and (handle, position) goes to the end of its cell's list. Assumes nothing.
-use Rattle.std.specs.Prelude.{◌∷◌}
+use Rattle.std.specs.Prelude.{◌∷◌, Option}
 use Rattle.basics.specs.Words.{ℕ, Bool, List, [], map, length, set}
 use Rattle.basics.specs.Meaning.Refusals.{Refusal, unless, first_of, by_tests}
 use Rattle.geometry.specs.Meaning.Domain.{position_in_domain}
 use Rattle.geometry.specs.declared.Position.{Position}
 use Rattle.cells.specs.Meaning.CellRule.{cell_at}
 use Rattle.cells.specs.Meaning.Key.{key_of}
-use Rattle.slots.specs.declared.Usable.{Usable}
 use Rattle.slots.specs.Meaning.Map.{taken, lowest_usable, is_some, slot_in}
 use Rattle.slots.specs.Meaning.Slot.{live, version_at}
 use Rattle.storage.specs.Meaning.Keyed.{append1, written}
@@ -22,7 +21,7 @@ use Rattle.point_tables.specs.Meaning.Outcome.{Outcome, outcome}
 use Rattle.replies.specs.declared.Inserted.{Inserted}
 use Rattle.replies.specs.Meaning.Replies.{inserted}
 
-abbrev pub usable_slot : Tables → Usable
+abbrev pub usable_slot : Tables → Option ℕ
 usable_slot t = lowest_usable t.map (slots_of t)
 
 abbrev pub new_record : Tables → ℕ → Position → ℕ → ℕ → Record
@@ -49,7 +48,7 @@ put t s p d k =
     (written (rows_with t p) t.cells)
 
 -- its tests, by the verdict of the check, whether the position is in the domain, the tracker, and the slot
-abbrev pub insert_tests_by : Bool → Bool → ℕ → Usable → List Refusal
+abbrev pub insert_tests_by : Bool → Bool → ℕ → Option ℕ → List Refusal
 insert_tests_by held inside k u = unless held 3 ∷ unless inside 6 ∷ tracker_test k ∷ unless (is_some u) 4 ∷ []
 
 abbrev pub insert_tests : Tables → Position → ℕ → List Refusal

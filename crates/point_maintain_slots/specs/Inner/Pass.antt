@@ -1,6 +1,6 @@
 -- The pass over the slots: what it is asked for, one slot's part of it, and what it leaves. Assumes nothing.
 -- Here: what only inner contracts cite.
-use Rattle.std.specs.Prelude.{◌+◌, ◌/◌, ◌<◌, ◌≤◌, ◌≡◌, ◌∷◌, ◌++◌, Float}
+use Rattle.std.specs.Prelude.{◌+◌, ◌/◌, ◌<◌, ◌≤◌, ◌≡◌, ◌∷◌, ◌++◌, Float, Option, None, Some}
 use Rattle.basics.specs.Words.{ℕ, List, [], map, length, get_or, set, take, drop, ℤ}
 use Rattle.std.specs.Float.{nan}
 use Rattle.basics.specs.Meaning.Refusals.{pick}
@@ -65,14 +65,15 @@ turned t s = pick (is_live t s) (settled t s) t
 abbrev pub turned_rows : Tables → ℕ → List (List ℕ)
 turned_rows t s = pick (is_live t s) (target_rows s (record_on t s).state) []
 
+-- the rows that a turn gives: one or none
+abbrev pub rows_given : Option (List ℕ) → List (List ℕ)
+rows_given None = []
+rows_given (Some row) = row ∷ []
+
 -- ---- every slot
 -- a table with rows from place w on
 abbrev pub put_at : {A : Type 0} → ℕ → List A → List A → List A
 put_at w rows l = take w l ++ (rows ++ drop (w + length rows) l)
-
--- n rows are put into the pool from place w on
-abbrev pub Put : List (List ℕ) → ℕ → List (List ℕ) → List (List ℕ) → ℕ → Type 0
-Put rows w pool put n = (n ≡ length rows) × (put ≡ put_at w rows pool)
 
 -- from the records of t to those of `after`, with k rows put from place w on
 pub record Passed (t after : Tables) (w : ℕ) (pool put : List (List ℕ)) (k : ℕ) : Type 0 where

@@ -13,7 +13,6 @@ use Rattle.point_tables.specs.Meaning.Tables.{Tables, size_of, used_of, entries_
 use Rattle.point_tables.specs.Meaning.Holds.{Holds}
 use Rattle.point_tables.specs.Meaning.Decide.{holds_says}
 use Rattle.point_search.specs.Meaning.Searches.{position_of, finding_on}
-use Rattle.point_search.specs.Inner.Fill.{Findable}
 use Rattle.point_search.proofs.laws.FindLaws.{range_passed}
 use Rattle.point_search.proofs.laws.FoundLaws.{stands}
 use Rattle.point_search.proofs.laws.FillLaws.{stocked, findable}
@@ -95,10 +94,10 @@ module _ (t : Tables) (h : Holds t) (c : Position) (r : Float) (dc : T (position
   told_is = told_by best scanned agreed ∙ ap (nearest_report t) (sym closest_scan)
 
   tellable_by : (b : Best) (l : List Entry) → Agree (size_of t) c r t.pool t.spots (used_of t) walkable b l → Tellable t.nums t.pool t.spots b
-  tellable_by b [] a = (h.sized.most, λ n. absurd (n (ap (λ (x : Best). x.count) a)))
+  tellable_by b [] a = subst (Tellable t.nums t.pool t.spots) (sym a) (h.sized.most, tt)
   tellable_by b (e ∷ es) a =
       let (j, s, lj, eb, ee, f) = a in
-      (h.sized.most, λ n. subst (λ (k : ℕ). Findable t.nums t.pool t.spots k) (sym (ap (λ (x : Best). x.place) eb)) (findable t h j lj))
+      subst (Tellable t.nums t.pool t.spots) (sym eb) (h.sized.most, findable t h j lj)
 
   pub tellable : Tellable t.nums t.pool t.spots best
   tellable = tellable_by best scanned agreed

@@ -1,9 +1,8 @@
--- The gap before a ring and the rule that stops, as code works them out: sums of signed numbers that fit 32 bits, edges that are exact, tests.
--- Assumes nothing.
-use Rattle.basics.specs.Words.{ℕ, zero, suc, ◌+◌, ◌*◌, ◌≤◌, ◌<◌, ◌≡◌, sym, ap, ap₂, ◌∙◌, subst, Bool, true, ◌||◌, T, ℤ, pos, negsuc, ◌+ℤ◌, ◌-ℤ◌, le_refl}
-use Rattle.basics.specs.Words.{mul-le-mul, mul-le-mul_right, arith, eq-eqb, ne_eqb, lt-ltb, le-ltb, sfits_of}
+-- The gap before a ring, as code works it out: sums of signed numbers that fit 32 bits, and edges that are exact. Assumes nothing.
+use Rattle.basics.specs.Words.{ℕ, zero, suc, ◌+◌, ◌*◌, ◌≤◌, ◌<◌, ◌≡◌, sym, ap, ap₂, ◌∙◌, subst, T, ℤ, pos, negsuc, ◌+ℤ◌, ◌-ℤ◌, le_refl}
+use Rattle.basics.specs.Words.{mul-le-mul, mul-le-mul_right, arith, lt-ltb, sfits_of}
 use lib.Signed.{mag}
-use lib.Ieee.{Float, binary32, sub, mul, lt, le}
+use lib.Ieee.{Float, binary32, sub}
 use mir.Syntax.{w32}
 use mir.Val.{SFits, to_z, of_z}
 use mir.Facts.{to_z-of_z, to_z_pos}
@@ -14,17 +13,10 @@ use Rattle.geometry.proofs.laws.DomainLaws.{position_parts}
 use Rattle.cells.specs.declared.Cell.{Cell}
 use Rattle.cells.specs.Meaning.Size.{SizeInDomain}
 use Rattle.cells.specs.Meaning.CellRule.{cell_of, cell_at}
-use Rattle.cells.specs.Meaning.Key.{upward}
 use Rattle.cells.specs.Inner.Edge.{edge}
 use Rattle.cells.proofs.laws.EdgeRule.{reaches}
-use Rattle.point_rings.specs.declared.Best.{Best}
-use Rattle.point_rings.specs.Inner.Rings.{most_rings, axis_gap, gap_of, settled, stops_by}
+use Rattle.point_rings.specs.Inner.Rings.{most_rings, axis_gap, gap_of}
 use Rattle.point_rings.proofs.laws.CellNumbers.{up-cell, down_cell}
-use Rattle.point_rings.proofs.laws.LookLaws.{picked, not_picked}
-
--- ---- counted from the least, of the number that was read
-pub read_up : (n : ℕ) (z : ℤ) → mag z < 2147483648 → n ≡ upward (to_z w32 (of_z w32 z)) → n ≡ upward z
-read_up n z h e = e ∙ ap upward (to_z-of_z {w = w32} {z = z} (sfits_of h))
 
 -- ---- on one axis: k is a cell whose edge next to zero is in the domain
 narrow : (m s : ℕ) → 1 ≤ s → m * s ≤ 1048576 → m ≤ 1048576
@@ -131,18 +123,3 @@ module _ (size : ℕ) (S : SizeInDomain size) (c : Position) (D : T (position_in
       → r ≡ gap_of size c d
   unfolding gap_of
   gap_is d r a b h f g = h ∙ ap₂ lesser (coordinate_gap size S c.x (position_parts c D).0 mid.x column d a f) (coordinate_gap size S c.y (position_parts c D).1 mid.y line d b g)
-
--- ---- the rule that stops
-pub settled-none : (b : Best) (far : Float) → b.count ≡ 0 → le b.distance far ≡ settled b far
-settled-none b far e = sym (picked _ _ _ (eq-eqb b.count 0 e))
-
-pub settled-some : (b : Best) (far : Float) → (b.count ≡ 0 → ⊥) → lt b.distance far ≡ settled b far
-settled-some b far h = sym (not_picked _ _ _ (ne_eqb b.count 0 h))
-
-module _ (size : ℕ) (c : Position) (last d : ℕ) (b : Best) where
-  pub stops-past : last < d → true ≡ stops_by size c last d b
-  stops-past h = sym (ap (λ (t : Bool). t || settled b (mul binary32 (gap_of size c d) (gap_of size c d))) (lt-ltb last d h))
-
-  pub stops_gap : (r : Bool) (g : Float) → d ≤ last → g ≡ gap_of size c d → r ≡ settled b (mul binary32 g g) → r ≡ stops_by size c last d b
-  stops_gap r g h e f =
-      f ∙ ap (λ (x : Float). settled b (mul binary32 x x)) e ∙ sym (ap (λ (t : Bool). t || settled b (mul binary32 (gap_of size c d) (gap_of size c d))) (le-ltb last d h))

@@ -2,6 +2,7 @@
 use Rattle.basics.specs.Words.{ℕ, ◌+◌, ◌*◌, ◌<◌, ◌≤◌, ◌≡◌, refl, sym, ap, ◌∙◌, subst, Bool, true, false, ◌&&◌, ◌||◌, List, [], ◌∷◌, Memᴰ, Memᴰ-head}
 use Rattle.basics.specs.Words.{Memᴰ-tail, Memᴰ-cases_cons, Memᴰ-not_nil, ◌⊎◌, inl, inr, ⊎_elim, ltb, eqb, arith, ltb-true, ltb-false, leb-true}
 use Rattle.basics.specs.Words.{eqb-true, eqb-false, lt-ltb, le-ltb}
+use Rattle.std.specs.Prelude.{None}
 use lib.Ieee.{Float, binary32, lt, mul}
 use Rattle.basics.specs.Meaning.Limits.{most_slots}
 use Rattle.geometry.specs.declared.Position.{Position}
@@ -50,7 +51,7 @@ module _ (c : Position) (r : Float) (pool : List (List ℕ)) (spots : List (List
   abbrev Ranked : Best → ℕ → Type 0
   Ranked b n = (k : ℕ) → k < used → closer_at k b ≡ ltb (rank k) n
 
-  by_ground : (k : ℕ) → k < used → (x : Float) (m t : ℕ) → Ground x m → t < most_slots → closer (distance_at c spots k) (second pool k) (record { count = 0; place = 0; slot = t; distance = x }) ≡ ltb (rank k) (m * most_slots + t)
+  by_ground : (k : ℕ) → k < used → (x : Float) (m t : ℕ) → Ground x m → t < most_slots → closer (distance_at c spots k) (second pool k) (record { place = None; slot = t; distance = x }) ≡ ltb (rank k) (m * most_slots + t)
   by_ground k l x m t g h =
       (λ z. ground_lt (distance_at c spots k) x (v k) m (ground k l) g z || (ground_eq (distance_at c spots k) x (v k) m (ground k l) g z && ltb (second pool k) t))
       ∙ pair_less (v k) m (second pool k) t (few k l) h

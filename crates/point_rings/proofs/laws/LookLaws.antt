@@ -1,5 +1,6 @@
 -- Looking at entries one after the other: one more, one list after another, and the entries of a window run by run. Assumes nothing.
 use Rattle.basics.specs.Words.{ℕ, ◌+◌, ◌-◌, ◌≤◌, ◌≡◌, refl, sym, ap, ◌∙◌, Bool, true, false, List, [], ◌∷◌, ◌++◌, arith}
+use Rattle.std.specs.Prelude.{Some}
 use lib.Ieee.{Float}
 use Rattle.basics.specs.Meaning.Refusals.{pick}
 use Rattle.geometry.specs.declared.Position.{Position}
@@ -34,9 +35,9 @@ module _ (c : Position) (pool : List (List ℕ)) (spots : List (List Float)) whe
     test : w ≡ closer (distance_at c spots j) (second pool j) b
     test = ew ∙ (λ z. closer (far z) (its_slot z) b)
 
-    pub better-taken : w ≡ true → record { count = 1; place = j; slot = e.slot; distance = d } ≡ better c pool spots b j
+    pub better-taken : w ≡ true → record { place = Some j; slot = e.slot; distance = d } ≡ better c pool spots b j
     unfolding better
-    better-taken t = (λ z. record { count = 1; place = j; slot = its_slot z; distance = far z }) ∙ sym (picked _ (best_at c pool spots j) b (sym test ∙ t))
+    better-taken t = (λ z. record { place = Some j; slot = its_slot z; distance = far z }) ∙ sym (picked _ (best_at c pool spots j) b (sym test ∙ t))
 
     pub better-left : w ≡ false → b ≡ better c pool spots b j
     unfolding better

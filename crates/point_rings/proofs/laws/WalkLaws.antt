@@ -29,9 +29,6 @@ module _ (test : ℕ → Bool) (d m : ℕ) (below : d < m) where
   pub first_on : test d ≡ false → first_from test d (m - d) ≡ first_from test (d + 1) (m - (d + 1))
   first_on e = open_up ∙ not_picked (test d) d (first_from test (suc d) (m - (d + 1))) e ∙ ap (λ (n : ℕ). first_from test n (m - (d + 1))) next
 
-pub first-last : (test : ℕ → Bool) (d m : ℕ) → d ≡ m → first_from test d (m - d) ≡ d
-first-last test d m e = let z : m - d ≡ 0 = omega arith in ap (first_from test d) z
-
 -- ---- cells and numbers that code has worked out: mid, the corners of the range, and its last ring
 module _ (size : ℕ) (c : Position) (r : Float) (pool : List (List ℕ)) (spots : List (List Float)) (used : ℕ) (w : Walkable size c r pool spots used)
     (m a b : Cell) (em : m ≡ cell_at size c) (ea : a ≡ cell_at size (corner_below c r)) (eb : b ≡ cell_at size (corner_above c r)) where

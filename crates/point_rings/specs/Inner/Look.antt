@@ -1,6 +1,6 @@
 -- The best of the entries that were looked at, by their places in the pool: the nearest to the centre, and of equally near ones that of the lowest
 -- slot. Assumes nothing.
-use Rattle.std.specs.Prelude.{◌&&◌, ◌||◌, ◌∷◌, Float}
+use Rattle.std.specs.Prelude.{◌&&◌, ◌||◌, ◌∷◌, Float, None, Some}
 use Rattle.basics.specs.Words.{ℕ, Bool, true, List, [], ltb}
 use Rattle.std.specs.Float.{binary32}
 use Rattle.std.specs.Float.Ieee.{lt, eq, mul}
@@ -19,10 +19,10 @@ distance_at c spots j = distance_squared (spot_at spots j) c
 
 -- none yet: only what is nearer than the radius can be better, for no slot is below 0
 abbrev pub no_best : Float → Best
-no_best r = record { count = 0; place = 0; slot = 0; distance = mul binary32 r r }
+no_best r = record { place = None; slot = 0; distance = mul binary32 r r }
 
 abbrev pub best_at : Position → List (List ℕ) → List (List Float) → ℕ → Best
-best_at c pool spots j = record { count = 1; place = j; slot = second pool j; distance = distance_at c spots j }
+best_at c pool spots j = record { place = Some j; slot = second pool j; distance = distance_at c spots j }
 
 -- a squared distance and a slot that are better than the best
 abbrev pub closer : Float → ℕ → Best → Bool

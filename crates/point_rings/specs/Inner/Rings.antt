@@ -1,6 +1,6 @@
 -- The rings of cells round the cell of a centre, how near their points can be, and how many of them are looked at. Assumes nothing.
-use Rattle.std.specs.Prelude.{◌+◌, ◌-◌, ◌*◌, ◌<◌, ◌≡◌, ◌||◌, ◌++◌, ◌+ℤ◌, ◌-ℤ◌, Float}
-use Rattle.basics.specs.Words.{ℕ, zero, suc, max, Bool, List, T, ltb, eqb, ℤ, pos}
+use Rattle.std.specs.Prelude.{◌+◌, ◌-◌, ◌*◌, ◌<◌, ◌≡◌, ◌||◌, ◌++◌, ◌+ℤ◌, ◌-ℤ◌, Float, is_some}
+use Rattle.basics.specs.Words.{ℕ, zero, suc, max, Bool, List, T, ltb, ℤ, pos}
 use Rattle.std.specs.Float.{binary32}
 use Rattle.std.specs.Float.Ieee.{lt, le, sub, mul}
 use Rattle.basics.specs.Meaning.Limits.{most_slots}
@@ -54,7 +54,7 @@ gap_of size c d = let mid = cell_at size c in lesser (axis_gap size mid.x c.x d)
 
 -- ---- nothing at this squared distance or farther can be better: the best is strictly nearer; or there is none, and the circle does not reach it
 abbrev pub settled : Best → Float → Bool
-settled b far = pick (eqb b.count 0) (le b.distance far) (lt b.distance far)
+settled b far = pick (is_some b.place) (lt b.distance far) (le b.distance far)
 
 -- before ring d, `last` being the last ring of the range, and b the best of the rings below d
 abbrev pub stops_by : ℕ → Position → ℕ → ℕ → Best → Bool

@@ -13,7 +13,6 @@ use Rattle.storage.proofs.laws.FilterLaws.{all_map}
 use Rattle.storage.proofs.laws.WrittenLaws.{length-written}
 use Rattle.storage.proofs.laws.KeepsLaws.{written-take}
 use Rattle.storage.proofs.laws.PlaceLaws.{written_same}
-use Rattle.storage.proofs.laws.RunLaws.{run-onward}
 use Rattle.point_search.specs.declared.Test.{Test}
 use Rattle.point_search.specs.Inner.Places.{places_in, spot_passes, places_of}
 use Rattle.point_search.specs.Inner.Begun.{Gathered, Begun}
@@ -32,9 +31,6 @@ module _ (test : ℕ → Bool) (from n : ℕ) (o : List ℕ) (size : n ≤ lengt
   module _ (j k : ℕ) (ps : List ℕ) (ek : k ≡ n + length (places_in test from (j - from))) (ep : take k ps ≡ take n o ++ places_in test from (j - from)) where
     whole : length (take k ps) ≡ k
     whole = ap length ep ∙ length-append (take n o) (places_in test from (j - from)) ∙ omega (arith, length-take-le n o size)
-
-    pub stretch_room : k ≤ length ps
-    stretch_room = omega (arith, whole, length-take k ps)
 
     -- one stretch more
     module _ (end r : ℕ) (last : List ℕ) (after : from ≤ j) (on : j ≤ end) (er : r ≡ k + length (places_in test j (end - j)))
@@ -70,13 +66,6 @@ cut : (pool : List (List ℕ)) (used i x0 y0 x1 y1 p : ℕ) (r : Run) → NextRu
 cut pool used i x0 y0 x1 y1 p r n f t m =
     record { onward = n.onward; ends = f; within = omega (arith, n.within); more = m; passed = n.passed; taken = λ j g l. n.taken j g (omega arith) }
 
--- where there was room for one place the walk goes on
-pub run_moves : (pool : List (List ℕ)) (used i x0 y0 x1 y1 n number place : ℕ) (r : Run) (test : ℕ → Bool) (xs ys : List ℕ) → NextRun pool used i x0 y0 x1 y1 r
-    → Gathered test r.from r.to n xs number place ys → n < length xs → i < used → i < place
-run_moves pool used i x0 y0 x1 y1 n number place r test xs ys next g h l =
-    run-onward pool used i x0 y0 x1 y1 (record { from = r.from; to = place })
-    (cut pool used i x0 y0 x1 y1 place r next g.onward g.within (λ q. g.moved h (next.more q))) l
-
 module _ (a b : Cell) (test : Test) (pool : List (List ℕ)) (spots : List (List Float)) where
   pub begun-none : (xs : List ℕ) → Begun a b test pool spots 0 0 xs
   unfolding places_of places_in
@@ -97,11 +86,6 @@ module _ (a b : Cell) (test : Test) (pool : List (List ℕ)) (spots : List (List
     begun-each P f =
         array_each (places_of a b test pool spots i) xs xs n h.counted begun-written P
         (all_map (λ j. j < i) P f (places_of a b test pool spots i) (places-used a b test pool spots i))
-
-    -- the same in another array
-    pub begun_copied : (o ys : List ℕ) → ys ≡ written (take n xs) o → Begun a b test pool spots n i ys
-    begun_copied o ys e =
-        record { counted = h.counted; collected = ap (take n) e ∙ written-take (take n xs) o n (sym (length-take-le n xs begun-room)) ∙ h.collected }
 
     -- a run more, as far as there was room for it
     pub begun-run : (used low high number place : ℕ) (r : Run) (ys : List ℕ) → Near a → Near b → low ≡ key_of a → high ≡ key_of b

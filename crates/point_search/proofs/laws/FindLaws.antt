@@ -11,10 +11,8 @@ use Rattle.cells.specs.Meaning.CellRule.{cell_at}
 use Rattle.cells.specs.Meaning.Range.{cells_in}
 use Rattle.point_tables.specs.Meaning.Tables.{Tables, size_of}
 use Rattle.point_tables.specs.Meaning.Decide.{holds}
-use Rattle.point_search.specs.declared.Range.{Range}
 use Rattle.point_search.specs.declared.Test.{Test}
 use Rattle.point_search.specs.Meaning.Searches.{found, finding_on, Outputs, room, findings, report_of, range_tests, search_answer, search_of}
-use Rattle.point_search.specs.Inner.Asked.{Ranged}
 use Rattle.replies.specs.Meaning.Replies.{count}
 
 module _ (t : Tables) (ok : Bool) (ll ur : Position) where
@@ -36,10 +34,6 @@ module _ (t : Tables) (ok : Bool) (ll ur : Position) where
 
   pub range_0 : holds t ≡ true → ok ≡ true → cells_of ≤ most_cells → 0 ≡ asked
   range_0 e f l = simp (e, f, le-leb cells_of most_cells l)
-
-  -- a refusal, whatever it returns for the cells
-  pub ranged_not : (k : ℕ) (r : Range) → r.answer ≡ k → k ≡ asked → (k ≡ 0 → ⊥) → Ranged t ok ll ur r
-  ranged_not k r e g n = record { answer = e ∙ g; low = λ z. absurd (n (sym e ∙ z)); high = λ z. absurd (n (sym e ∙ z)) }
 
   -- one of the three refuses, or none
   by_range : {P : Type 0} → (holds t ≡ false → P) → (holds t ≡ true → ok ≡ false → P) → (holds t ≡ true → ok ≡ true → most_cells < cells_of → P)

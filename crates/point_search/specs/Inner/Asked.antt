@@ -1,7 +1,9 @@
 -- What the inner contracts of a search ask for and say, by name. Assumes nothing.
-use Rattle.std.specs.Prelude.{◌+◌, ◌<◌, ◌≤◌, ◌≡◌, ◌++◌, Float}
+use Rattle.std.specs.Prelude.{◌+◌, ◌<◌, ◌≤◌, ◌≡◌, ◌++◌, Float, Result, IfOk}
 use Rattle.basics.specs.Words.{ℕ, Bool, List, map, length, get_or, take}
 use Rattle.basics.specs.Meaning.Limits.{most_slots}
+use Rattle.basics.specs.declared.Refusal.{Refusal}
+use Rattle.basics.specs.Meaning.Answers.{answer_of}
 use Rattle.basics.specs.Meaning.Refusals.{first_of}
 use Rattle.geometry.specs.declared.Position.{Position}
 use Rattle.cells.specs.declared.Cell.{Cell}
@@ -17,11 +19,11 @@ use Rattle.point_search.specs.Inner.Places.{places_of, stretch_places}
 use Rattle.point_search.specs.Inner.Fill.{finding_at, handle_row_at, place_row_at, obj_row_at, filled, Stocked, Findable}
 use Rattle.point_search.specs.Inner.Begun.{Begun}
 
--- the answer to a range, and where it is 0 the cells of its corners
-pub record Ranged (t : Tables) (ok : Bool) (ll ur : Position) (r : Range) : Type 0 where
-  pub answer : r.answer ≡ first_of (range_tests t ok ll ur)
-  pub low : r.answer ≡ 0 → r.a ≡ cell_at (size_of t) ll
-  pub high : r.answer ≡ 0 → r.b ≡ cell_at (size_of t) ur
+-- the answer to a range, and where it is not refused the cells of its corners
+pub record Ranged (t : Tables) (ok : Bool) (ll ur : Position) (r : Result Range Refusal) : Type 0 where
+  pub answer : answer_of r ≡ first_of (range_tests t ok ll ur)
+  pub low : IfOk r (λ g. g.a ≡ cell_at (size_of t) ll)
+  pub high : IfOk r (λ g. g.b ≡ cell_at (size_of t) ur)
 
 -- what a search asks for: sorted columns, corners near enough, and a slot for each entry in use
 abbrev pub Searchable : Cell → Cell → List (List ℕ) → List (List ℕ) → List (List Float) → ℕ → Type 0

@@ -12,7 +12,6 @@ use Rattle.storage.specs.Meaning.Packed.{first, second}
 use Rattle.point_records.specs.declared.State.TheVariants.{Unchanged, NewPos, Relocate, Removed}
 use Rattle.point_records.specs.Meaning.Columns.{tag_of, state_of, pick_state}
 use Rattle.point_records.specs.Meaning.Word.{tag_at}
-use Rattle.point_pool.specs.Inner.Pass
 use Rattle.point_records.specs.Inner.Listed.{listed_at}
 use Rattle.point_pool.specs.Inner.Pass.{Fits, Passes, Named}
 use Rattle.point_tables.specs.Meaning.Tables.{Tables, size_of, used_of, rows_of, slots_of, record_on, Sized}
@@ -51,9 +50,6 @@ module _ (t : Tables) where
 
   -- ---- what the passes are asked of
   module _ (s : Sized t) (c : CountsOf) where
-    pub pool-room : Pass.Room t.nums t.reals t.ints t.pool t.spots t.cells (size_of t) (used_of t) (rows_of t)
-    pool-room = record { most = s.most; of_reals = s.of_reals; of_ints = s.of_ints; in_pool = omega (arith, c.used-most, s.of_pool); in_spots = omega (arith, c.used-most, s.of_spots); in_cells = omega (arith, c.rows-most, s.of_cells); of_size = c.within_domain }
-
     pub slot-room : Room t.nums t.map
     slot-room = record { most = s.most; of_map = s.of_map }
 

@@ -1,4 +1,4 @@
--- Tables hold a grid: the list of document 01, clause by clause. Assumes nothing.
+-- Tables hold a grid: what is asked of them, clause by clause. Assumes nothing.
 -- Of rows that are not in use nothing is asked but version, phase and map bit of every slot.
 use Rattle.std.specs.Prelude.{◌<◌, ◌≤◌, ◌≡◌}
 use Rattle.basics.specs.Words.{ℕ, [], get_or}

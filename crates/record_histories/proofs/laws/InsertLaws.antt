@@ -1,8 +1,8 @@
 -- `insert` on columns with the same records: the same slot, and the same records after. Assumes nothing.
+use Rattle.std.specs.Prelude.{Option}
 use Rattle.basics.specs.Words.{ℕ, ◌≡◌, refl, ap, subst, map, length, set, eqb}
 use Rattle.geometry.specs.declared.Position.{Position}
 use Rattle.cells.specs.Meaning.CellRule.{cell_at}
-use Rattle.slots.specs.declared.Usable.{Usable}
 use Rattle.slots.specs.Meaning.Map.{taken, lowest_usable, slot_in}
 use Rattle.slots.specs.Meaning.Slot.{version_at}
 use Rattle.storage.specs.Meaning.Keyed.{written}
@@ -60,7 +60,7 @@ module _ (t u : Tables) where
           let s = slot_in (usable_slot t) in
           same-pick _ _ _ _ (eqb (insert_answer t p k) 0) (eqb (insert_answer v p k) 0) (ap (λ (n : ℕ). eqb n 0) e)
           (subst
-          (λ (x : Usable). Same (outcome (inserted 0 s (version_at t.nums s)) (put t s p d k)) (outcome (inserted 0 (slot_in x) (version_at v.nums (slot_in x))) (put v (slot_in x) p d k)))
+          (λ (x : Option ℕ). Same (outcome (inserted 0 s (version_at t.nums s)) (put t s p d k)) (outcome (inserted 0 (slot_in x) (version_at v.nums (slot_in x))) (put v (slot_in x) p d k)))
           slot_is
           (ap (inserted 0 s) (version_is s), put-alike s p d k))
           (ap (λ (n : ℕ). inserted n 0 0) e, like)

@@ -1,5 +1,5 @@
 -- Clearing slot by slot: the rows of which the first are cleared, and the map with their bits; and each slot after it. Assumes nothing.
-use Rattle.basics.specs.Words.{ℕ, zero, suc, ◌+◌, ◌/◌, ◌<◌, ◌≤◌, ◌≡◌, refl, sym, ap, ◌∙◌, subst, Bool, true, false, List, [], ◌∷◌, ◌++◌, map, map-append}
+use Rattle.basics.specs.Words.{ℕ, zero, suc, ◌+◌, ◌<◌, ◌≤◌, ◌≡◌, refl, sym, ap, ◌∙◌, subst, Bool, true, false, List, [], ◌∷◌, ◌++◌, map, map-append}
 use Rattle.basics.specs.Words.{append-nil, append_assoc, inr, ⊎_elim, length, get_or, take, drop, length-append, length-map, get_or-map, take-append-drop}
 use Rattle.basics.specs.Words.{take-suc, take-length, drop-length, drop-cons, length-take-le, get_or_at, set_at, eqb, add-one, arith, eqb-true, eq-eqb, ne_eqb}
 use Rattle.basics.specs.Meaning.Refusals.{pick}
@@ -99,13 +99,6 @@ module _ (nums : List (List ℕ)) (m : List ℕ) (i : ℕ) (h : i < length nums)
 module _ (nums : List (List ℕ)) (m : List ℕ) (i : ℕ) (h : i < length nums) (ns : List (List ℕ)) (k : List ℕ) (en : ns ≡ nums_to i nums) (em : k ≡ map_to i nums m) where
   at_hand : get_or ns i [] ≡ get_or nums i []
   at_hand = ap (λ (l : List (List ℕ)). get_or l i []) en ∙ nums_at nums m i h
-
-  -- what emptying asks for
-  pub empty_asks : length m ≡ 3 + words_for (length nums) → (i < length ns) × (3 + i / 64 < length k)
-  empty_asks l =
-      let a = ap length en ∙ nums-length i nums in
-      let b = ap length em ∙ cleared-map-length (take i nums) 0 m in
-      (omega (arith, a), omega (arith, b))
 
   pub turn_live : eqb (get_or (get_or ns i []) 1 0) live ≡ true → (ns' : List (List ℕ)) (k' : List ℕ) → ns' ≡ emptied_nums ns i → k' ≡ emptied_map ns k i → (ns' ≡ nums_to (i + 1) nums) × (k' ≡ map_to (i + 1) nums m)
   turn_live e ns' k' p q =

@@ -2,17 +2,14 @@
 use Rattle.basics.specs.Words.{ℕ, ◌+◌, ◌<◌, ◌≤◌, ◌≡◌, sym, ap, ◌∙◌, true, false, List, [], ◌∷◌, map, map-append, length, get_or, set, length-map, length-append}
 use Rattle.basics.specs.Words.{arith}
 use Rattle.storage.specs.Meaning.Keyed.{written}
-use Rattle.storage.proofs.laws.WrittenLaws.{length-written, written_next}
+use Rattle.storage.proofs.laws.WrittenLaws.{written_next}
 use Rattle.slot_walks.specs.Meaning.Live.{row_live, live_from}
-use Rattle.slot_walks.proofs.laws.LiveLaws.{live_to, live-most, live-one, live-none, live-room}
+use Rattle.slot_walks.proofs.laws.LiveLaws.{live_to, live-one, live-none, live-room}
 
 -- ---- an output that has what f says of each live slot passed
 module _ {A : Type 0} (d : A) (f : ℕ → A) (nums : List (List ℕ)) (out : List A) (r : length (live_from 0 nums) ≤ length out) where
   abbrev filled : ℕ → List A
   filled i = written (map f (live_to i nums)) out
-
-  pub filled-length : (i : ℕ) → length (filled i) ≡ length out
-  filled-length i = length-written (map f (live_to i nums)) out (omega (arith, length-map (live_to i nums) f, live-most nums i))
 
   module _ (i : ℕ) (h : i < length nums) where
     pub filled-room : row_live (get_or nums i []) ≡ true → length (live_to i nums) < length out

@@ -1,6 +1,8 @@
 -- The live slots, slot by slot; they are as many as the slots that pass the test. Assumes nothing.
 use Rattle.basics.specs.Words.{ℕ, zero, suc, ◌+◌, ◌<◌, ◌≤◌, ◌≡◌, refl, sym, ap, ◌∙◌, Bool, true, false, List, [], ◌∷◌, ◌++◌, append-nil, length, get_or, take}
 use Rattle.basics.specs.Words.{drop, length-append, take-append-drop, take-suc, take_all, length-take-le, add-one, arith}
+use Rattle.std.specs.Prelude.{cond, count_by}
+use Rattle.std.proofs.lemmas.List.Sums.{sum_by-cons}
 use Rattle.basics.specs.Meaning.Refusals.{pick}
 use Rattle.basics.specs.Inner.Counting.{one, count_below}
 use Rattle.slot_walks.specs.Meaning.Live.{row_live, live_from}
@@ -24,6 +26,15 @@ live-within (row ∷ l) s = go (row_live row) (live_from (suc s) l) (live-within
     go : (q : Bool) (m : List ℕ) → length m ≤ length l → length (pick q (s ∷ m) m) ≤ suc (length l)
     go true m h = omega arith
     go false m h = omega arith
+
+-- as many as the rows that pass the test
+pub live-counted : (l : List (List ℕ)) (s : ℕ) → count_by row_live l ≡ length (live_from s l)
+live-counted [] s = refl
+live-counted (row ∷ l) s = sum_by-cons _ row l ∙ go (row_live row) (live_from (suc s) l) (count_by row_live l) (live-counted l (suc s))
+  where
+    go : (q : Bool) (m : List ℕ) (n : ℕ) → n ≡ length m → cond q 1 0 + n ≡ length (pick q (s ∷ m) m)
+    go true m n e = omega arith
+    go false m n e = omega arith
 
 -- the live ones of the first i slots
 abbrev pub live_to : ℕ → List (List ℕ) → List ℕ

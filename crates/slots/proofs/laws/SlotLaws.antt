@@ -2,7 +2,7 @@
 use Rattle.basics.specs.Words.{ℕ, ◌+◌, ◌*◌, ◌/◌, ◌≤◌, ◌<◌, ◌≡◌, refl, sym, ◌∙◌, Bool, true, false, List, [], ◌∷◌, length, get_or, set, drop, length-set}
 use Rattle.basics.specs.Words.{get_or-set_same, get_or-set_other, eqb, arith, eqb-true, eqb-false, eq-eqb, ne_eqb}
 use Rattle.basics.specs.Meaning.Refusals.{pick}
-use Rattle.slots.specs.declared.Usable.TheVariants.{At, Nothing}
+use Rattle.std.specs.Prelude.{None, Some}
 use Rattle.slots.specs.Meaning.Map.{head, words_for, usable, taken, given_back, lowest_usable}
 use Rattle.slots.specs.Meaning.Slot.{free, live, retired, last_version, version_at, phase_at, emptied_nums, emptied_map, SlotHolds, SlotsHold}
 use Rattle.slots.proofs.laws.MapLaws.{taken-same, taken_other, given-back-same, given-back_other}
@@ -52,13 +52,13 @@ module _ (nums : List (List ℕ)) (map : List ℕ) (h : SlotsHold nums map) wher
       go true q r = eqb-true (phase_at nums s) free q
       go false q r = absurd (omega arith)
 
-  pub lowest_free : (s : ℕ) → lowest_usable map (length nums) ≡ At s → (s < length nums) × (phase_at nums s ≡ free)
+  pub lowest_free : (s : ℕ) → lowest_usable map (length nums) ≡ Some s → (s < length nums) × (phase_at nums s ≡ free)
   lowest_free s e =
       let l = lowest_at map (length nums) s e in
       (l.0, bit_of_free s l.0 l.1)
 
-  pub lowest_none-free : lowest_usable map (length nums) ≡ Nothing → (t : ℕ) → t < length nums → phase_at nums t ≡ free → ⊥
+  pub lowest_none-free : lowest_usable map (length nums) ≡ None → (t : ℕ) → t < length nums → phase_at nums t ≡ free → ⊥
   lowest_none-free e t l p = omega (arith, lowest_none map (length nums) e t l, rw (eq-eqb (phase_at nums t) free p) at (h.each t l).in_map)
 
-  pub retired_never : (s : ℕ) → phase_at nums s ≡ retired → lowest_usable map (length nums) ≡ At s → ⊥
+  pub retired_never : (s : ℕ) → phase_at nums s ≡ retired → lowest_usable map (length nums) ≡ Some s → ⊥
   retired_never s p e = omega (arith, (lowest_free s e).1)

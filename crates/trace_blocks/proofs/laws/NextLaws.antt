@@ -1,11 +1,21 @@
 -- The records of an input are those that the walks hand out, one after the other, and then those of what is left. Assumes nothing.
-use Rattle.basics.specs.Words.{ℕ, ◌+◌, ◌≤◌, ◌<◌, ◌≡◌, refl, sym, ap, ◌∙◌, true, false, List, [], ◌∷◌, ◌++◌, length, take, drop, get_or, drop_of_length-le}
+use Rattle.basics.specs.Words.{ℕ, ◌+◌, ◌≤◌, ◌<◌, ◌≡◌, refl, sym, ap, ◌∙◌, List, [], ◌∷◌, ◌++◌, length, drop, get_or, drop_of_length-le}
 use Rattle.basics.specs.Words.{drop-cons, drop-drop, add-one, arith}
+use Rattle.std.proofs.Common.{Option, Some, None, IsSome, IsNone}
 use Rattle.trace_splits.specs.declared.Stepped.{Stepped}
-use Rattle.trace_splits.specs.Meaning.Sofar.{Sofar, Fed, feed, sofar}
+use Rattle.trace_splits.specs.Meaning.Sofar.{Sofar, Fed, feed, sofar, kept_of}
 use Rattle.trace_splits.specs.Inner.Sofar.{fed}
 use Rattle.trace_splits.proofs.laws.Sofar.{records_from}
 use Rattle.trace_blocks.specs.Meaning.Next.{Next, next_of, nexted, stops}
+
+-- ---- what is kept of a record stops the walk, and where none ended nothing does
+stops_some : (line : List ℕ) (ended : Option ℕ) (there further : Next) → IsSome ended → stops (kept_of line ended) there further ≡ there
+stops_some line None there further e = absurd (cc)
+stops_some line (Some len) there further e = refl
+
+stops_none : (line : List ℕ) (ended : Option ℕ) (there further : Next) → IsNone ended → stops (kept_of line ended) there further ≡ further
+stops_none line None there further e = refl
+stops_none line (Some len) there further e = absurd (cc)
 
 -- ---- the code's walk, a byte at a time
 module _ (room : ℕ) (s : Sofar) (l : List ℕ) (at : ℕ) where
@@ -24,11 +34,11 @@ module _ (room : ℕ) (s : Sofar) (l : List ℕ) (at : ℕ) where
     stepped : next_of room s at (drop at l) ≡ step_of (fed line t)
     stepped = a_byte h ∙ ap step_of (sym e)
 
-    pub a_record : t.ended ≡ true → next_of room s at (drop at l) ≡ nexted (sofar line t.state) (take t.len line ∷ []) (at + 1)
-    a_record d = stepped ∙ rw d refl
+    pub a_record : IsSome t.ended → next_of room s at (drop at l) ≡ nexted (sofar line t.state) (kept_of line t.ended) (at + 1)
+    a_record d = stepped ∙ stops_some line t.ended _ _ d
 
-    pub no_record_lem : t.ended ≡ false → next_of room s at (drop at l) ≡ next_of room (sofar line t.state) (at + 1) (drop (at + 1) l)
-    no_record_lem d = stepped ∙ rw d refl
+    pub no_record_lem : IsNone t.ended → next_of room s at (drop at l) ≡ next_of room (sofar line t.state) (at + 1) (drop (at + 1) l)
+    no_record_lem d = stepped ∙ stops_none line t.ended _ _ d
 
 dropped : (l : List ℕ) (at b : ℕ) (bs : List ℕ) → drop at l ≡ b ∷ bs → drop (at + 1) l ≡ bs
 dropped l at b bs e = sym (drop-drop 1 at l) ∙ ap (drop 1) e

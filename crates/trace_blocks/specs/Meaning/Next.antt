@@ -1,8 +1,7 @@
 -- The next record that ends in some bytes: what is so far after it, the record, if one ends, and the place behind it. Assumes nothing.
 use Rattle.std.specs.Prelude.{◌+◌, ◌∷◌}
-use Rattle.basics.specs.Words.{ℕ, List, [], take}
-use Rattle.basics.specs.Meaning.Refusals.{pick}
-use Rattle.trace_splits.specs.Meaning.Sofar.{Sofar, feed, sofar}
+use Rattle.basics.specs.Words.{ℕ, List, []}
+use Rattle.trace_splits.specs.Meaning.Sofar.{Sofar, feed, sofar, kept_of}
 use Rattle.trace_blocks.specs.declared.Found.{Found}
 
 pub record Next : Type 0 where
@@ -25,4 +24,4 @@ next_of room s at (b ∷ bs) = stops (feed room s b).out (nexted (feed room s b)
 
 -- what the line and the numbers of the code say
 abbrev pub next_found : List ℕ → Found → Next
-next_found line r = nexted (sofar line r.state) (pick r.ended (take r.len line ∷ []) []) r.at
+next_found line r = nexted (sofar line r.state) (kept_of line r.ended) r.at

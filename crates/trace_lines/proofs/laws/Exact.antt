@@ -1,17 +1,13 @@
 -- A taker takes exactly the texts of the values in range. That holds of a number and of a count, and of what is made of them. Assumes nothing.
-use Rattle.basics.specs.Words.{ℕ, ◌≡◌, refl, sym, ap, subst, ◌∙◌, Bool, true, false, List, [], ◌∷◌, ◌++◌, append_assoc, append-nil, ltb, ℤ, pos, arith}
-use Rattle.trace_decimals.specs.declared.Number.{Number}
-use Rattle.trace_decimals.specs.declared.Number.TheVariants as read
-use Rattle.trace_decimals.specs.declared.Count.{Count}
-use Rattle.trace_decimals.specs.declared.Count.TheVariants.{Counted, NoCount}
+use Rattle.basics.specs.Words.{ℕ, ◌≡◌, refl, sym, ap, subst, ◌∙◌, Bool, true, false, List, [], ◌∷◌, ◌++◌, append_assoc, append-nil, ltb, pos, arith}
+use Rattle.std.specs.Prelude.{Option, Some, None}
 use Rattle.trace_decimals.specs.Meaning.Text.{decimal, signed_text}
-use Rattle.trace_decimals.specs.Meaning.Fields.{number_of, count_of}
 use Rattle.trace_decimals.proofs.laws.FieldLaws.{number_text, number_read}
 use Rattle.trace_decimals.proofs.laws.CountLaws.{count_text, count-read}
 use Rattle.trace_lines.specs.declared.Line.{Line}
 use Rattle.trace_lines.specs.declared.Asks.{Asks}
 use Rattle.trace_lines.specs.declared.Request.{Request}
-use Rattle.trace_lines.specs.Meaning.Taken.{Taken, taken, missing, Taker, bind, both, made, number_then, count_then, take_number, take_count, spot_from}
+use Rattle.trace_lines.specs.Meaning.Taken.{Taken, taken, missing, Taker, bind, both, made, value_then, take_by, take_number, take_count, spot_from}
 use Rattle.trace_lines.specs.Meaning.Taken.{handle_from, take_spot, take_handle, if_asked, nobody, no_spot}
 use Rattle.trace_lines.specs.Meaning.Requests.{Arguments, request, unreadable, take_arguments, arguments_of, whole}
 use Rattle.trace_lines.specs.Inner.Texts.{number, count, spot, handle, only, argument_texts, NumberInRange, CountInRange, SpotInRange, HandleInRange}
@@ -24,35 +20,27 @@ pub record Exact {A : Type 0} (p : Taker A) (text : A → List (List ℕ)) (InRa
 nothing : {A : Type 0} {a : A} {fs : List (List ℕ)} → missing ≡ taken a fs → ⊥
 nothing e = let z : ◌≡◌ {A = ℕ} 0 1 = cc in omega arith
 
-pub exact_number : Exact take_number number NumberInRange
-exact_number = record { reads = λ n rest h. rw (number_read (decimal n) n (refl, h)); is_text = back }
+-- the first field, by what it reads as
+exact_by : {A : Type 0} {value_of : List ℕ → Option A} (text : A → List ℕ) {InRange : A → Type 0} → ((a : A) → InRange a → value_of (text a) ≡ Some a) → ((f : List ℕ) (a : A) → value_of f ≡ Some a → (f ≡ text a) × InRange a) → Exact (take_by value_of) (λ a. text a ∷ []) InRange
+exact_by {A} {value_of} text {InRange} reads is_text = record { reads = λ a rest h. rw (reads a h); is_text = back }
   where
-    go : (f : List ℕ) (fs : List (List ℕ)) (n : ℕ) (rest : List (List ℕ)) (r : Number) → number_of f ≡ r → number_then r fs ≡ taken n rest → (f ∷ fs ≡ decimal n ∷ rest) × NumberInRange n
-    go f fs n rest (read.Read m) e h =
-        let same : m ≡ n = cc in
+    go : (f : List ℕ) (fs : List (List ℕ)) (a : A) (rest : List (List ℕ)) (r : Option A) → value_of f ≡ r → value_then r fs ≡ taken a rest → (f ∷ fs ≡ text a ∷ rest) × InRange a
+    go f fs a rest (Some b) e h =
+        let same : b ≡ a = cc in
         let left : fs ≡ rest = cc in
-        let t = number_text f m e in
-        ((λ z. (t.0 ∙ ap decimal same) z ∷ left z), subst NumberInRange same t.1)
-    go f fs n rest read.Unreadable e h = absurd (nothing h)
+        let t = is_text f b e in
+        ((λ z. (t.0 ∙ ap text same) z ∷ left z), subst InRange same t.1)
+    go f fs a rest None e h = absurd (nothing h)
 
-    back : (fs : List (List ℕ)) (n : ℕ) (rest : List (List ℕ)) → take_number fs ≡ taken n rest → (fs ≡ decimal n ∷ rest) × NumberInRange n
-    back [] n rest h = absurd (nothing h)
-    back (f ∷ fs) n rest h = go f fs n rest (number_of f) refl h
+    back : (fs : List (List ℕ)) (a : A) (rest : List (List ℕ)) → take_by value_of fs ≡ taken a rest → (fs ≡ text a ∷ rest) × InRange a
+    back [] a rest h = absurd (nothing h)
+    back (f ∷ fs) a rest h = go f fs a rest (value_of f) refl h
+
+pub exact_number : Exact take_number number NumberInRange
+exact_number = exact_by decimal (λ n h. number_read (decimal n) n (refl, h)) number_text
 
 pub exact_count : Exact take_count count CountInRange
-exact_count = record { reads = λ k rest h. rw (count-read (signed_text k) k (refl, h)); is_text = back }
-  where
-    go : (f : List ℕ) (fs : List (List ℕ)) (k : ℤ) (rest : List (List ℕ)) (r : Count) → count_of f ≡ r → count_then r fs ≡ taken k rest → (f ∷ fs ≡ signed_text k ∷ rest) × CountInRange k
-    go f fs k rest (Counted m) e h =
-        let same : m ≡ k = cc in
-        let left : fs ≡ rest = cc in
-        let t = count_text f m e in
-        ((λ z. (t.0 ∙ ap signed_text same) z ∷ left z), subst CountInRange same t.1)
-    go f fs k rest NoCount e h = absurd (nothing h)
-
-    back : (fs : List (List ℕ)) (k : ℤ) (rest : List (List ℕ)) → take_count fs ≡ taken k rest → (fs ≡ signed_text k ∷ rest) × CountInRange k
-    back [] k rest h = absurd (nothing h)
-    back (f ∷ fs) k rest h = go f fs k rest (count_of f) refl h
+exact_count = exact_by signed_text (λ k h. count-read (signed_text k) k (refl, h)) count_text
 
 -- what was bound was taken first
 record Bound {A B : Type 0} (t : Taken A) (k : A → Taker B) (b : B) (rest : List (List ℕ)) : Type 0 where

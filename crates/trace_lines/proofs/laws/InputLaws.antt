@@ -1,5 +1,5 @@
 -- A record as the code walks it; and of the records of an input the first 129 bytes are enough. Assumes nothing.
-use Rattle.basics.specs.Words.{ℕ, ◌+◌, ◌≤◌, ◌<◌, ◌≡◌, refl, sym, ap, ◌∙◌, Bool, List, [], ◌∷◌, map, ⊎_elim, length, take, length-take, take_all, arith, le-leb}
+use Rattle.basics.specs.Words.{ℕ, ◌≤◌, ◌<◌, ◌≡◌, refl, sym, ap, ◌∙◌, Bool, List, [], ◌∷◌, map, ⊎_elim, length, take, length-take, take_all, arith, le-leb}
 use Rattle.basics.specs.Words.{lt-leb}
 use Rattle.basics.specs.Meaning.Refusals.{pick}
 use Rattle.basics.proofs.laws.Says.{d_le}
@@ -7,24 +7,18 @@ use Rattle.trace_splits.specs.Inner.Records.{records_of}
 use Rattle.trace_splits.specs.Meaning.Sofar.{begun}
 use Rattle.trace_splits.proofs.laws.Sofar.{records_from}
 use Rattle.trace_splits.proofs.laws.SplitLaws.{splits_records}
-use Rattle.trace_lines.specs.declared.Asks.{Asks}
-use Rattle.trace_lines.specs.declared.Request.{Request}
 use Rattle.trace_lines.specs.Meaning.Fields.{fields_of}
-use Rattle.trace_lines.specs.Meaning.Words.{asked_by}
-use Rattle.trace_lines.specs.Meaning.Requests.{unreadable, arguments_of, whole, of_fields, request_of}
-use Rattle.trace_lines.specs.Inner.Cursor.{end_from, fields_from}
-use Rattle.trace_lines.proofs.laws.CursorLaws.{field_at, fields_from_start}
+use Rattle.trace_lines.specs.Meaning.Requests.{unreadable, of_fields, request_of}
+use Rattle.trace_lines.specs.Inner.Cursor.{fields_from}
+use Rattle.trace_lines.proofs.laws.CursorLaws.{fields_from_start}
 
 pub too_long : (bytes : List ℕ) → 128 < length bytes → request_of bytes ≡ unreadable
 unfolding request_of
 too_long bytes h = ap (λ (t : Bool). pick t (of_fields (fields_of bytes)) unreadable) (lt-leb (length bytes) 128 h)
 
-pub read_at : (bytes : List ℕ) → length bytes ≤ 128 → (end : ℕ) (k : Asks) (r : Request) → end ≡ end_from bytes 0 → k ≡ asked_by (take end bytes) → r ≡ whole (arguments_of k (fields_from bytes (end + 1))) → request_of bytes ≡ r
-unfolding request_of of_fields
-read_at bytes h end k r e w a =
-    let first : fields_of bytes ≡ take end bytes ∷ fields_from bytes (end + 1) = sym (fields_from_start bytes) ∙ (field_at bytes 0 (omega arith) ∙ ap (λ (n : ℕ). take n bytes ∷ fields_from bytes (n + 1)) (sym e)) in
-    ap (λ (t : Bool). pick t (of_fields (fields_of bytes)) unreadable) (le-leb (length bytes) 128 h) ∙
-    (ap of_fields first ∙ (ap (λ (j : Asks). whole (arguments_of j (fields_from bytes (end + 1)))) (sym w) ∙ sym a))
+pub not_long : (bytes : List ℕ) → length bytes ≤ 128 → request_of bytes ≡ of_fields (fields_from bytes 0)
+unfolding request_of
+not_long bytes h = ap (λ (t : Bool). pick t (of_fields (fields_of bytes)) unreadable) (le-leb (length bytes) 128 h) ∙ ap of_fields (sym (fields_from_start bytes))
 
 -- ---- of a record its first 129 bytes are enough
 pub cut_read : (bytes : List ℕ) → request_of (take 129 bytes) ≡ request_of bytes

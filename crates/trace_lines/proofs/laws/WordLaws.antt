@@ -1,6 +1,8 @@
 -- A first field is a word exactly when it is its letters. Assumes nothing.
-use Rattle.basics.specs.Words.{ℕ, ◌≤◌, ◌<◌, ◌≡◌, refl, ap, ◌∙◌, Bool, true, false, ◌&&◌, List, [], ◌∷◌, length, get_or, ext_get_or, eqb, leb, eqb-true, eq-eqb}
+use Rattle.basics.specs.Words.{ℕ, suc, rules, arith, ◌≤◌, ◌≡◌, refl, ap, ◌∙◌, Bool, true, false, ◌&&◌, List, [], ◌∷◌, length, get_or, eqb, leb, eqb-true, eq-eqb}
 use Rattle.basics.specs.Words.{leb-true}
+use Rattle.std.proofs.Common.{tests}
+use Rattle.std.proofs.lemmas.Bool.Decides.{nat_tests}
 use Rattle.basics.specs.Meaning.Refusals.{pick}
 use Rattle.basics.proofs.laws.Says.{apart}
 use Rattle.trace_lines.specs.declared.Line.TheVariants.{Unreadable}
@@ -61,19 +63,17 @@ is_word w n = go (clear w) (leb (length w) 4) refl refl (found-good table w (ask
     go false t c l e = absurd (apart e)
 
 -- ---- byte by byte
-pub same_false : (a b : List ℕ) → (a ≡ b → ⊥) → same_bytes a b ≡ false
-same_false a b n = go (same_bytes a b) refl
-  where
-    go : (t : Bool) → same_bytes a b ≡ t → t ≡ false
-    go true e = absurd (n (same_true a b e))
-    go false e = refl
+abbrev reads : List ℕ → ℕ → List ℕ → Bool
+reads w i [] = true
+reads w i (b ∷ l) = eqb (get_or w i 0) b && reads w (suc i) l
 
-module _ (a w : List ℕ) where
-  pub other_length : (length a ≡ length w → ⊥) → same_bytes a w ≡ false
-  other_length n = same_false a w (λ e. n (ap length e))
+reads_behind : (c : ℕ) (w : List ℕ) (i : ℕ) (l : List ℕ) → reads (c ∷ w) (suc i) l ≡ reads w i l
+reads_behind c w i [] = refl
+reads_behind c w i (b ∷ l) = ap (λ (t : Bool). eqb (get_or w i 0) b && t) (reads_behind c w (suc i) l)
 
-  pub other_byte : (i : ℕ) → (get_or a i 0 ≡ get_or w i 0 → ⊥) → same_bytes a w ≡ false
-  other_byte i n = same_false a w (λ e. n (ap (λ (x : List ℕ). get_or x i 0) e))
-
-  pub same_bytes_lem : length a ≡ length w → ((i : ℕ) → i < length a → get_or a i 0 ≡ get_or w i 0) → same_bytes a w ≡ true
-  same_bytes_lem e each = ap (λ (x : List ℕ). same_bytes x w) (ext_get_or 0 a w e each) ∙ same_self w
+-- by the length and each letter
+pub same_reads : (w l : List ℕ) → same_bytes w l ≡ (eqb (length w) (length l) && reads w 0 l)
+same_reads [] [] = refl
+same_reads [] (b ∷ l) = grind (arith, nat_tests)
+same_reads (a ∷ w) [] = grind (arith, nat_tests)
+same_reads (a ∷ w) (b ∷ l) = rw (same_reads w l, reads_behind a w 0 l) (search (rules, tests))

@@ -1,12 +1,8 @@
 -- What is taken off the front of a list of fields: a value and the fields behind it, or nothing, where they do not read so. Assumes nothing.
-use Rattle.std.specs.Prelude.{◌∷◌}
+use Rattle.std.specs.Prelude.{◌∷◌, Option, Some, None}
 use Rattle.basics.specs.Words.{ℕ, Bool, List, [], ltb, ℤ, pos}
 use Rattle.basics.specs.Meaning.Refusals.{pick}
 use Rattle.slots.specs.declared.Handle.{Handle}
-use Rattle.trace_decimals.specs.declared.Number.{Number}
-use Rattle.trace_decimals.specs.declared.Number.TheVariants.{Read, Unreadable}
-use Rattle.trace_decimals.specs.declared.Count.{Count}
-use Rattle.trace_decimals.specs.declared.Count.TheVariants.{Counted, NoCount}
 use Rattle.trace_decimals.specs.Meaning.Fields.{number_of, count_of}
 use Rattle.trace_lines.specs.declared.Spot.{Spot}
 
@@ -28,21 +24,20 @@ both p q fs = bind (p fs) (λ a gs. bind (q gs) (λ b hs. taken (a, b) hs))
 abbrev pub made : {A B : Type 0} → (A → B) → Taker A → Taker B
 made f p fs = bind (p fs) (λ a gs. taken (f a) gs)
 
-abbrev pub number_then : Number → Taker ℕ
-number_then (Read n) fs = taken n fs
-number_then Unreadable fs = missing
+abbrev pub value_then : {A : Type 0} → Option A → Taker A
+value_then (Some a) fs = taken a fs
+value_then None fs = missing
 
-abbrev pub count_then : Count → Taker ℤ
-count_then (Counted k) fs = taken k fs
-count_then NoCount fs = missing
+-- the first field, by what it reads as
+abbrev pub take_by : {A : Type 0} → (List ℕ → Option A) → Taker A
+take_by value_of [] = missing
+take_by value_of (f ∷ fs) = value_then (value_of f) fs
 
 abbrev pub take_number : Taker ℕ
-take_number [] = missing
-take_number (f ∷ fs) = number_then (number_of f) fs
+take_number = take_by number_of
 
 abbrev pub take_count : Taker ℤ
-take_count [] = missing
-take_count (f ∷ fs) = count_then (count_of f) fs
+take_count = take_by count_of
 
 abbrev pub spot_from : ℤ × ℤ → Spot
 spot_from a = record { x = a.0; y = a.1 }

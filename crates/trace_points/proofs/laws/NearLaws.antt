@@ -1,5 +1,5 @@
 -- `nearest` as a search that finds at most one: by cases, and where every output has a place it says what `nearest` returned. Assumes nothing.
-use Rattle.basics.specs.Words.{ℕ, min, ◌<◌, ◌≡◌, refl, sym, Bool, true, false, ◌||◌, [], length, set, eqb, arith, eq-eqb, eqb-false, eqb-true, ne_eqb}
+use Rattle.basics.specs.Words.{◌<◌, ◌≡◌, refl, Bool, true, false, [], length, set, eqb, arith, eq-eqb, eqb-false, ne_eqb}
 use Rattle.basics.specs.Meaning.Refusals.{pick}
 use Rattle.storage.proofs.laws.WrittenLaws.{written_next}
 use Rattle.point_search.specs.Meaning.Searches.{handle_row, place_row, obj_row, Outputs, outputs, room, findings}
@@ -8,21 +8,7 @@ use Rattle.replies.specs.declared.Nearest.{Nearest}
 use Rattle.replies.specs.Meaning.Replies.{count}
 use Rattle.trace_points.specs.Meaning.Searches.{finding_in, nearest_finds}
 
--- none of three is 0, or their least is
-least_0 : (a b c : ℕ) → ((eqb a 0 || eqb b 0) || eqb c 0) ≡ eqb (min a (min b c)) 0
-least_0 a b c = go (eqb a 0) refl (eqb b 0) refl (eqb c 0) refl
-  where
-    go : (x : Bool) → eqb a 0 ≡ x → (y : Bool) → eqb b 0 ≡ y → (z : Bool) → eqb c 0 ≡ z → ((x || y) || z) ≡ eqb (min a (min b c)) 0
-    go true e y f z g = sym (eq-eqb (min a (min b c)) 0 (omega (arith, eqb-true a 0 e)))
-    go false e true f z g = sym (eq-eqb (min a (min b c)) 0 (omega (arith, eqb-true b 0 f)))
-    go false e false f true g = sym (eq-eqb (min a (min b c)) 0 (omega (arith, eqb-true c 0 g)))
-    go false e false f false g = sym (ne_eqb (min a (min b c)) 0 (λ m. omega (arith, eqb-false a 0 e, eqb-false b 0 f, eqb-false c 0 g)))
-
 module _ (o : Outputs) where
-  -- the code's test, of the three lengths
-  pub no_place : ((eqb (length o.handles) 0 || eqb (length o.places) 0) || eqb (length o.objs) 0) ≡ eqb (room o) 0
-  no_place = least_0 (length o.handles) (length o.places) (length o.objs)
-
   pub placed : eqb (room o) 0 ≡ false → (0 < length o.handles) × (0 < length o.places) × (0 < length o.objs)
   placed e = let n = eqb-false (room o) 0 e in (omega arith, omega arith, omega arith)
 

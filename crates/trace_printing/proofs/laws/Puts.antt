@@ -2,7 +2,7 @@
 -- Here: the laws.
 use Rattle.basics.specs.Words.{ℕ, ◌+◌, ◌≤◌, ◌≡◌, sym, ap, ◌∙◌, List, [], ◌++◌, length, take, drop, take-append-drop, arith}
 use Rattle.trace_decimals.specs.Meaning.Written.{Buffer, buffer, put_text}
-use Rattle.trace_decimals.proofs.laws.WrittenLaws.{put-put, next_is, length_is}
+use Rattle.trace_decimals.proofs.laws.WrittenLaws.{put-put, next_is}
 use Rattle.trace_printing.specs.Inner.Puts.{Puts}
 
 -- what decimals' calls say
@@ -19,9 +19,6 @@ puts_none a at =
 module _ {a b : List ℕ} {at m : ℕ} {s : List ℕ} {j : ℕ} (p : Puts a at b m s j) (l : at + j ≤ length a) where
   inside : at + length s ≤ length a
   inside = omega (arith, next_is a at s p.put_is, p.short)
-
-  pub puts-length : length b ≡ length a
-  puts-length = length_is a at s p.put_is inside
 
   -- one text behind the other
   pub puts_then : {c : List ℕ} {r : ℕ} {t : List ℕ} {k : ℕ} → Puts b m c r t k → Puts a at c r (s ++ t) (j + k)

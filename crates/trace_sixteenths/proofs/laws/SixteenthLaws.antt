@@ -50,7 +50,7 @@ pub from_whole : (k : ℤ) → nat_abs k ≤ 1048576 → div binary32 (of_int bi
 unfolding sixteenth
 from_whole k h = divided (below_zero k) (nat_abs k) (of_int binary32 k) (whole_value k h)
 
-pub in_float_lem : (k : ℤ) → nat_abs k ≤ 1048576 → T (in_float binary32 k)
+in_float_lem : (k : ℤ) → nat_abs k ≤ 1048576 → T (in_float binary32 k)
 unfolding in_float
 in_float_lem (pos n) h = le→leb n (2 ^ 24) (omega arith)
 in_float_lem (negsuc n) h = lt→ltb n (2 ^ 24) (omega arith)

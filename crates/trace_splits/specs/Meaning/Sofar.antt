@@ -1,6 +1,6 @@
 -- Splitting byte by byte with room for few: the first `room` bytes since the last line end are kept, and whether the last of all is a CR.
 -- Of a record the first room - 1 bytes are handed out, so one that is longer than it may be is still seen to be. Assumes nothing.
-use Rattle.std.specs.Prelude.{◌-◌, ◌&&◌, ◌∷◌, ◌++◌}
+use Rattle.std.specs.Prelude.{◌-◌, ◌&&◌, ◌∷◌, ◌++◌, Option, Some, None}
 use Rattle.basics.specs.Words.{ℕ, Bool, false, List, [], length, take, eqb}
 use Rattle.basics.specs.Meaning.Refusals.{pick}
 use Rattle.trace_splits.specs.declared.Splitter.{Splitter}
@@ -28,3 +28,8 @@ feed room s b =
 -- what the line and the numbers of the code say
 abbrev pub sofar : List ℕ → Splitter → Sofar
 sofar line s = record { kept = take s.len line; returned = s.cr }
+
+-- the record that ended, if one did: so many of the line's first bytes
+abbrev pub kept_of : List ℕ → Option ℕ → List (List ℕ)
+kept_of line None = []
+kept_of line (Some len) = take len line ∷ []

@@ -1,18 +1,11 @@
 -- What an answer says: a refusal its number alone, and after 0 what there is to tell. Assumes nothing.
 -- Here: the laws.
-use Rattle.basics.specs.Words.{ℕ, ◌≡◌, sym, ap, Bool, true, false, eqb, eq-eqb, ne_eqb}
+use Rattle.basics.specs.Words.{ℕ, Bool, true, false, eqb}
 use Rattle.basics.specs.Meaning.Refusals.{pick}
 use Rattle.trace_printing.specs.Inner.Said.{Told}
 use Rattle.trace_printing.specs.declared.Said.{Said}
 use Rattle.trace_printing.specs.declared.Said.TheVariants.{Refused}
 use Rattle.trace_telling.specs.Meaning.Tells.{tells}
-
--- ---- by the test of the answer
-pub told_done : (answer : ℕ) (said : Said) → answer ≡ 0 → said ≡ tells answer said
-told_done answer said e = sym (ap (λ (b : Bool). pick b said (Refused answer)) (eq-eqb answer 0 e))
-
-pub told_refused : (answer : ℕ) (said : Said) → (answer ≡ 0 → ⊥) → Refused answer ≡ tells answer said
-told_refused answer said e = sym (ap (λ (b : Bool). pick b said (Refused answer)) (ne_eqb answer 0 e))
 
 -- a refusal has no findings to tell
 module _ (handles places boxes objs : ℕ) where

@@ -1,0 +1,15 @@
+-- Assumes nothing.
+use Rattle.basics.specs.Words.{sym, ap, add-one, arith}
+use Rattle.trace_printing.specs.Meaning.Said.{boxes_text}
+use Rattle.trace_printing.proofs.laws.Puts.{puts_none, puts_then, puts_as}
+use Rattle.trace_printing.proofs.put_boxes.Goals as goal
+
+pub loop-i-init : goal.loop-i-init
+loop-i-init c = puts_none _ _
+
+pub loop-i-preserved : goal.loop-i-preserved
+loop-i-preserved c =
+    puts_as
+    (puts_then c.loop-i.invariant (omega arith) c.put_box-next.ensures)
+    (ap (boxes_text c.args.handles.now c.args.boxes.now) (sym (add-one c.loop-i.i)))
+    (omega arith)
