@@ -1,4 +1,4 @@
-// Cases of boxes, run: the box test that holds by rounding, boxes and queries of 4,096 and of 4,160 cells, and a slot at its last version.
+// Runs cases of boxes: the box test that holds by rounding, boxes and queries of 4,096 and of 4,160 cells, and a slot at its last version.
 // Each line is a call, its answer and its number.
 #![tactic(auto)]
 

@@ -1,53 +1,47 @@
--- The ends of `clear`, from what its steps give. Assumes nothing.
-use Rattle.basics.specs.Words.{ℕ, ◌≤◌, min, ◌≡◌, sym, ap, ◌∙◌, Bool, true, List, map, length, arith}
+-- `clear` by its tests, in the words of the code's goals: what its steps ask, and its outcome either way. Assumes nothing.
+use Rattle.basics.specs.Words.{ℕ, ◌+◌, ◌<◌, ◌≤◌, min, ◌≡◌, true, false, List, map, length, le-leb, lt-leb, arith}
 use lib.Ieee.{Float}
+use Rattle.slots.specs.Meaning.Map.{words_for}
 use Rattle.storage.specs.Meaning.Keyed.{written}
 use Rattle.slot_walks.specs.Meaning.Live.{live_from, obj_at}
 use Rattle.slot_walks.specs.Meaning.Cleared.{cleared_rows, cleared_map}
 use Rattle.box_tables.specs.Meaning.Tables.{Tables, tables, counting}
-use Rattle.box_tables.specs.Meaning.Holds.{Holds}
 use Rattle.box_tables.specs.Meaning.Decide.{holds, holds_says}
 use Rattle.box_tables.specs.Meaning.Outcome.{outcome}
-use Rattle.replies.specs.declared.Count.{Count}
 use Rattle.box_get.specs.Meaning.Live.{live_slots}
-use Rattle.box_get.specs.Inner.Live.{count_by}
-use Rattle.box_get.proofs.laws.LiveLaws.{list_answer, list_count, list_passed, listed, listed_0, listed_no}
 use Rattle.box_clear.specs.Meaning.Clear.{box_at, cleared, wrote, clear_of}
-use Rattle.box_clear.proofs.laws.ClearLaws.{clear_0, clear_no}
+use Rattle.box_clear.specs.Inner.Clear.{Room}
+use Rattle.replies.specs.Meaning.Replies.{count}
 
--- the verdict says that the tables hold a grid
-pub a_grid : (t : Tables) (held : Bool) → held ≡ holds t → held ≡ true → Holds t
-a_grid t held e h = (holds_says t).yes (sym e ∙ h)
+module _ (ns : List (List ℕ)) (qs : List (List Float)) (m : List ℕ) (pool : List (List ℕ)) where
+  abbrev t : Tables
+  t = tables ns qs m pool
 
-module _ (t : Tables) (boxes : List (List Float)) (objs : List ℕ) (held : Bool) (e : held ≡ holds t) (r : ℕ) (er : r ≡ min (length boxes) (length objs)) (c : Count) (q : c ≡ count_by held (length (live_from 0 t.nums)) r) where
-  abbrev room : ℕ
-  room = min (length boxes) (length objs)
+  pub few : holds t ≡ true → length ns ≤ 4096
+  few e = omega (arith, ((holds_says t).yes e).sized.most)
 
-  tested : c ≡ count_by held (length (live_from 0 t.nums)) room
-  tested = q ∙ ap (count_by held (length (live_from 0 t.nums))) er
+  pub map_long : holds t ≡ true → length m ≡ 3 + words_for (length ns)
+  map_long e = ((holds_says t).yes e).sized.of_map
 
-  given : c ≡ list_count t room
-  given = listed t room held e c tested
+  module _ (boxes : List (List Float)) (objs : List ℕ) where
+    pub no_grid : holds t ≡ false → outcome (wrote (count 3 0) boxes objs) t ≡ clear_of t boxes objs
+    unfolding clear_of
+    no_grid e = rw e
 
-  pub refused : (c.answer ≡ 0 → ⊥) → outcome (wrote c boxes objs) t ≡ clear_of t boxes objs
-  refused n = ap (λ (k : Count). outcome (wrote k boxes objs) t) given ∙ sym (clear_no t boxes objs (listed_no t room held e c tested n))
+    module _ (n : ℕ) (q : n ≡ length (live_from 0 ns)) (e : holds t ≡ true) where
+      pub short : min (length boxes) (length objs) < n → outcome (wrote (count 9 n) boxes objs) t ≡ clear_of t boxes objs
+      unfolding clear_of live_slots
+      short l = rw (q, e, lt-leb (length (live_from 0 ns)) (min (length boxes) (length objs)) (omega (arith, q)))
 
-  -- accepted: a grid, and room for every object
-  module _ (a : c.answer ≡ 0) where
-    accepted : list_answer t room ≡ 0
-    accepted = listed_0 t room held e c tested a
+      module _ (l : n ≤ min (length boxes) (length objs)) where
+        pub room : Room ns qs boxes objs
+        room = let g = (holds_says t).yes e in (g.sized.of_reals, g.sized.most, omega (arith, q), omega (arith, q))
 
-    pub grid : Holds t
-    grid = (holds_says t).yes (list_passed t room accepted).0
+        pub done : (ns' : List (List ℕ)) (m' : List ℕ) (boxes' : List (List Float)) (objs' : List ℕ)
+            → boxes' ≡ written (map (box_at qs) (live_from 0 ns)) boxes → objs' ≡ written (map (obj_at ns) (live_from 0 ns)) objs
+            → ns' ≡ cleared_rows ns → m' ≡ counting (cleared_map 0 ns m) 0
+            → outcome (wrote (count 0 n) boxes' objs') (tables ns' qs m' pool) ≡ clear_of t boxes objs
+        unfolding clear_of live_slots cleared
+        done ns' m' boxes' objs' a b c d = rw (a, b, c, d, q, e, le-leb (length (live_from 0 ns)) (min (length boxes) (length objs)) (omega (arith, q)))
 
-    pub put-asks : (length t.reals ≡ length t.nums) × (length t.nums ≤ 256) × (length (live_from 0 t.nums) ≤ length boxes) × (length (live_from 0 t.nums) ≤ length objs)
-    unfolding live_slots
-    put-asks = let p = (list_passed t room accepted).1 in (grid.sized.of_reals, grid.sized.most, omega (arith, p), omega (arith, p))
-
-    pub done : (ns : List (List ℕ)) (m : List ℕ) (bs : List (List Float)) (os : List ℕ)
-        → bs ≡ written (map (box_at t.reals) (live_from 0 t.nums)) boxes → os ≡ written (map (obj_at t.nums) (live_from 0 t.nums)) objs
-        → ns ≡ cleared_rows t.nums → m ≡ counting (cleared_map 0 t.nums t.map) 0
-        → outcome (wrote c bs os) (tables ns t.reals m t.pool) ≡ clear_of t boxes objs
-    unfolding live_slots cleared
-    done ns m bs os eb eo en em =
-        (λ i. outcome (wrote (given i) (eb i) (eo i)) (tables (en i) t.reals (em i) t.pool)) ∙ sym (clear_0 t boxes objs accepted)
+pub ruleset clearing = (few, map_long, no_grid, short, room)

@@ -1,3 +1,3 @@
 -- What the proofs of box_clear share.
-mod Cleared
+pub mod Cleared
 pub mod laws

@@ -13,6 +13,7 @@ ghost use Rattle.box_tables.specs.Meaning.Outcome.{outcome};
 ghost use Rattle.box_clear.specs.Meaning.Clear.{box_at, wrote, clear_of};
 ghost use Rattle.box_clear.specs.Inner.Clear.{Room};
 
+use basics::Refusal;
 use replies::Count;
 use slots::Row;
 
@@ -42,6 +43,7 @@ fn empty_all(nums: &mut [Row], map: &mut [u64])
     map[1] = 0;
 }
 
+#[tactic(auto, using(crate::proofs::Cleared::clearing))]
 pub fn clear(
     nums: &mut [Row],
     reals: &[[f32; 4]],
@@ -52,12 +54,14 @@ pub fn clear(
 ) -> Count
     ensures { outcome (wrote result boxes.new objs.new) (tables nums.new reals.now map.new pool.now) ≡ clear_of (tables nums.old reals.now map.old pool.now) boxes.old objs.old }
 {
-    let held = box_tables::check(nums, reals, map, pool);
-    let c = box_get::list_answer(nums, held, boxes.len().min(objs.len()));
-    if c.answer != 0 {
-        return c;
+    if !box_tables::check(nums, reals, map, pool) {
+        return Count::from(Err(Refusal::Tables));
+    }
+    let n = slot_walks::count_live(nums);
+    if boxes.len().min(objs.len()) < n as usize {
+        return Count::short(n);
     }
     put_boxes(nums, reals, boxes, objs);
     empty_all(nums, map);
-    c
+    Count::from(Ok(n))
 }

@@ -1,3 +1,2 @@
 -- What `get`, `len` and `handles` of a box grid answer and write.
 pub mod Meaning
-pub mod Inner

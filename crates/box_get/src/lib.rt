@@ -1,12 +1,8 @@
 // Reading a box grid: `get`, `len`, `handles`. Each checks the tables first.
 #![tactic(auto)]
 
-ghost use Rattle.std.specs.Prelude.{◌≤◌, ◌≡◌};
+ghost use Rattle.std.specs.Prelude.{◌≡◌};
 ghost use Rattle.basics.specs.Meaning.Answers.{number_of};
-ghost use Rattle.basics.specs.Words.{true, length};
-ghost use Rattle.basics.specs.Meaning.Limits.{most_boxes};
-ghost use Rattle.slot_walks.specs.Meaning.Live.{live_from};
-ghost use Rattle.box_get.specs.Inner.Live.{count_by};
 ghost use Rattle.box_get.specs.Meaning.Reads.{got, get_of, len_of, handles_of, listing};
 ghost use Rattle.geometry.specs.Meaning.Zero.{zero-aabb};
 ghost use Rattle.box_tables.specs.Meaning.Tables.{tables};
@@ -25,7 +21,7 @@ pub struct Got {
 }
 
 impl Got {
-    // A refusal: zeros.
+    // What a `get` that is refused gives: the number, and zeros.
     pub fn refused(why: Refusal) -> Got
         ensures { result ≡ got (number_of why) zero-aabb 0 }
     {
@@ -48,14 +44,11 @@ pub fn get(nums: &[Row], reals: &[[f32; 4]], map: &[u64], pool: &[[u64; 2]], h: 
     if let Err(why) = slots::check_handle(nums, h) {
         return Got::refused(why);
     }
-    let n = nums[h.slot as usize];
-    let q = reals[h.slot as usize];
-    let ll = Position { x: q[0], y: q[1] };
-    let ur = Position { x: q[2], y: q[3] };
+    let s = h.slot as usize;
     Got {
         answer: 0,
-        aabb: Aabb { ll, ur },
-        obj: n[2],
+        aabb: box_tables::load_box(reals, s),
+        obj: nums[s][2],
     }
 }
 
@@ -70,22 +63,8 @@ pub fn len(nums: &[Row], reals: &[[f32; 4]], map: &[u64], pool: &[[u64; 2]]) -> 
     Count::from(Ok(slot_walks::count_live(nums)))
 }
 
-// The answer of a call that writes a row for each object into outputs of so many places, with the number of objects.
-pub fn list_answer(nums: &[Row], held: bool, room: usize) -> Count
-    requires { held ≡ true → length nums.now ≤ most_boxes }
-    ensures { result ≡ count_by held (length (live_from 0 nums.now)) room }
-{
-    if !held {
-        return Count::from(Err(Refusal::Tables));
-    }
-    let n = slot_walks::count_live(nums);
-    if room < n as usize {
-        return Count::short(n);
-    }
-    Count::from(Ok(n))
-}
-
 // The handles of the objects, ascending by slot.
+#[tactic(auto, using(crate::proofs::Reading::naming))]
 pub fn handles(
     nums: &[Row],
     reals: &[[f32; 4]],
@@ -95,11 +74,13 @@ pub fn handles(
 ) -> Count
     ensures { listing result out.new ≡ handles_of (tables nums.now reals.now map.now pool.now) out.old }
 {
-    let held = box_tables::check(nums, reals, map, pool);
-    let c = list_answer(nums, held, out.len());
-    if c.answer != 0 {
-        return c;
+    if !box_tables::check(nums, reals, map, pool) {
+        return Count::from(Err(Refusal::Tables));
+    }
+    let n = slot_walks::count_live(nums);
+    if out.len() < n as usize {
+        return Count::short(n);
     }
     slot_walks::put_handles(nums, out);
-    c
+    Count::from(Ok(n))
 }

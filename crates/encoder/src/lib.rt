@@ -3,6 +3,7 @@
 
 ghost use Rattle.std.specs.Prelude.{◌≡◌};
 ghost use Rattle.basics.specs.Words.{true, length};
+ghost use Rattle.basics.specs.Meaning.Answers.{answer_of};
 ghost use Rattle.basics.specs.Meaning.Refusals.{first_of};
 ghost use Rattle.point_tables.specs.Meaning.Tables as PointTables;
 ghost use Rattle.box_tables.specs.Meaning.Tables as BoxTables;
@@ -11,6 +12,7 @@ ghost use Rattle.encoder.specs.Meaning.Map.{map_of};
 ghost use Rattle.encoder.specs.Meaning.FillMap.{every, circle_in_domain, circle_in_range, grids_right, fill_map_tests, map_filled, fill_map_of};
 ghost use Rattle.encoder.specs.Inner.Drawn.{Drawable};
 
+use basics::Refusal;
 use encoder_blocks::{BLOCKS, SIDE};
 use encoder_points::MOST_CIRCLES;
 use geometry::Position;
@@ -32,16 +34,10 @@ fn grids_right(
 ) -> bool
     ensures { result ≡ grids_right (PointTables.tables nums.now reals.now ints.now map.now pool.now spots.now cells.now) (BoxTables.tables boxnums.now boxreals.now boxmap.now boxpool.now) }
 {
-    if !point_tables::check(nums, reals, ints, map, pool, spots, cells) {
-        return false;
-    }
-    if map[0] != SIDE {
-        return false;
-    }
-    if !box_tables::check(boxnums, boxreals, boxmap, boxpool) {
-        return false;
-    }
-    boxmap[0] == SIDE
+    point_tables::check(nums, reals, ints, map, pool, spots, cells)
+        && map[0] == SIDE
+        && box_tables::check(boxnums, boxreals, boxmap, boxpool)
+        && boxmap[0] == SIDE
 }
 
 fn circle_in_domain(circle: [f32; 3]) -> bool
@@ -51,7 +47,7 @@ fn circle_in_domain(circle: [f32; 3]) -> bool
         x: circle[0],
         y: circle[1],
     };
-    geometry::position_in_domain(centre) & geometry::radius_in_domain(circle[2])
+    point_query::circle_in_domain(centre, circle[2])
 }
 
 fn circle_in_range(circle: [f32; 3]) -> bool
@@ -70,32 +66,18 @@ fn circle_in_range(circle: [f32; 3]) -> bool
 fn circles_in_domain(circles: &[[f32; 3]]) -> bool
     ensures { result ≡ every circle_in_domain circles.now }
 {
-    let mut k = 0;
-    while k < circles.len() {
-        if !circle_in_domain(circles[k]) {
-            return false;
-        }
-        k += 1;
-    }
-    true
+    circles.iter().all(|circle| circle_in_domain(*circle))
 }
 
 fn circles_in_range(circles: &[[f32; 3]]) -> bool
     requires { every circle_in_domain circles.now ≡ true }
     ensures { result ≡ every circle_in_range circles.now }
 {
-    let mut k = 0;
-    while k < circles.len() {
-        if !circle_in_range(circles[k]) {
-            return false;
-        }
-        k += 1;
-    }
-    true
+    circles.iter().all(|circle| circle_in_range(*circle))
 }
 
-// What is asked before anything is written: 3, then 6 of all circles, then 7 of all circles.
-fn answer_to(
+// What is asked before anything is written: the tables and the lengths, then the domain of all circles, then the range of all circles.
+fn check(
     nums: &[Row],
     reals: &[[f32; 4]],
     ints: &[[i32; 4]],
@@ -109,27 +91,24 @@ fn answer_to(
     boxpool: &[[u64; 2]],
     circles: &[[f32; 3]],
     bytes: &[u8],
-) -> u32
-    ensures { result ≡ first_of (fill_map_tests (PointTables.tables nums.now reals.now ints.now map.now pool.now spots.now cells.now) (BoxTables.tables boxnums.now boxreals.now boxmap.now boxpool.now) circles.now bytes.now) }
+) -> Result<(), Refusal>
+    ensures { answer_of result ≡ first_of (fill_map_tests (PointTables.tables nums.now reals.now ints.now map.now pool.now spots.now cells.now) (BoxTables.tables boxnums.now boxreals.now boxmap.now boxpool.now) circles.now bytes.now) }
 {
-    if MOST_CIRCLES < circles.len() {
-        return 3;
-    }
-    if bytes.len() != BLOCKS {
-        return 3;
+    if MOST_CIRCLES < circles.len() || bytes.len() != BLOCKS {
+        return Err(Refusal::Tables);
     }
     if !grids_right(
         nums, reals, ints, map, pool, spots, cells, boxnums, boxreals, boxmap, boxpool,
     ) {
-        return 3;
+        return Err(Refusal::Tables);
     }
     if !circles_in_domain(circles) {
-        return 6;
+        return Err(Refusal::OutsideDomain);
     }
     if !circles_in_range(circles) {
-        return 7;
+        return Err(Refusal::TooManyCells);
     }
-    0
+    Ok(())
 }
 
 // The map of two grids that are whole.
@@ -178,12 +157,11 @@ pub fn fill_map(
 ) -> u32
     ensures { map_filled result bytes.new ≡ fill_map_of (PointTables.tables nums.now reals.now ints.now map.now pool.now spots.now cells.now) (BoxTables.tables boxnums.now boxreals.now boxmap.now boxpool.now) circles.now bytes.old }
 {
-    let answer = answer_to(
+    if let Err(why) = check(
         nums, reals, ints, map, pool, spots, cells, boxnums, boxreals, boxmap, boxpool, circles,
         bytes,
-    );
-    if answer != 0 {
-        return answer;
+    ) {
+        return why.number();
     }
     draw(
         nums, reals, ints, map, pool, spots, cells, boxnums, boxreals, boxmap, boxpool, circles,

@@ -10,12 +10,14 @@ ghost use Rattle.record_deferred.specs.Inner.Calls.{set_position_for, remove_for
 ghost use Rattle.record_deferred.specs.Meaning.Calls.{set_position_on, remove_on};
 ghost use Rattle.point_tables.specs.Meaning.Tables.{tables};
 
+use basics::Refusal;
 use geometry::Position;
 use point_records::Record;
 use replies::Reply;
 use slots::{Handle, Row};
 
 // The core's, with 3 where the columns have not n rows.
+#[tactic(auto, using(records::proofs::laws::SeenLaws::rows_same, records::proofs::laws::SeenLaws::rows_other))]
 pub fn set_position_for(
     n: usize,
     nums: &mut [Row],
@@ -32,7 +34,7 @@ pub fn set_position_for(
     ensures { outcome (reply result 0) (tables nums.new reals.new ints.new map.now pool.now spots.now cells.new) ≡ set_position_for n (tables nums.old reals.old ints.old map.now pool.now spots.now cells.old) h at tracker }
 {
     if n != nums.len() {
-        return 3;
+        return Refusal::Tables.number();
     }
     points::set_position(nums, reals, ints, map, pool, spots, cells, h, at, tracker)
 }
@@ -62,6 +64,7 @@ pub fn set_position(
     r
 }
 
+#[tactic(auto, using(records::proofs::laws::SeenLaws::rows_same, records::proofs::laws::SeenLaws::rows_other))]
 pub fn remove_for(
     n: usize,
     nums: &mut [Row],
@@ -77,7 +80,7 @@ pub fn remove_for(
     ensures { outcome result (tables nums.new reals.new ints.new map.now pool.now spots.now cells.new) ≡ remove_for n (tables nums.old reals.old ints.old map.now pool.now spots.now cells.old) h tracker }
 {
     if n != nums.len() {
-        return Reply { answer: 3, obj: 0 };
+        return Reply::from(Err(Refusal::Tables));
     }
     points::remove(nums, reals, ints, map, pool, spots, cells, h, tracker)
 }

@@ -7,13 +7,14 @@ ghost use Rattle.record_get.specs.Inner.Calls.{get_for, len_for};
 ghost use Rattle.record_get.specs.Meaning.Calls.{get_on, len_on};
 ghost use Rattle.point_tables.specs.Meaning.Tables.{tables};
 
-use geometry::Position;
+use basics::Refusal;
 use point_get::Got;
 use point_records::Record;
 use replies::Count;
 use slots::{Handle, Row};
 
 // The core's, with 3 where the columns have not n rows.
+#[tactic(auto, using(records::proofs::laws::SeenLaws::rows_same, records::proofs::laws::SeenLaws::rows_other))]
 pub fn get_for(
     n: usize,
     nums: &[Row],
@@ -28,12 +29,7 @@ pub fn get_for(
     ensures { result ≡ get_for n (tables nums.now reals.now ints.now map.now pool.now spots.now cells.now) h }
 {
     if n != nums.len() {
-        return Got {
-            answer: 3,
-            position: Position { x: 0.0, y: 0.0 },
-            obj: 0,
-            tracker: 0,
-        };
+        return Got::refused(Refusal::Tables);
     }
     points::get(nums, reals, ints, map, pool, spots, cells, h)
 }
@@ -54,10 +50,10 @@ pub fn get(
 {
     records::spread(records, nums, reals, ints);
     let n = records.len();
-    let r = get_for(n, nums, reals, ints, map, pool, spots, cells, h);
-    r
+    get_for(n, nums, reals, ints, map, pool, spots, cells, h)
 }
 
+#[tactic(auto, using(records::proofs::laws::SeenLaws::rows_same, records::proofs::laws::SeenLaws::rows_other))]
 pub fn len_for(
     n: usize,
     nums: &[Row],
@@ -71,10 +67,7 @@ pub fn len_for(
     ensures { result ≡ len_for n (tables nums.now reals.now ints.now map.now pool.now spots.now cells.now) }
 {
     if n != nums.len() {
-        return Count {
-            answer: 3,
-            count: 0,
-        };
+        return Count::from(Err(Refusal::Tables));
     }
     points::len(nums, reals, ints, map, pool, spots, cells)
 }
@@ -94,6 +87,5 @@ pub fn len(
 {
     records::spread(records, nums, reals, ints);
     let n = records.len();
-    let r = len_for(n, nums, reals, ints, map, pool, spots, cells);
-    r
+    len_for(n, nums, reals, ints, map, pool, spots, cells)
 }

@@ -8,12 +8,14 @@ ghost use Rattle.record_insert.specs.Inner.Calls.{insert_for};
 ghost use Rattle.record_insert.specs.Meaning.Calls.{insert_on};
 ghost use Rattle.point_tables.specs.Meaning.Tables.{tables};
 
+use basics::Refusal;
 use geometry::Position;
 use point_records::Record;
 use replies::Inserted;
-use slots::{Handle, Row};
+use slots::Row;
 
 // The core's, with 3 where the columns have not n rows.
+#[tactic(auto, using(records::proofs::laws::SeenLaws::rows_same, records::proofs::laws::SeenLaws::rows_other))]
 pub fn insert_for(
     n: usize,
     nums: &mut [Row],
@@ -30,13 +32,7 @@ pub fn insert_for(
     ensures { outcome result (tables nums.new reals.new ints.new map.new pool.new spots.new cells.new) ≡ insert_for n (tables nums.old reals.old ints.old map.old pool.old spots.old cells.old) at obj tracker }
 {
     if n != nums.len() {
-        return Inserted {
-            answer: 3,
-            handle: Handle {
-                slot: 0,
-                version: 0,
-            },
-        };
+        return Inserted::from(Err(Refusal::Tables));
     }
     points::insert(nums, reals, ints, map, pool, spots, cells, at, obj, tracker)
 }

@@ -8,11 +8,13 @@ ghost use Rattle.record_maintain.specs.Inner.Calls.{maintain_for};
 ghost use Rattle.record_maintain.specs.Meaning.Calls.{maintain_on};
 ghost use Rattle.point_tables.specs.Meaning.Tables.{tables};
 
+use basics::Refusal;
 use point_maintain::Maintained;
 use point_records::Record;
 use slots::Row;
 
 // The core's, with 3 where the columns have not n rows.
+#[tactic(auto, using(records::proofs::laws::SeenLaws::rows_same, records::proofs::laws::SeenLaws::rows_other))]
 pub fn maintain_for(
     n: usize,
     nums: &mut [Row],
@@ -27,7 +29,7 @@ pub fn maintain_for(
 {
     if n != nums.len() {
         return Maintained {
-            answer: 3,
+            answer: Refusal::Tables.number(),
             moved: 0,
             removed: 0,
         };

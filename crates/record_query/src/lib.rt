@@ -7,12 +7,14 @@ ghost use Rattle.record_query.specs.Meaning.Calls.{around_on, FindsIn};
 ghost use Rattle.point_search.specs.Meaning.Searches.{outputs};
 ghost use Rattle.point_tables.specs.Meaning.Tables.{tables};
 
+use basics::Refusal;
 use geometry::Position;
 use point_records::Record;
 use replies::Count;
 use slots::Row;
 
 // The core's, with 3 where the columns have not n rows.
+#[tactic(auto, using(records::proofs::laws::SeenLaws::rows_same, records::proofs::laws::SeenLaws::rows_other))]
 pub fn query_around_for(
     n: usize,
     nums: &[Row],
@@ -31,10 +33,7 @@ pub fn query_around_for(
     ensures { Finds (λ t. around_for n t centre radius) result (tables nums.now reals.now ints.now map.now pool.now spots.now cells.now) (outputs found.old places.old objs.old) (outputs found.new places.new objs.new) }
 {
     if n != nums.len() {
-        return Count {
-            answer: 3,
-            count: 0,
-        };
+        return Count::from(Err(Refusal::Tables));
     }
     points::query_around(
         nums, reals, ints, map, pool, spots, cells, centre, radius, found, places, objs,
@@ -61,8 +60,7 @@ pub fn query_around(
 {
     records::spread(records, nums, reals, ints);
     let n = records.len();
-    let r = query_around_for(
+    query_around_for(
         n, nums, reals, ints, map, pool, spots, cells, centre, radius, found, places, objs,
-    );
-    r
+    )
 }

@@ -25,7 +25,7 @@ fn ints_of(r: Record) -> [i32; 4]
     [r.cell.x, r.cell.y, d.x, d.y]
 }
 
-// Each column for itself: a record with no row in it is left out there, and a row with no record stays.
+// Each column for itself: a record with no row in it is left out there, and a row with no record stays. The loops have names for the proofs.
 pub fn spread(records: &[Record], nums: &mut [Row], reals: &mut [[f32; 4]], ints: &mut [[i32; 4]])
     ensures { (nums.new ≡ laid nums_of records.now nums.old)
         × (reals.new ≡ laid reals_of records.now reals.old)

@@ -10,7 +10,6 @@ ghost use Rattle.point_search.specs.Meaning.Searches.{findings, outputs};
 ghost use Rattle.point_search.specs.Meaning.Lent.{Finds};
 ghost use Rattle.point_tables.specs.Meaning.Tables.{tables};
 
-use basics::Refusal;
 use geometry::Position;
 use replies::{Count, Nearest};
 use slots::{Handle, Row};
@@ -149,10 +148,7 @@ fn near(
         return Count { answer, count };
     }
     if handles.is_empty() || places.is_empty() || objs.is_empty() {
-        return Count {
-            answer: Refusal::OutputTooShort.number(),
-            count,
-        };
+        return Count::short(count);
     }
     handles[0] = [r.handle.slot, r.handle.version];
     places[0] = [r.position.x, r.position.y];

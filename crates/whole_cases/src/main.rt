@@ -1,5 +1,5 @@
-// `whole` run where its shifts begin, turn round and end, and for what lies outside the domain. Each line is the bits of
-// a binary32 and its whole number.
+// `whole`, run where its shifts begin, turn round and end, and for what lies outside the domain. Each line is the bits of a binary32 and its whole
+// number.
 #![tactic(auto)]
 
 ghost use Rattle.std.specs.Prelude.{◌≡◌};

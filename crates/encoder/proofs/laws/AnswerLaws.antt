@@ -1,5 +1,5 @@
--- The refusals of `fill_map`, one after the other, and what is known where none applies. Assumes nothing.
-use Rattle.basics.specs.Words.{ℕ, ◌≤◌, ◌<◌, ◌≡◌, refl, ◌∙◌, Bool, true, false, ◌&&◌, List, [], ◌∷◌, length, eqb, leb, arith, eqb-true, le-leb, lt-leb, eq-eqb}
+-- The refusals of `fill_map`, and what is known where none applies. Assumes nothing.
+use Rattle.basics.specs.Words.{ℕ, ◌≡◌, refl, Bool, true, false, ◌&&◌, List, [], ◌∷◌, length, eqb, leb, arith, eqb-true}
 use Rattle.basics.specs.Words.{ne_eqb}
 use lib.Ieee.{Float}
 use Rattle.basics.specs.Meaning.Refusals.{unless, first_of}
@@ -17,43 +17,6 @@ use Rattle.encoder.specs.Inner.Drawn.{Drawable}
 module _ (t : Points.Tables) (b : Boxes.Tables) (circles : List (List Float)) (bytes : List ℕ) where
   abbrev pub answered : ℕ
   answered = first_of (fill_map_tests t b circles bytes)
-
-  -- ---- 3
-  pub too_many : most_circles < length circles → 3 ≡ answered
-  too_many l = simp (lt-leb (length circles) most_circles l)
-
-  module _ (l : length circles ≤ most_circles) where
-    pub other_length : (length bytes ≡ blocks → ⊥) → 3 ≡ answered
-    other_length n = simp (le-leb (length circles) most_circles l, ne_eqb (length bytes) blocks n)
-
-    module _ (m : length bytes ≡ blocks) where
-      pub grids_wrong : grids_right t b ≡ false → 3 ≡ answered
-      grids_wrong g = go (lengths_right circles bytes) (grids_right t b) g
-        where
-          go : (p q : Bool) → q ≡ false → 3 ≡ first_of (unless (p && q) 3 ∷ unless (every circle_in_domain circles) 6 ∷ unless (every circle_in_range circles) 7 ∷ [])
-          go true q e = rw e
-          go false q e = refl
-
-      module _ (g : grids_right t b ≡ true) where
-        right : (lengths_right circles bytes && grids_right t b) ≡ true
-        right = rw (le-leb (length circles) most_circles l, eq-eqb (length bytes) blocks m) g
-
-        by_circles : (p : Bool) → p ≡ true → first_of (unless (every circle_in_domain circles) 6 ∷ unless (every circle_in_range circles) 7 ∷ [])
-            ≡ first_of (unless p 3 ∷ unless (every circle_in_domain circles) 6 ∷ unless (every circle_in_range circles) 7 ∷ [])
-        by_circles p e = rw e
-
-        circles_decide : first_of (unless (every circle_in_domain circles) 6 ∷ unless (every circle_in_range circles) 7 ∷ []) ≡ answered
-        circles_decide = by_circles (lengths_right circles bytes && grids_right t b) right
-
-        -- ---- 6, then 7
-        pub out_of_domain : every circle_in_domain circles ≡ false → 6 ≡ answered
-        out_of_domain e = (rw e) ∙ circles_decide
-
-        pub out_of_range : every circle_in_domain circles ≡ true → every circle_in_range circles ≡ false → 7 ≡ answered
-        out_of_range e f = (rw (e, f)) ∙ circles_decide
-
-        pub all_right : every circle_in_domain circles ≡ true → every circle_in_range circles ≡ true → 0 ≡ answered
-        all_right e f = (rw (e, f)) ∙ circles_decide
 
   -- ---- where none applies
   none-applies : (p q r : Bool) → 0 ≡ first_of (unless p 3 ∷ unless q 6 ∷ unless r 7 ∷ []) → (p ≡ true) × (q ≡ true)

@@ -1,5 +1,5 @@
 -- Assumes nothing.
-use Rattle.basics.specs.Words.{suc, ◌≡◌, sym, ap, ◌∙◌, length, get_or, take, add-one, arith}
+use Rattle.basics.specs.Words.{suc, ◌≡◌, sym, ap, ◌∙◌, length, get_or, take, set-get_or, add-one, arith}
 use Rattle.cells.specs.Meaning.Key.{key_of}
 use Rattle.storage.specs.Meaning.Entries.{row_key}
 use Rattle.storage.specs.Meaning.Keyed.{below}
@@ -8,7 +8,7 @@ use Rattle.encoder_boxes.specs.Inner.Windows.{met}
 use Rattle.encoder_boxes.proofs.laws.WindowLaws.{below_grows, key_rises, next_rises}
 use Rattle.encoder_boxes.proofs.laws.OverlayLaws.{byte_met, byte_unmet, byte_stays, overlaid_next}
 use Rattle.encoder_boxes.proofs.mark_boxes.Goals as goal
-use Rattle.encoder_boxes.proofs.mark_boxes.Goals.{then-byte-ne-CIRCLED+then-met, else-byte-ne-CIRCLED, else-byte-ne-CIRCLED-via-then-byte-ne-CIRCLED+else-met, else-byte-ne-CIRCLED-via-else-byte-ne-CIRCLED}
+use Rattle.encoder_boxes.proofs.mark_boxes.Goals.{then-bytes-k-ne-CIRCLED+then-met, else-bytes-k-ne-CIRCLED, else-bytes-k-ne-CIRCLED-via-then-bytes-k-ne-CIRCLED+else-met, else-bytes-k-ne-CIRCLED-via-else-bytes-k-ne-CIRCLED}
 
 pub loop-k-preserved : goal.loop-k-preserved
 loop-k-preserved c =
@@ -21,15 +21,15 @@ loop-k-preserved c =
     c.onward-next.ensures ∙ ap (λ key. length (below row_key key rows)) (c.cell_key-in-loop-k.ensures ∙ rw (add-one (line_at k))) in
     let m = met a.reals.now rows (column_at k) (line_at k) in
     let byte = get_or l.bytes k 0 in
-    let gets = overlaid_next a.reals.now rows a.bytes.now k l.bytes c.if-byte-ne-CIRCLED.bytes l.invariant.2 (omega (arith, c.requires.1)) in (
+    let gets = overlaid_next a.reals.now rows a.bytes.now k l.bytes c.if-bytes-k-ne-CIRCLED.bytes l.invariant.2 (omega arith) in (
       omega (arith, first, below_grows row_key _ _ (key_rises k) rows),
       omega (arith, next, below_grows row_key _ _ (next_rises k) rows),
-      elim c.if-byte-ne-CIRCLED.branch [
-        | then-byte-ne-CIRCLED+then-met w ↦ gets 2 (byte_met m byte w.if-byte-ne-CIRCLED.true (sym w.met.ensures ∙ w.if-met.true)) w.bytes-is
-        | else-byte-ne-CIRCLED w ↦
-            elim w.else-byte-ne-CIRCLED.branch [
-              | else-byte-ne-CIRCLED-via-then-byte-ne-CIRCLED+else-met v ↦ gets byte (byte_unmet m byte v.if-byte-ne-CIRCLED.true (sym v.met.ensures ∙ v.if-met.false)) (w.bytes-is ∙ v.bytes-is)
-              | else-byte-ne-CIRCLED-via-else-byte-ne-CIRCLED v ↦ gets byte (byte_stays m byte v.if-byte-ne-CIRCLED.false) (w.bytes-is ∙ v.bytes-is)
+      elim c.if-bytes-k-ne-CIRCLED.branch [
+        | then-bytes-k-ne-CIRCLED+then-met w ↦ gets 2 (byte_met m byte w.if-bytes-k-ne-CIRCLED.true (sym w.met.ensures ∙ w.if-met.true)) w.bytes-is
+        | else-bytes-k-ne-CIRCLED w ↦
+            elim w.else-bytes-k-ne-CIRCLED.branch [
+              | else-bytes-k-ne-CIRCLED-via-then-bytes-k-ne-CIRCLED+else-met v ↦ gets byte (byte_unmet m byte v.if-bytes-k-ne-CIRCLED.true (sym v.met.ensures ∙ v.if-met.false)) (w.bytes-is ∙ sym (set-get_or l.bytes k 0))
+              | else-bytes-k-ne-CIRCLED-via-else-bytes-k-ne-CIRCLED v ↦ gets byte (byte_stays m byte v.if-bytes-k-ne-CIRCLED.false) (w.bytes-is ∙ sym (set-get_or l.bytes k 0))
             ]
       ],
     )

@@ -1,2 +1,0 @@
--- What only inner contracts cite.
-pub mod Live
