@@ -8,11 +8,12 @@ ghost use Rattle.point_records.specs.Inner.Kept.{Kept};
 use cells::Span;
 
 // The spans of cells of one size that were asked for. Two arrays: one, of numbers with their spans, takes some 500 instructions more to set, at each check.
+// Whoever has such arrays may make one of them, and take them back.
 #[derive(Drop)]
 pub struct KeptSpans {
     pub size: u64,
-    known: [u64; 128],
-    ends: [[f32; 2]; 128],
+    pub known: [u64; 128],
+    pub ends: [[f32; 2]; 128],
     ghost in_domain: { SizeInDomain size },
     ghost kept: { Kept size known ends },
 }

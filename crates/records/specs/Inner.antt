@@ -1,2 +1,3 @@
 -- What only inner contracts cite.
 pub mod Alike
+pub mod Spread

@@ -2,8 +2,10 @@
 // lent as scratch: a call spreads the records into them, runs the core's call, and gathers the records again.
 #![tactic(auto)]
 
-ghost use Rattle.std.specs.Prelude.{◌≡◌};
+ghost use Rattle.std.specs.Prelude.{◌<◌, ◌≡◌};
+ghost use Rattle.basics.specs.Words.{length, get_or, set};
 ghost use Rattle.point_records.specs.Meaning.Columns.{nums_of, reals_of, ints_of};
+ghost use Rattle.records.specs.Inner.Spread.{no_record, row_or};
 ghost use Rattle.records.specs.Meaning.Spread.{laid, gathered};
 
 use point_records::Record;
@@ -25,6 +27,58 @@ fn ints_of(r: Record) -> [i32; 4]
     [r.cell.x, r.cell.y, d.x, d.y]
 }
 
+// ---- one record
+pub fn record_at(records: &[Record], i: usize) -> Record
+    requires { i < length records.now }
+    ensures { result ≡ get_or records.now i no_record }
+{
+    records[i]
+}
+
+pub fn put_record(records: &mut [Record], i: usize, r: Record)
+    requires { i < length records.old }
+    ensures { records.new ≡ set records.old i r }
+{
+    records[i] = r;
+}
+
+// ---- the rows of a record; a column that has no such row stays
+pub fn put_nums(nums: &mut [Row], i: usize, r: Record)
+    ensures { nums.new ≡ set nums.old i (nums_of r) }
+{
+    if i < nums.len() {
+        nums[i] = point_records::nums_of(r);
+    }
+}
+
+pub fn put_reals(reals: &mut [[f32; 4]], i: usize, r: Record)
+    ensures { reals.new ≡ set reals.old i (reals_of r) }
+{
+    if i < reals.len() {
+        reals[i] = reals_of(r);
+    }
+}
+
+pub fn put_ints(ints: &mut [[i32; 4]], i: usize, r: Record)
+    ensures { ints.new ≡ set ints.old i (ints_of r) }
+{
+    if i < ints.len() {
+        ints[i] = ints_of(r);
+    }
+}
+
+// The record of row i of the columns; r where a column has no such row.
+pub fn row_or(nums: &[Row], reals: &[[f32; 4]], ints: &[[i32; 4]], i: usize, r: Record) -> Record
+    ensures { result ≡ row_or nums.now reals.now ints.now i r }
+{
+    if i < nums.len() && i < reals.len() && i < ints.len() {
+        point_records::load(nums, reals, ints, i)
+    } else {
+        r
+    }
+}
+
+// ---- all records
 // Each column for itself: a record with no row in it is left out there, and a row with no record stays. The loops have names for the proofs.
 pub fn spread(records: &[Record], nums: &mut [Row], reals: &mut [[f32; 4]], ints: &mut [[i32; 4]])
     ensures { (nums.new ≡ laid nums_of records.now nums.old)

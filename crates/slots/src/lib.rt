@@ -28,7 +28,7 @@ pub const RETIRED: u32 = 2;
 pub const LAST_VERSION: u32 = 4294967295;
 
 // No slot's version.
-const NO_VERSION: u32 = 0;
+pub const NO_VERSION: u32 = 0;
 
 #[derive(Clone, Copy, Debug, PartialEq, Eq)]
 pub struct Handle {
