@@ -4,6 +4,7 @@ use Rattle.std.specs.Prelude.{Float}
 use Rattle.std.specs.Float.{nan}
 use Rattle.slot_walks.proofs.laws.LiveLaws.{live-one, live-none, live-room}
 use Rattle.storage.proofs.laws.PutLaws.{rows-room, rows_next, rows_same}
+use Rattle.box_clear.specs.Meaning.Clear.{box_at}
 use Rattle.box_clear.proofs.put_boxes.Goals as goal
 use Rattle.box_clear.proofs.put_boxes.Goals.{then-is_live, else-is_live}
 
@@ -37,7 +38,7 @@ loop-i-preserved c =
           let g = sym c.is_live.ensures ∙ w.if-is_live.true in
           let r = live-room nums i h g in
           let e = live-one nums i h g in
-          let b = w.boxes-is ∙ ap (set c.loop-i.boxes c.loop-i.k) (of_four (get_or c.args.reals.now i []) (search rules)) in
+          let b : _ ≡ set c.loop-i.boxes c.loop-i.k (box_at c.args.reals.now i) = w.boxes-is ∙ ap (set c.loop-i.boxes c.loop-i.k) (search (rules, of_four)) in
           record {
             of_boxes = rows_next v.of_boxes i c.requires.2 (omega arith) e b w.k-is;
             of_objs = rows_next v.of_objs i c.requires.3 (omega arith) e w.objs-is w.k-is;
